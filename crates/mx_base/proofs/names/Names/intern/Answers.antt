@@ -1,0 +1,29 @@
+use Rattle.std.proofs.Common.{map, Vec, Global, ◌+◌, ◌^◌, ◌≤◌, ℕ, length, arith, sym, ◌∙◌, ap}
+use Rattle.mx_base.proofs.NameFacts.{no_repeats, number_at, number_next, after_insert, known_text, length_after, length-names}
+use Rattle.mx_base.proofs.names.Names.intern.Goals as goal
+
+pub returns-in-Some-clause-number : goal.returns-in-Some-clause-number
+returns-in-Some-clause-number c =
+    rw (← c.self.view_is) (number_at (λ v. v.items) c.args.text.now c.self.inside.texts.keys c.in-Some.number (sym c.in-Some.ensures.index))
+
+pub returns-in-Some-clause-names : goal.returns-in-Some-clause-names
+returns-in-Some-clause-names c =
+    rw (← c.self.view_is) (known_text (λ v. v.items) c.args.text.now c.self.inside.texts.keys (sym c.in-Some.ensures.found))
+
+pub invariant_of-self-2 : goal.invariant_of-self-2
+invariant_of-self-2 c =
+    let fits : length c.self.inside.texts.keys + 1 ≤ 2 ^ 31 = omega (arith, length-names (λ (v : Vec ℕ Global). v.items) c.self.inside.texts.keys, ap length c.self.view_is) in (
+      rw c.in_ok-insert.ensures.keys (length_after (λ (v : Vec ℕ Global). v.items) _ c.self.inside.texts.keys c.in_ok-owned.owned (2 ^ 31) fits),
+      no_repeats (λ v. v.items) _ c.in_ok-insert.ensures.unique,
+    )
+
+pub returns-clause-number : goal.returns-clause-number
+returns-clause-number c =
+    rw (← c.self.view_is) (c.len-number.ensures.len ∙ number_next (λ v. v.items) c.args.text.now c.self.inside.texts.keys (sym c.in_default.ensures.found))
+
+pub returns-clause-names : goal.returns-clause-names
+returns-clause-names c =
+    rw (← c.self.view_is) (ap (map (λ v. v.items)) c.in_ok-insert.ensures.keys ∙ after_insert (λ v. v.items) c.args.text.now c.self.inside.texts.keys c.in_ok-owned.owned c.in_ok-owned.ensures.items)
+
+pub returns-clause-distinct : goal.returns-clause-distinct
+returns-clause-distinct c = no_repeats (λ v. v.items) _ c.in_ok-insert.ensures.unique
