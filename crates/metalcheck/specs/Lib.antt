@@ -1,0 +1,4 @@
+pub mod SmallChecker
+pub mod SmallNames
+pub mod SmallSource
+pub mod SmallText

