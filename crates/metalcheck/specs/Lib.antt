@@ -2,3 +2,5 @@ pub mod SmallChecker
 pub mod SmallNames
 pub mod SmallSource
 pub mod SmallText
+pub mod Words
+pub mod Written

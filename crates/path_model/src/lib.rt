@@ -2,7 +2,9 @@
 #![tactic(auto)]
 
 mod machine;
+mod order;
 mod report;
 
 pub use machine::{Machine, Message, Pattern, Rule, Source, Target};
+pub use order::compare;
 pub use report::{Report, copy_report};
