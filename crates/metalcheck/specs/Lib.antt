@@ -1,6 +1,14 @@
+pub mod Due
+pub mod Extension
+pub mod Judged
+pub mod Ran
+pub mod Reading
+pub mod Simple
+pub mod SmallBody
 pub mod SmallChecker
 pub mod SmallNames
 pub mod SmallSource
 pub mod SmallText
+pub mod Stages
 pub mod Words
 pub mod Written

@@ -4,9 +4,9 @@ use Rattle.c_tree.specs.Node.{Node, node, Nodes, no_more, more, Primary, Postfix
 use Rattle.c_tree.specs.declared.place.Place.{Place}
 use Rattle.c_tree.specs.declared.token.Token.{Token}
 use Rattle.path_model.specs.Events.{Body}
-use Rattle.metalcheck.specs.SmallSource.{Source, Statement, IsSmallSource}
+use Rattle.metalcheck.specs.SmallSource.{Source, Statement, IsSource, source_lexemes}
 use Rattle.metalcheck.specs.SmallSource as source
-use Rattle.metalcheck.specs.SmallText.{IsTokenized}
+use Rattle.metalcheck.specs.SmallText.{IsTokenized, lexemes_of}
 
 -- a name by itself
 abbrev pub name_node : ℕ → Token → Node
@@ -50,9 +50,11 @@ AreStatementNodes tokens at [] (more n ns) = ⊥
 AreStatementNodes tokens at (s ∷ ss) no_more = ⊥
 AreStatementNodes tokens at (s ∷ ss) (more n ns) = IsStatementNode tokens at s n × AreStatementNodes tokens (at + token_count s) ss ns
 
--- the body of a small C file whose word on the command line is `word`: the parameter is the sixth token, and the statements
--- begin behind the eighth
+-- the text is this small C file, and this is its body: the parameter is the sixth token, and the statements begin behind the
+-- eighth; `word` is the word on the command line that names the file
 pub record IsBody (names : List (List ℕ)) (word bytes : List ℕ) (s : Source) (body : Body) : Type 0 where
   pub tokens : IsTokenized names 0 word bytes body.tokens
+  pub spelled : lexemes_of tokens.pieces ≡ source_lexemes s
+  pub well : IsSource s
   pub parameter : slice_get body.tokens 5 ≡ Some body.parameter
   pub statements : AreStatementNodes body.tokens 8 s.statements body.statements

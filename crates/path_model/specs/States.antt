@@ -2,7 +2,7 @@
 -- `start` throughout, since no rule of the early form leaves it.
 use Rattle.std.specs.Prelude.{ℕ, Bool, true, false, ◌&&◌, ◌==◌, if◌then◌else◌, List, [], ◌∷◌, find, Option, Some, None}
 use Rattle.std.specs.Option.{option_and_then, option_map_or}
-use Rattle.c_tree.specs.Node.{Node, node, Primary, Postfix, Unary, Ident, Call, Deref, no_more, more}
+use Rattle.c_tree.specs.Node.{Node, node, Primary, Postfix, Unary, Ident, Call, Deref, Nodes, no_more, more}
 use Rattle.path_model.specs.declared.machine.Machine.{Machine}
 use Rattle.path_model.specs.declared.machine.Pattern.{Pattern}
 use Rattle.path_model.specs.declared.machine.Pattern.TheVariants as patterns
@@ -30,9 +30,15 @@ abbrev pub is_named : ℕ → Node → Bool
 is_named name (node i p (Primary (Ident t))) = t.name == name
 is_named name _ = false
 
+-- the node of a list of one
+abbrev pub only : Nodes → Option Node
+only no_more = None
+only (more n no_more) = Some n
+only (more n (more m ns)) = None
+
 -- the argument of a call of the named function with one argument
 abbrev pub argument_of : ℕ → Node → Option Node
-argument_of name (node i p (Postfix (Call callee parenthesis (more argument no_more)))) = if is_named name callee then Some argument else None
+argument_of name (node i p (Postfix (Call callee parenthesis arguments))) = if is_named name callee then only arguments else None
 argument_of name _ = None
 
 abbrev pub operand_of : Node → Option Node
