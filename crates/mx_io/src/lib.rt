@@ -7,6 +7,8 @@ mod mem_sink;
 mod os_files;
 mod os_sink;
 mod sink;
+#[cfg(test)]
+mod tests;
 
 pub use files::{FileFault, Files};
 pub use mem_files::MemFiles;

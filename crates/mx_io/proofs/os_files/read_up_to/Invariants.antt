@@ -1,5 +1,5 @@
 -- what was read so far is what the source gave up
-use Rattle.std.proofs.Common.{◌≤◌, ◌+◌, ◌-◌, vec_len}
+use Rattle.std.proofs.Common.{◌+◌, ◌-◌, vec_len}
 use Rattle.std.specs.Io.KnownBytes.{Consumes}
 use Rattle.mx_io.proofs.os_files.read_up_to.Given as goal
 
