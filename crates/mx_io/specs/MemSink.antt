@@ -28,4 +28,8 @@ count_now s piece = min (min (length piece) s.most) s.room
 abbrev pub after_write : SinkView → List ℕ → SinkView
 after_write s piece = if fails_now s
     then record s { calls = raised s.calls; faults = raised s.faults }
-    else record s { calls = raised s.calls; room = s.room - count_now s piece; taken = s.taken ++ take (count_now s piece) piece }
+    else record s {
+      calls = raised s.calls;
+      room = s.room - count_now s piece;
+      taken = s.taken ++ take (count_now s piece) piece;
+    }

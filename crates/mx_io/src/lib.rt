@@ -1,4 +1,5 @@
-//! The outside of the program: files that are read whole and sinks that take bytes, each as a trait, in memory and of the system.
+//! The outside of the program: files that are read whole and sinks that take bytes, each as a trait,
+//! in memory and of the system.
 #![tactic(auto)]
 
 mod files;

@@ -1,5 +1,5 @@
-//! What no clause shows: that the calls succeed where there is memory, what the system's files and sinks give and take,
-//! and how the faults are worded.
+//! What no clause shows: that the calls succeed where there is memory, what the system's files and
+//! sinks give and take, and how the faults are worded.
 
 use crate::{FileFault, Files, MemFiles, MemSink, OsFiles, OsSink, Sink, SinkFailed};
 use std::test::Fail;
