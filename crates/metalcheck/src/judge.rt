@@ -1,11 +1,9 @@
 //! The files of a request, read and judged one after the other.
 
-ghost use Rattle.std.specs.Prelude.{◌≡◌, ◌≤◌, ◌<◌, ◌^◌, [], length, map, string_bytes, IfOk, OnErr, IfErr, true};
+ghost use Rattle.std.specs.Prelude.{◌≡◌, ◌≤◌, ◌<◌, ◌^◌, [], ◌∷◌, length, map, string_bytes, IfOk, OnErr, IfErr};
 ghost use Rattle.mx_base.specs.Names.{HasNoRepeats};
-ghost use Rattle.metalcheck.specs.Due.{FailedInTurn};
 ghost use Rattle.metalcheck.specs.Stages.{AnswersStopped, failed_after_stop, IsLoaded, IsChecked, CameTo, HasReports, IsUnread};
-ghost use Rattle.metalcheck.specs.Extension.{IsExtension};
-ghost use Rattle.metalcheck.specs.Words.{is_request_of};
+ghost use Rattle.metalcheck.specs.SmallTokens.{IsExtension};
 
 use crate::analysis::analyse;
 use crate::fault::Fault;
@@ -51,6 +49,7 @@ fn load_checker<F: Files>(
     names: &mut Names,
 ) -> Result<Loaded, Stopped>
     requires { names.old ≡ [] }
+    ensures named { IfOk result (λ l. l.machine.name < length names.new) }
     ensures ok { IfOk result (λ l. IsLoaded (F.contents files.old word.now) names.new l.size l.machine) }
     ensures room { length names.new ≤ 2 ^ 25 }
     ensures stopped { IfErr result (λ e. AnswersStopped (F.contents files.old word.now) 0 33554432 e) }
@@ -133,31 +132,42 @@ fn check_bytes(
     }
 }
 
-/// Reads and judges the files of a request in order, each before the next is read.
-pub fn judge<F: Files>(
+/// Reads and judges a checker and a C file, each before the next is read.
+fn judge_files<F: Files>(
     alloc: Global,
-    words: &[String],
+    checker: &str,
+    source: &str,
     files: &mut F,
 ) -> Result<Outcome, AllocError>
-    requires { is_request_of (map string_bytes words.now) ≡ true }
-    ensures ok { IfOk result (λ o. CameTo (F.contents files.old) (map string_bytes words.now) (F.failed files.old) (F.failed files.new) o) }
-    ensures err { OnErr result (FailedInTurn (F.contents files.old) (map string_bytes words.now) (F.failed files.old) (F.failed files.new)) }
+    ensures ok { IfOk result (λ o. CameTo (F.contents files.old) (checker.now ∷ source.now ∷ []) (F.failed files.old) (F.failed files.new) o) }
+    ensures err { OnErr result (F.failed files.new ≡ F.failed files.old) }
 {
-    let [checker, source] = words else {
-        return Err(AllocError);
-    };
     let mut names = Names::new(alloc);
-    let loaded = match load_checker(alloc, files, checker.as_str(), &mut names) {
+    let loaded = match load_checker(alloc, files, checker, &mut names) {
         Ok(loaded) => loaded,
         Err(Stopped::NotRead) => return Ok(Outcome::NotRead(0)),
         Err(Stopped::Faulty(fault)) => return Ok(Outcome::Faulty(0, fault)),
         Err(Stopped::NoMemory) => return Err(AllocError),
     };
     let left = TOTAL_LIMIT - loaded.size;
-    match check_source(alloc, files, source.as_str(), left, &loaded.machine, &mut names) {
+    match check_source(alloc, files, source, left, &loaded.machine, &mut names) {
         Ok(reports) => Ok(Outcome::Judged(reports)),
         Err(Stopped::NotRead) => Ok(Outcome::NotRead(1)),
         Err(Stopped::Faulty(fault)) => Ok(Outcome::Faulty(1, fault)),
         Err(Stopped::NoMemory) => Err(AllocError),
     }
+}
+
+/// Reads and judges the files of a request in order.
+pub fn judge<F: Files>(
+    alloc: Global,
+    words: &[String],
+    files: &mut F,
+) -> Result<Outcome, AllocError>
+    requires { length words.now ≡ 2 }
+    ensures ok { IfOk result (λ o. CameTo (F.contents files.old) (map string_bytes words.now) (F.failed files.old) (F.failed files.new) o) }
+    ensures err { OnErr result (F.failed files.new ≡ F.failed files.old) }
+{
+    let outcome = judge_files(alloc, words[0].as_str(), words[1].as_str(), files)?;
+    Ok(outcome)
 }

@@ -1,6 +1,6 @@
 //! The words of the command.
 
-ghost use Rattle.std.specs.Prelude.{◌≡◌, map, string_bytes};
+ghost use Rattle.std.specs.Prelude.{◌≡◌, true, length, map, string_bytes};
 ghost use Rattle.metalcheck.specs.Words.{starts_with_minus, is_checker_word, is_request_of};
 
 fn is_option(word: &str) -> bool
@@ -22,7 +22,8 @@ fn is_checker(word: &str) -> bool
 
 /// Whether the words are a checker and a C file, in this order.
 pub fn is_request(words: &[String]) -> bool
-    ensures { result ≡ is_request_of (map string_bytes words.now) }
+    ensures request { result ≡ is_request_of (map string_bytes words.now) }
+    ensures two { result ≡ true → length words.now ≡ 2 }
 {
     match words {
         [checker, source] => {
