@@ -1,4 +1,6 @@
 pub mod SmallChecker
+pub mod SmallFront
 pub mod SmallNames
 pub mod SmallSource
 pub mod SmallText
+pub mod SmallTokens

@@ -1,0 +1,3 @@
+pub mod SmallCutting
+pub mod SmallGrowth
+pub mod SmallParts

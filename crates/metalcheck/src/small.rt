@@ -1,0 +1,5 @@
+//! The early form: one small checker and one small C file are read.
+
+mod text;
+
+pub use text::SmallFault;
