@@ -1,5 +1,6 @@
 //! The early form: one small checker and one small C file are read.
 
+mod names;
 mod text;
 
 pub use text::SmallFault;

@@ -40,13 +40,13 @@ pub enum Part {
     Quoted,
 }
 
-fn is_letter(byte: u8) -> bool
+pub fn is_letter(byte: u8) -> bool
     ensures { result ≡ is_letter byte }
 {
     matches!(byte, b'A'..=b'Z' | b'a'..=b'z' | b'_')
 }
 
-fn is_word_byte(byte: u8) -> bool
+pub fn is_word_byte(byte: u8) -> bool
     ensures { result ≡ is_word_byte byte }
 {
     is_letter(byte) || matches!(byte, b'0'..=b'9')
