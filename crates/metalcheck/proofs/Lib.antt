@@ -1,3 +1,6 @@
 pub mod SmallCutting
 pub mod SmallGrowth
 pub mod SmallParts
+pub mod SmallOptions
+pub mod SmallMessages
+pub mod SmallLines

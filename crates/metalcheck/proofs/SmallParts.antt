@@ -27,7 +27,7 @@ front_made rest xs ys part len joined counted some shaped spelled ends =
 
 module _ (p : ℕ → Bool) where
   -- what is taken passes
-  run_passes : (xs : List ℕ) → list_all p (take_while p xs) ≡ true
+  pub run_passes : (xs : List ℕ) → list_all p (take_while p xs) ≡ true
   run_passes [] = refl
   run_passes (x ∷ xs) = subst (λ l. list_all p l ≡ true) (sym (take_while-cons p x xs)) (by (p x) refl (run_passes xs))
     where

@@ -5,3 +5,4 @@ pub mod SmallReading
 pub mod SmallSource
 pub mod SmallText
 pub mod SmallTokens
+pub mod SmallViews

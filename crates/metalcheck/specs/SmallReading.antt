@@ -59,31 +59,34 @@ shape_first v ws =
     (other_first v ws >>= λ n. after_all (codes "(" ∷ v ∷ codes ")" ∷ []) n.1 >>= λ rest. Some (Call n.0, rest))
     (λ a. after v a >>= λ rest. Some (Dereference, rest))
 
--- `s` first, and no `%`
+-- what stands before the first `%`
+abbrev pub before_percent : List ℕ → List ℕ
+before_percent s = take_while (λ b. not (b == 37)) s
+
+-- what stands behind `%s`, without a `%`
 abbrev pub behind_percent : List ℕ → Option (List ℕ)
 behind_percent [] = None
-behind_percent (b ∷ bs) = if (b == 115) && not (list_any (λ x. x == 37) bs) then Some bs else None
-
--- what stands before the first `%`, and the rest
-abbrev pub before_percent : List ℕ → List ℕ
-before_percent s = take_while (λ x. not (x == 37)) s
+behind_percent (p ∷ []) = None
+behind_percent (p ∷ (s ∷ bs)) = if (s == 115) && not (list_any (λ b. b == 37) bs) then Some bs else None
 
 abbrev pub split_message : List ℕ → Option Texts
-split_message s = behind_percent (drop (length (before_percent s) + 1) s) >>= λ behind. Some (record { before = before_percent s; behind = behind })
+split_message s = behind_percent (drop (length (before_percent s)) s) >>= λ behind. Some (record { before = before_percent s; behind = behind })
 
-abbrev pub is_quoted : List ℕ → Bool
-is_quoted [] = false
-is_quoted (b ∷ bs) = b == 34
+-- what stands between quotes
+abbrev pub between_quotes : List ℕ → Option (List ℕ)
+between_quotes w = if bytes_eq w (34 ∷ (inside_quotes w ++ 34 ∷ [])) then Some (inside_quotes w) else None
 
 abbrev pub literal_first : List (List ℕ) → Option (Texts × List (List ℕ))
 literal_first [] = None
-literal_first (w ∷ ws) = if is_quoted w then (split_message (inside_quotes w) >>= λ t. Some (t, ws)) else None
+literal_first (w ∷ ws) = between_quotes w >>= λ s. split_message s >>= λ t. Some (t, ws)
+
+abbrev pub after_identifier : List ℕ → List (List ℕ) → Option (List (List ℕ))
+after_identifier v ws = after_all (codes "," ∷ codes "mc_identifier" ∷ codes "(" ∷ v ∷ codes ")" ∷ codes ")" ∷ codes ";" ∷ codes "}" ∷ []) ws
 
 abbrev pub message_first : List ℕ → List (List ℕ) → Option (Option Texts × List (List ℕ))
 message_first v ws =
     if_there (after (codes ",") ws) (Some (None, ws))
-    (λ a. after_all (codes "{" ∷ codes "err" ∷ codes "(" ∷ []) a >>= λ b. literal_first b >>= λ t.
-        after_all (codes "," ∷ codes "mc_identifier" ∷ codes "(" ∷ v ∷ codes ")" ∷ codes ")" ∷ codes ";" ∷ codes "}" ∷ []) t.1 >>= λ rest. Some (Some t.0, rest))
+    (λ a. after_all (codes "{" ∷ codes "err" ∷ codes "(" ∷ []) a >>= λ b. literal_first b >>= λ t. after_identifier v t.1 >>= λ rest. Some (Some t.0, rest))
 
 abbrev pub line_first : List ℕ → List (List ℕ) → Option (Line × List (List ℕ))
 line_first v ws =
