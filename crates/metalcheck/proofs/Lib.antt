@@ -4,3 +4,7 @@ pub mod SmallParts
 pub mod SmallOptions
 pub mod SmallMessages
 pub mod SmallLines
+pub mod SmallSections
+pub mod SmallMachines
+pub mod SmallShapes
+pub mod SmallCheckers

@@ -1,5 +1,5 @@
 -- A text that is cut up to some place.
-use Rattle.std.proofs.Common.{◌≡◌, ◌≤◌, ◌<◌, ℕ, zero, suc, ◌+◌, ◌-◌, Bool, true, false, cond, not, ◌&&◌, ◌||◌, List, [], ◌∷◌, ◌++◌, length, take, drop, refl, sym, ◌∙◌, ap, subst, Some, None, arith, append_assoc, append-nil}
+use Rattle.std.proofs.Common.{◌≡◌, ℕ, zero, suc, Bool, true, false, not, ◌&&◌, ◌||◌, List, [], ◌∷◌, ◌++◌, take, drop, refl, sym, ◌∙◌, ap, subst, Some, arith, append_assoc, append-nil}
 use Rattle.std.specs.List.{flat_map, list_all, slice_get}
 use Rattle.std.proofs.lemmas.Grind.{flat_map-append}
 use Rattle.std.proofs.lemmas.List.{take-append-drop}
@@ -9,7 +9,7 @@ use Rattle.c_tree.specs.declared.token.Token.{Token}
 use Rattle.metalcheck.specs.declared.small.text.Cursor.{Cursor}
 use Rattle.metalcheck.specs.declared.small.text.Part.{Part}
 use Rattle.metalcheck.specs.declared.small.text.Part.TheVariants as parts
-use Rattle.metalcheck.specs.SmallText.{Piece, Space, LineFeed, Spelled, Spot, first_spot, bytes_of, is_piece, is_word, is_word_piece, is_word_byte, is_letter, ends_apart, are_apart, spot_behind, AreTokens, IsCut, IsTokenized}
+use Rattle.metalcheck.specs.SmallText.{Piece, Space, LineFeed, Spelled, Spot, first_spot, bytes_of, is_piece, is_word, is_word_piece, is_letter, ends_apart, are_apart, spot_behind, AreTokens, IsTokenized}
 use Rattle.metalcheck.specs.SmallFront.{IsFront, piece_of, starts_word}
 use Rattle.metalcheck.specs.SmallTokens.{IsExtension, ArePushed, spot_of}
 use Rattle.metalcheck.proofs.SmallGrowth.{AreTokens-extended, named_still}

@@ -1,11 +1,11 @@
 -- Names that grow keep what tokens say.
-use Rattle.std.proofs.Common.{◌≡◌, ◌<◌, ℕ, zero, suc, ◌+◌, Bool, true, false, cond, not, ◌||◌, List, [], ◌∷◌, ◌++◌, refl, sym, ◌∙◌, ap, subst, Some, None, arith, append_assoc, append-nil, ◌≤◌, length, length-append}
+use Rattle.std.proofs.Common.{◌≡◌, ℕ, zero, suc, ◌+◌, Bool, true, false, cond, not, ◌||◌, List, [], ◌∷◌, ◌++◌, refl, sym, ◌∙◌, ap, subst, Some, arith, append_assoc, append-nil, ◌≤◌, length, length-append}
 use Rattle.std.specs.List.{list_any, slice_get}
 use Rattle.std.specs.Str.{bytes_eq}
 use Rattle.std.proofs.lemmas.Slice.Eq.{bytes_eq-Decides}
 use Rattle.mx_base.specs.Names.{number_of, names_after}
 use Rattle.c_tree.specs.declared.token.Token.{Token}
-use Rattle.metalcheck.specs.SmallText.{Lexeme, Piece, Space, LineFeed, Spelled, Spot, bytes_of, spot_behind, IsTokenOf, AreTokens}
+use Rattle.metalcheck.specs.SmallText.{Piece, Space, LineFeed, Spelled, Spot, bytes_of, spot_behind, AreTokens}
 use Rattle.metalcheck.specs.SmallFront.{kind_of_piece}
 use Rattle.metalcheck.specs.SmallTokens.{IsExtension}
 

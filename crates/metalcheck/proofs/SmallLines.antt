@@ -1,21 +1,21 @@
 -- What is read of a checker's line stands there, and is well formed.
-use Rattle.std.proofs.Common.{◌≡◌, ℕ, suc, Bool, true, false, cond, not, ◌&&◌, ◌||◌, ◌==◌, ◌+◌, List, [], ◌∷◌, ◌++◌, length, take, drop, Option, None, Some, ◌⊎◌, inl, inr, ap, refl, ◌∙◌, sym, subst, arith, append_assoc, codes, map}
-use Rattle.std.specs.List.{list_any, list_all, take_while, prefix_len}
+use Rattle.std.proofs.Common.{◌≡◌, ℕ, suc, Bool, true, false, cond, not, ◌&&◌, ◌||◌, ◌==◌, ◌+◌, List, [], ◌∷◌, ◌++◌, length, drop, Option, None, Some, inl, inr, ap, refl, ◌∙◌, sym, subst, arith, append_assoc, codes}
+use Rattle.std.specs.List.{list_any, list_all, prefix_len}
 use Rattle.std.specs.Str.{bytes_eq}
 use Rattle.std.proofs.lemmas.List.{map-append, take-append-drop}
 use Rattle.std.proofs.lemmas.List.Folds.{length-prefix_len}
 use Rattle.c_tree.specs.declared.punctuator.Punctuator.TheVariants.{CloseBrace, LongArrow, Dot}
 use Rattle.metalcheck.specs.SmallFront.{inside_quotes}
-use Rattle.metalcheck.specs.SmallText.{Lexeme, Word, Sign, Quoted, spelling}
-use Rattle.metalcheck.specs.SmallChecker.{Origin, Start, State, Shape, Call, Dereference, Texts, Line, origin_lexemes, shape_lexemes, literal_of, message_lexemes, line_lexemes, IsOther, IsOrigin, IsShape, AreTexts, IsLine}
-use Rattle.metalcheck.specs.SmallReading.{◌>>=◌, if_there, spelled, after, after_all, other_first, origin_first, shape_first, before_percent, behind_percent, split_message, between_quotes, literal_first, after_identifier, message_first, line_first}
+use Rattle.metalcheck.specs.SmallText.{Lexeme, Word, Sign, spelling}
+use Rattle.metalcheck.specs.SmallChecker.{Origin, Start, State, Shape, Call, Dereference, Texts, Line, origin_lexemes, shape_lexemes, literal_of, message_lexemes, line_lexemes, IsOrigin, IsShape, AreTexts, IsLine}
+use Rattle.metalcheck.specs.SmallReading.{spelled, after, after_all, other_first, origin_first, shape_first, before_percent, behind_percent, split_message, between_quotes, literal_first, after_identifier, message_first, line_first}
 use Rattle.metalcheck.proofs.SmallOptions.{bound, chosen, when, unless, parts, both, not_true, same_bytes, after_some, after_all_some, other_first_some}
 use Rattle.metalcheck.proofs.SmallParts.{run_passes}
 
 pub origin_sound : (v : List ℕ) (ws : List (List ℕ)) (o : Origin) (r : List (List ℕ)) → origin_first v ws ≡ Some (o, r) → (ws ≡ spelled (origin_lexemes v o) ++ r) × IsOrigin v o
 origin_sound v ws o r h =
     elim (chosen (after v ws) _ _ _ h) as (λ _. (ws ≡ spelled (origin_lexemes v o) ++ r) × IsOrigin v o) [
-      inl p ↦
+      | inl p ↦
           let a = bound (after (codes "start") ws) _ _ p.1 in
           let e = parts (Start, a.0) (o, r) a.2 in
           let here : ws ≡ spelled (origin_lexemes v Start) ++ r = after_some (codes "start") ws a.0 a.1 ∙ ap (λ l. codes "start" ∷ l) e.1 in
@@ -27,20 +27,20 @@ origin_sound v ws o r h =
           let e = parts (State b.0.0, b.0.1) (o, r) k.1 in
           let n = other_first_some v a.0 b.0.0 b.0.1 b.1 in
           let here : ws ≡ spelled (origin_lexemes v (State b.0.0)) ++ r =
-              after_some v ws p.0 p.1 ∙ ap (λ l. v ∷ l) (after_some (codes ".") p.0 a.0 a.1 ∙ ap (λ l. codes "." ∷ l) (n.0 ∙ ap (λ l. b.0.0 ∷ l) e.1)) in
+          after_some v ws p.0 p.1 ∙ ap (λ l. v ∷ l) (after_some (codes ".") p.0 a.0 a.1 ∙ ap (λ l. codes "." ∷ l) (n.0 ∙ ap (λ l. b.0.0 ∷ l) e.1)) in
           subst (λ x. (ws ≡ spelled (origin_lexemes v x) ++ r) × IsOrigin v x) e.0 (here, (n.1, k.0))
     ]
 
 pub shape_sound : (v : List ℕ) (ws : List (List ℕ)) (s : Shape) (r : List (List ℕ)) → shape_first v ws ≡ Some (s, r) → (ws ≡ spelled (shape_lexemes v s) ++ r) × IsShape v s
 shape_sound v ws s r h =
     elim (chosen (after (codes "*") ws) _ _ _ h) as (λ _. (ws ≡ spelled (shape_lexemes v s) ++ r) × IsShape v s) [
-      inl p ↦
+      | inl p ↦
           let a = bound (other_first v ws) _ _ p.1 in
           let b = bound (after_all (codes "(" ∷ v ∷ codes ")" ∷ []) a.0.1) _ _ a.2 in
           let e = parts (Call a.0.0, b.0) (s, r) b.2 in
           let n = other_first_some v ws a.0.0 a.0.1 a.1 in
           let here : ws ≡ spelled (shape_lexemes v (Call a.0.0)) ++ r =
-              n.0 ∙ ap (λ l. a.0.0 ∷ l) (after_all_some (codes "(" ∷ v ∷ codes ")" ∷ []) a.0.1 b.0 b.1 ∙ ap (λ l. codes "(" ∷ v ∷ codes ")" ∷ l) e.1) in
+          n.0 ∙ ap (λ l. a.0.0 ∷ l) (after_all_some (codes "(" ∷ v ∷ codes ")" ∷ []) a.0.1 b.0 b.1 ∙ ap (λ l. codes "(" ∷ v ∷ codes ")" ∷ l) e.1) in
           subst (λ x. (ws ≡ spelled (shape_lexemes v x) ++ r) × IsShape v x) e.0 (here, n.1)
       | inr p ↦
           let a = bound (after v p.0) _ _ p.2 in
@@ -89,7 +89,7 @@ split_sound s t h =
     let fails : not (b.0 == 37) ≡ false = run_stops (λ b. not (b == 37)) s b.0 (115 ∷ a.0) dropped in
     let percent : b.0 ≡ 37 = grind (arith, fails) in
     let whole : s ≡ before_percent s ++ (37 ∷ (115 ∷ a.0)) =
-        sym (take-append-drop (prefix_len (λ b. not (b == 37)) s) s) ∙ ap (λ l. before_percent s ++ l) (dropped ∙ ap (λ p. p ∷ (115 ∷ a.0)) percent) in
+    sym (take-append-drop (prefix_len (λ b. not (b == 37)) s) s) ∙ ap (λ l. before_percent s ++ l) (dropped ∙ ap (λ p. p ∷ (115 ∷ a.0)) percent) in
     subst (λ x. (s ≡ literal_of x) × AreTexts (Some x)) made (whole, (none_of (λ b. b == 37) (before_percent s) (run_passes (λ b. not (b == 37)) s), b.2))
 
 between_sound : (w s : List ℕ) → between_quotes w ≡ Some s → w ≡ 34 ∷ (s ++ 34 ∷ [])
@@ -111,7 +111,7 @@ literal_sound (w ∷ ws) t r h =
 pub message_sound : (v : List ℕ) (ws : List (List ℕ)) (m : Option Texts) (r : List (List ℕ)) → message_first v ws ≡ Some (m, r) → (ws ≡ spelled (message_lexemes v m) ++ r) × AreTexts m
 message_sound v ws m r h =
     elim (chosen (after (codes ",") ws) _ _ _ h) as (λ _. (ws ≡ spelled (message_lexemes v m) ++ r) × AreTexts m) [
-      inl p ↦
+      | inl p ↦
           let e = parts {A = Option Texts} (None, ws) (m, r) p.1 in
           subst (λ x. (ws ≡ spelled (message_lexemes v x) ++ r) × AreTexts x) e.0 (e.1, tt)
       | inr p ↦
@@ -121,11 +121,11 @@ message_sound v ws m r h =
           let e = parts {A = Option Texts} (Some b.0.0, c.0) (m, r) c.2 in
           let t = literal_sound a.0 b.0.0 b.0.1 b.1 in
           let here : ws ≡ spelled (message_lexemes v (Some b.0.0)) ++ r =
-              after_some (codes ",") ws p.0 p.1
-              ∙ ap (λ l. codes "," ∷ l) (after_all_some (codes "{" ∷ codes "err" ∷ codes "(" ∷ []) p.0 a.0 a.1
-              ∙ ap (λ l. codes "{" ∷ codes "err" ∷ codes "(" ∷ l) (t.0
-              ∙ ap (λ l. (34 ∷ (literal_of b.0.0 ++ 34 ∷ [])) ∷ l) (after_all_some (codes "," ∷ codes "mc_identifier" ∷ codes "(" ∷ v ∷ codes ")" ∷ codes ")" ∷ codes ";" ∷ codes "}" ∷ []) b.0.1 c.0 c.1
-              ∙ ap (λ l. codes "," ∷ codes "mc_identifier" ∷ codes "(" ∷ v ∷ codes ")" ∷ codes ")" ∷ codes ";" ∷ codes "}" ∷ l) e.1))) in
+          after_some (codes ",") ws p.0 p.1
+          ∙ ap (λ l. codes "," ∷ l) (after_all_some (codes "{" ∷ codes "err" ∷ codes "(" ∷ []) p.0 a.0 a.1
+          ∙ ap (λ l. codes "{" ∷ codes "err" ∷ codes "(" ∷ l) (t.0
+          ∙ ap (λ l. (34 ∷ (literal_of b.0.0 ++ 34 ∷ [])) ∷ l) (after_all_some (codes "," ∷ codes "mc_identifier" ∷ codes "(" ∷ v ∷ codes ")" ∷ codes ")" ∷ codes ";" ∷ codes "}" ∷ []) b.0.1 c.0 c.1
+          ∙ ap (λ l. codes "," ∷ codes "mc_identifier" ∷ codes "(" ∷ v ∷ codes ")" ∷ codes ")" ∷ codes ";" ∷ codes "}" ∷ l) e.1))) in
           subst (λ x. (ws ≡ spelled (message_lexemes v x) ++ r) × AreTexts x) e.0 (here, t.1)
     ]
 
@@ -146,10 +146,10 @@ line_sound v ws l r h =
     let message = message_sound v t.0.1 m.0.0 m.0.1 m.1 in
     let tail : List Lexeme = Sign CloseBrace ∷ Sign LongArrow ∷ Word v ∷ Sign Dot ∷ Word t.0.0 ∷ message_lexemes v m.0.0 in
     let behind : s.0.1 ≡ spelled tail ++ r =
-        after_all_some (codes "}" ∷ codes "==>" ∷ v ∷ codes "." ∷ []) s.0.1 b.0 b.1
-        ∙ ap (λ l. codes "}" ∷ codes "==>" ∷ v ∷ codes "." ∷ l) (target.0 ∙ ap (λ l. t.0.0 ∷ l) (message.0 ∙ ap (λ l. spelled (message_lexemes v m.0.0) ++ l) e.1)) in
+    after_all_some (codes "}" ∷ codes "==>" ∷ v ∷ codes "." ∷ []) s.0.1 b.0 b.1
+    ∙ ap (λ l. codes "}" ∷ codes "==>" ∷ v ∷ codes "." ∷ l) (target.0 ∙ ap (λ l. t.0.0 ∷ l) (message.0 ∙ ap (λ l. spelled (message_lexemes v m.0.0) ++ l) e.1)) in
     let here : ws ≡ spelled (line_lexemes v line) ++ r =
-        after_some (codes "{") ws a.0 a.1
-        ∙ ap (λ l. codes "{" ∷ l) (shape.0 ∙ ap (λ l. spelled (shape_lexemes v s.0.0) ++ l) behind
-        ∙ sym (append_assoc (spelled (shape_lexemes v s.0.0)) (spelled tail) r) ∙ ap (λ l. l ++ r) (sym (spelled-append (shape_lexemes v s.0.0) tail))) in
+    after_some (codes "{") ws a.0 a.1
+    ∙ ap (λ l. codes "{" ∷ l) (shape.0 ∙ ap (λ l. spelled (shape_lexemes v s.0.0) ++ l) behind
+    ∙ sym (append_assoc (spelled (shape_lexemes v s.0.0)) (spelled tail) r) ∙ ap (λ l. l ++ r) (sym (spelled-append (shape_lexemes v s.0.0) tail))) in
     subst (λ x. (ws ≡ spelled (line_lexemes v x) ++ r) × IsLine v x) e.0 (here, record { shape = shape.1; target = target.1; message = message.1 })

@@ -1,11 +1,11 @@
 -- Messages between quotes, split at their `%s`.
-use Rattle.std.proofs.Common.{◌≡◌, ◌≤◌, ◌<◌, ℕ, zero, suc, ◌+◌, ◌-◌, Bool, true, false, cond, not, ◌&&◌, ◌||◌, ◌==◌, List, [], ◌∷◌, ◌++◌, length, take, drop, Option, None, Some, ap, refl, ◌∙◌, sym, subst, arith, length-append}
-use Rattle.std.specs.List.{list_any, list_all, take_while, prefix_len}
+use Rattle.std.proofs.Common.{◌≡◌, ℕ, ◌-◌, Bool, true, false, cond, List, [], ◌∷◌, ◌++◌, length, take, None, Some, ap, refl, ◌∙◌, sym, arith, length-append}
+use Rattle.std.specs.List.{take_while}
 use Rattle.std.specs.Str.{bytes_eq}
 use Rattle.std.proofs.Math.Seq.{take-append_seam}
 use Rattle.std.proofs.lemmas.List.Folds.{length-prefix_len}
 use Rattle.metalcheck.specs.SmallFront.{inside_quotes}
-use Rattle.metalcheck.specs.SmallReading.{between_quotes, before_percent}
+use Rattle.metalcheck.specs.SmallReading.{between_quotes}
 use Rattle.metalcheck.proofs.SmallOptions.{same_bytes, bytes_self}
 
 -- what stands between the ends
@@ -17,7 +17,7 @@ inside_ends a b s =
 pub between_made : (s : List ℕ) → between_quotes (34 ∷ (s ++ 34 ∷ [])) ≡ Some s
 between_made s =
     let same : bytes_eq (34 ∷ (s ++ 34 ∷ [])) (34 ∷ (inside_quotes (34 ∷ (s ++ 34 ∷ [])) ++ 34 ∷ [])) ≡ true =
-        ap (λ l. bytes_eq (34 ∷ (s ++ 34 ∷ [])) (34 ∷ (l ++ 34 ∷ []))) (inside_ends 34 34 s) ∙ bytes_self (34 ∷ (s ++ 34 ∷ [])) in
+    ap (λ l. bytes_eq (34 ∷ (s ++ 34 ∷ [])) (34 ∷ (l ++ 34 ∷ []))) (inside_ends 34 34 s) ∙ bytes_self (34 ∷ (s ++ 34 ∷ [])) in
     ap (λ b. cond b (Some (inside_quotes (34 ∷ (s ++ 34 ∷ [])))) None) same ∙ ap Some (inside_ends 34 34 s)
 
 -- where the text is no text between quotes, there is none

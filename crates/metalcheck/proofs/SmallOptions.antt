@@ -1,6 +1,5 @@
 -- What stands in front of a list of spellings, where something was found.
-use Rattle.std.proofs.Common.{◌≡◌, ℕ, Bool, true, false, cond, not, ◌&&◌, ◌||◌, List, [], ◌∷◌, ◌++◌, Option, None, Some, ◌⊎◌, inl, inr, ap, refl, ◌∙◌, sym, subst, arith}
-use Rattle.std.specs.List.{list_any, list_all}
+use Rattle.std.proofs.Common.{◌≡◌, ℕ, Bool, true, false, cond, not, ◌&&◌, List, [], ◌∷◌, ◌++◌, Option, None, Some, ◌⊎◌, inl, inr, ap, refl, ◌∙◌, subst}
 use Rattle.std.specs.Str.{bytes_eq}
 use Rattle.std.proofs.lemmas.Slice.Eq.{bytes_eq-Decides}
 use Rattle.metalcheck.specs.SmallNames.{is_name}
@@ -67,8 +66,7 @@ other_first_some v [] n r h = cc
 other_first_some v (w ∷ ws) n r h =
     let k = when (is_name w && not (bytes_eq w v)) (Some (w, ws)) (n, r) h in
     let p = parts (w, ws) (n, r) k.1 in
-    let t = both (is_name w) (not (bytes_eq w v)) k.0 in
-    (
+    let t = both (is_name w) (not (bytes_eq w v)) k.0 in (
       ap (λ x. x ∷ ws) p.0 ∙ ap (λ l. n ∷ l) p.1,
       record { well = subst (λ x. is_name x ≡ true) p.0 t.0; apart = subst (λ x. bytes_eq x v ≡ false) p.0 (not_true (bytes_eq w v) t.1) },
     )

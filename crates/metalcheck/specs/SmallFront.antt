@@ -3,7 +3,7 @@ use Rattle.std.specs.Prelude.{◌≡◌, ◌≤◌, ◌<◌, ℕ, ◌-◌, Bool,
 use Rattle.c_tree.specs.declared.token.TokenKind.{TokenKind}
 use Rattle.metalcheck.specs.declared.small.text.Part.{Part}
 use Rattle.metalcheck.specs.declared.small.text.Part.TheVariants as parts
-use Rattle.metalcheck.specs.SmallText.{Lexeme, Word, Sign, Quoted, Piece, Space, LineFeed, Spelled, bytes_of, is_piece, is_word_piece, is_word_byte, kind_of}
+use Rattle.metalcheck.specs.SmallText.{Word, Sign, Quoted, Piece, Space, LineFeed, Spelled, bytes_of, is_piece, is_word_piece, is_word_byte, kind_of}
 
 -- what stands between the quotes of a string
 abbrev pub inside_quotes : List ℕ → List ℕ

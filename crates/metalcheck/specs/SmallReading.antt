@@ -1,5 +1,5 @@
 -- Small checkers read from left to right over the spellings of their tokens: what stands in front, and what follows it.
-use Rattle.std.specs.Prelude.{◌≡◌, ℕ, ◌+◌, ◌-◌, ◌&&◌, not, Bool, true, false, ◌==◌, if◌then◌else◌, List, [], ◌∷◌, ◌++◌, length, map, drop, take, slice_index_or, slice_get, Option, Some, None, codes}
+use Rattle.std.specs.Prelude.{ℕ, ◌&&◌, ◌||◌, not, ◌==◌, if◌then◌else◌, List, [], ◌∷◌, ◌++◌, length, map, drop, slice_index_or, Option, Some, None, codes}
 use Rattle.std.specs.List.{list_any, take_while}
 use Rattle.std.specs.Str.{bytes_eq}
 use Rattle.c_tree.specs.declared.token.Token.{Token}
@@ -92,3 +92,10 @@ abbrev pub line_first : List ℕ → List (List ℕ) → Option (Line × List (L
 line_first v ws =
     after (codes "{") ws >>= λ a. shape_first v a >>= λ s. after_all (codes "}" ∷ codes "==>" ∷ v ∷ codes "." ∷ []) s.1 >>= λ b.
     other_first v b >>= λ t. message_first v t.1 >>= λ m. Some (record { shape = s.0; target = t.0; message = m.0 }, m.1)
+
+-- `sm NAME { state decl any_pointer VARIABLE ;`, with the name and the variable
+abbrev pub head_first : List (List ℕ) → Option ((List ℕ × List ℕ) × List (List ℕ))
+head_first ws =
+    after (codes "sm") ws >>= λ a. name_first a >>= λ n. after_all (codes "{" ∷ codes "state" ∷ codes "decl" ∷ codes "any_pointer" ∷ []) n.1 >>= λ b.
+    name_first b >>= λ v. after (codes ";") v.1 >>= λ rest.
+    if bytes_eq v.0 (codes "start") || bytes_eq n.0 v.0 then None else Some ((n.0, v.0), rest)

@@ -1,12 +1,13 @@
 //! Reads the parts of a small checker over its tokens, one function for each line of the grammar. Words, punctuators and
 //! strings are told apart by their spellings alone.
 
-ghost use Rattle.std.specs.Prelude.{◌≡◌, length};
+ghost use Rattle.std.specs.Prelude.{◌≡◌, length, IfOk};
 ghost use Rattle.std.specs.Option.{option_map};
-ghost use Rattle.metalcheck.specs.SmallReading.{after, after_identifier, before_percent, behind_percent, between_quotes, line_first, literal_first, message_first, origin_first, other_first, shape_first, spellings, split_message, text_at};
-ghost use Rattle.metalcheck.specs.SmallViews.{and_rest, line_of, origin_of, shape_of, texts_of};
+ghost use Rattle.metalcheck.specs.SmallReading.{after, after_identifier, before_percent, behind_percent, between_quotes, head_first, line_first, literal_first, message_first, name_first, origin_first, other_first, shape_first, spellings, split_message, text_at};
+ghost use Rattle.metalcheck.specs.SmallViews.{and_rest, head_of, line_of, origin_of, rules_in, shape_of, texts_of, ReadsSection, ReadsSections};
 
 use super::names::is_name;
+use super::text::SmallFault;
 use c_tree::Token;
 use mx_base::Names;
 use path_model::{Pattern, Source};
@@ -25,6 +26,20 @@ pub struct ReadLine<'n> {
     /// The number of the target's name.
     pub target: u32,
     pub message: Option<Literal<'n>>,
+}
+
+/// A rule as it was read.
+#[derive(Clone, Copy)]
+pub struct ReadRule<'n> {
+    pub source: Source,
+    pub line: ReadLine<'n>,
+}
+
+/// The names of a checker and of its variable, by number.
+#[derive(Clone, Copy)]
+pub struct Head {
+    pub name: u32,
+    pub variable: u32,
 }
 
 /// The text with a number; empty where no name has it.
@@ -54,8 +69,28 @@ pub fn after<'t>(names: &Names, tokens: &'t [Token], spelling: &[u8]) -> Option<
     }
 }
 
+/// A name in front.
+fn name_first<'t>(names: &Names, tokens: &'t [Token]) -> Option<(u32, &'t [Token])>
+    ensures { option_map (λ r. and_rest (text_at names.now) names.now r) result ≡ name_first (spellings names.now tokens.now) }
+{
+    match tokens {
+        [] => None,
+        [front, rest @ ..] => {
+            if is_name(text(names, front.name)) {
+                Some((front.name, rest))
+            } else {
+                None
+            }
+        }
+    }
+}
+
 /// A name in front that isn't the variable's.
-pub fn other_first<'t>(names: &Names, variable: &[u8], tokens: &'t [Token]) -> Option<(u32, &'t [Token])>
+pub fn other_first<'t>(
+    names: &Names,
+    variable: &[u8],
+    tokens: &'t [Token],
+) -> Option<(u32, &'t [Token])>
     ensures { option_map (λ r. and_rest (text_at names.now) names.now r) result ≡ other_first variable.now (spellings names.now tokens.now) }
 {
     match tokens {
@@ -71,8 +106,31 @@ pub fn other_first<'t>(names: &Names, variable: &[u8], tokens: &'t [Token]) -> O
     }
 }
 
+/// `sm NAME { state decl any_pointer VARIABLE ;`
+pub fn read_head<'t>(names: &Names, tokens: &'t [Token]) -> Option<(Head, &'t [Token])>
+    ensures { option_map (λ r. and_rest (head_of names.now) names.now r) result ≡ head_first (spellings names.now tokens.now) }
+{
+    let rest = after(names, tokens, b"sm")?;
+    let (name, rest) = name_first(names, rest)?;
+    let rest = after(names, rest, b"{")?;
+    let rest = after(names, rest, b"state")?;
+    let rest = after(names, rest, b"decl")?;
+    let rest = after(names, rest, b"any_pointer")?;
+    let (variable, rest) = name_first(names, rest)?;
+    let rest = after(names, rest, b";")?;
+    let word = text(names, variable);
+    if word == b"start".as_slice() || text(names, name) == word {
+        return None;
+    }
+    Some((Head { name, variable }, rest))
+}
+
 /// `start`, or `VARIABLE . STATE`.
-pub fn read_origin<'t>(names: &Names, variable: &[u8], tokens: &'t [Token]) -> Option<(Source, &'t [Token])>
+pub fn read_origin<'t>(
+    names: &Names,
+    variable: &[u8],
+    tokens: &'t [Token],
+) -> Option<(Source, &'t [Token])>
     ensures { option_map (λ r. and_rest (origin_of names.now) names.now r) result ≡ origin_first variable.now (spellings names.now tokens.now) }
 {
     let Some(rest) = after(names, tokens, variable) else {
@@ -88,7 +146,11 @@ pub fn read_origin<'t>(names: &Names, variable: &[u8], tokens: &'t [Token]) -> O
 }
 
 /// `CALLEE ( VARIABLE )` or `* VARIABLE`.
-fn read_pattern<'t>(names: &Names, variable: &[u8], tokens: &'t [Token]) -> Option<(Pattern, &'t [Token])>
+fn read_pattern<'t>(
+    names: &Names,
+    variable: &[u8],
+    tokens: &'t [Token],
+) -> Option<(Pattern, &'t [Token])>
     ensures { option_map (λ r. and_rest (shape_of names.now) names.now r) result ≡ shape_first variable.now (spellings names.now tokens.now) }
 {
     if let Some(rest) = after(names, tokens, b"*") {
@@ -173,7 +235,11 @@ fn after_identifier<'t>(names: &Names, variable: &[u8], tokens: &'t [Token]) -> 
 }
 
 /// `, { err ( LITERAL , mc_identifier ( VARIABLE ) ) ; }`, if a comma stands in front.
-fn read_message<'n, 't>(names: &'n Names, variable: &[u8], tokens: &'t [Token]) -> Option<(Option<Literal<'n>>, &'t [Token])>
+fn read_message<'n, 't>(
+    names: &'n Names,
+    variable: &[u8],
+    tokens: &'t [Token],
+) -> Option<(Option<Literal<'n>>, &'t [Token])>
     ensures { option_map (λ r. and_rest (option_map texts_of) names.now r) result ≡ message_first variable.now (spellings names.now tokens.now) }
 {
     let Some(rest) = after(names, tokens, b",") else {
@@ -188,7 +254,11 @@ fn read_message<'n, 't>(names: &'n Names, variable: &[u8], tokens: &'t [Token]) 
 }
 
 /// `{ PATTERN } ==> VARIABLE . TARGET MESSAGE`
-pub fn read_line<'n, 't>(names: &'n Names, variable: &[u8], tokens: &'t [Token]) -> Option<(ReadLine<'n>, &'t [Token])>
+pub fn read_line<'n, 't>(
+    names: &'n Names,
+    variable: &[u8],
+    tokens: &'t [Token],
+) -> Option<(ReadLine<'n>, &'t [Token])>
     ensures { option_map (λ r. and_rest (line_of names.now) names.now r) result ≡ line_first variable.now (spellings names.now tokens.now) }
 {
     let rest = after(names, tokens, b"{")?;
@@ -207,4 +277,46 @@ pub fn read_line<'n, 't>(names: &'n Names, variable: &[u8], tokens: &'t [Token])
         },
         rest,
     ))
+}
+
+/// `ORIGIN : LINE | LINE .. ;`; its rules go last.
+fn read_section<'n, 't>(
+    names: &'n Names,
+    variable: &[u8],
+    tokens: &'t [Token],
+    rules: &mut Vec<ReadRule<'n>>,
+) -> Result<&'t [Token], SmallFault>
+    ensures { IfOk result (λ rest. ReadsSection variable.now (spellings names.now tokens.now) (spellings names.now rest.now) (rules_in names.now rules.old.items) (rules_in names.now rules.new.items)) }
+{
+    let (source, rest) = read_origin(names, variable, tokens).ok_or(SmallFault::NotSmall)?;
+    let mut rest = after(names, rest, b":").ok_or(SmallFault::NotSmall)?;
+    'lines: loop {
+        let (line, others) = read_line(names, variable, rest).ok_or(SmallFault::NotSmall)?;
+        rules.push(ReadRule { source, line })?;
+        match after(names, others, b"|") {
+            Some(behind) => rest = behind,
+            None => {
+                let behind = after(names, others, b";").ok_or(SmallFault::NotSmall)?;
+                return Ok(behind);
+            }
+        }
+    }
+}
+
+/// Sections up to a closing brace; their rules go last.
+pub fn read_sections<'n, 't>(
+    names: &'n Names,
+    variable: &[u8],
+    tokens: &'t [Token],
+    rules: &mut Vec<ReadRule<'n>>,
+) -> Result<&'t [Token], SmallFault>
+    ensures { IfOk result (λ rest. ReadsSections variable.now (spellings names.now tokens.now) (spellings names.now rest.now) (rules_in names.now rules.old.items) (rules_in names.now rules.new.items)) }
+{
+    let mut rest = tokens;
+    'sections: loop {
+        match after(names, rest, b"}") {
+            Some(behind) => return Ok(behind),
+            None => rest = read_section(names, variable, rest, rules)?,
+        }
+    }
 }

@@ -30,6 +30,16 @@ impl From<AllocError> for SmallFault {
     }
 }
 
+impl<T: Drop> From<AllocFailed<T>> for SmallFault {
+    ghost use Rattle.metalcheck.specs.declared.small.text.SmallFault.TheVariants.{NoMemory};
+
+    ghost from_gives = { λ _ e. e ≡ NoMemory };
+
+    fn from(_failed: AllocFailed<T>) -> SmallFault {
+        SmallFault::NoMemory
+    }
+}
+
 /// What a part of a text is.
 #[derive(Clone, Copy)]
 pub enum Part {

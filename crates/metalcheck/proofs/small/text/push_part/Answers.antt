@@ -1,4 +1,4 @@
-use Rattle.std.proofs.Common.{◌≡◌, refl, ap, ◌∙◌, sym, ◌∷◌, [], Some}
+use Rattle.std.proofs.Common.{◌≡◌, refl, ◌∷◌, [], Some}
 use Rattle.std.specs.List.{slice_get}
 use Rattle.mx_base.specs.Names.{names_after}
 use Rattle.metalcheck.specs.SmallText.{bytes_of}

@@ -1,5 +1,4 @@
-use Rattle.std.proofs.Common.{◌≡◌, ◌<◌, length, get_or, refl, sym, ◌∙◌, ap, Some, arith}
-use Rattle.std.specs.List.{slice_get}
+use Rattle.std.proofs.Common.{◌<◌, length, refl, ◌∙◌, ap, Some}
 use Rattle.std.proofs.lemmas.Option.{slice_get_read}
 use Rattle.metalcheck.proofs.SmallParts.{quoted_front}
 use Rattle.metalcheck.proofs.small.text.quoted.Goals as goal

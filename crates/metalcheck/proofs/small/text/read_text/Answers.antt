@@ -1,4 +1,4 @@
-use Rattle.std.proofs.Common.{◌≡◌, ◌≤◌, ◌<◌, ◌+◌, length, refl, sym, ◌∙◌, ap, subst, Some, arith, take, drop}
+use Rattle.std.proofs.Common.{◌≡◌, length, refl, sym, ◌∙◌, ap, subst, Some, arith}
 use Rattle.std.specs.List.{slice_get}
 use Rattle.metalcheck.specs.SmallText.{bytes_of, spot_behind}
 use Rattle.metalcheck.specs.SmallFront.{piece_of, IsFront}
