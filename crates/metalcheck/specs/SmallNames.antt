@@ -21,5 +21,5 @@ gnu_words =
     ∷ codes "__inline" ∷ codes "__inline__" ∷ codes "__restrict" ∷ codes "__restrict__" ∷ codes "__const" ∷ codes "__const__"
     ∷ codes "__volatile" ∷ codes "__volatile__" ∷ codes "__signed" ∷ codes "__signed__" ∷ []
 
-abbrev pub is_name : List ℕ → Bool
-is_name w = is_word w && not (list_any (bytes_eq w) keywords) && not (list_any (bytes_eq w) gnu_words)
+unfoldable pub is_name : List ℕ → Bool
+is_name w = is_word w && not (list_any (λ k. bytes_eq k w) keywords) && not (list_any (λ k. bytes_eq k w) gnu_words)

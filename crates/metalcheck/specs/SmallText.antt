@@ -1,7 +1,7 @@
 -- Small texts: what a text is cut into, and where each part stands. A small text has no comments, numbers or markers; its
 -- parts are blanks, words, some punctuators, and strings without escapes.
-use Rattle.std.specs.Prelude.{◌≡◌, ◌≤◌, ℕ, ◌+◌, Bool, true, false, ◌&&◌, ◌||◌, not, nat_le, ◌==◌, if◌then◌else◌, List, [], ◌∷◌, ◌++◌, length, flat_map, map, slice_get, Option, Some, None, codes}
-use Rattle.std.specs.List.{list_all, list_any, filter_map}
+use Rattle.std.specs.Prelude.{◌≡◌, ℕ, ◌+◌, Bool, true, false, ◌&&◌, ◌||◌, not, nat_le, ◌==◌, if◌then◌else◌, List, [], ◌∷◌, ◌++◌, length, flat_map, slice_get, Some, codes}
+use Rattle.std.specs.List.{list_all}
 use Rattle.std.specs.Str.{bytes_eq}
 use Rattle.c_tree.specs.declared.keyword.Keyword.TheVariants.{Void, Char}
 use Rattle.c_tree.specs.declared.punctuator.Punctuator.{Punctuator}

@@ -121,7 +121,7 @@ fn check_bytes(
         Err(SmallFault::NoMemory) => return Err(Stopped::NoMemory),
     };
     let arena = Bump::new(alloc);
-    let function = match read_source(&arena, &tokens, names, bytes) {
+    let function = match read_source(&arena, &tokens, names) {
         Ok(function) => function,
         Err(SmallFault::NotSmall) => return Err(Stopped::Faulty(Fault::NotYet)),
         Err(SmallFault::NoMemory) => return Err(Stopped::NoMemory),

@@ -1,0 +1,108 @@
+-- The two files of a request, one after the other: what is known once the first, and once the second, is read and judged.
+use Rattle.std.proofs.Common.{◌≡◌, ◌⊎◌, inl, inr, ℕ, zero, suc, ◌+◌, ◌-◌, ◌<◌, ◌≤◌, min, List, [], ◌∷◌, ◌++◌, length, slice_get, Option, Some, None, refl, sym, ap, ◌∙◌, subst, arith}
+use Rattle.mx_base.specs.Names.{HasNoRepeats}
+use Rattle.mx_io.specs.Reads.{Stands}
+use Rattle.path_model.specs.declared.machine.Machine.{Machine}
+use Rattle.path_model.specs.declared.machine.Pattern.{Pattern}
+use Rattle.path_model.specs.declared.machine.Pattern.TheVariants as patterns
+use Rattle.path_model.specs.declared.machine.Rule.{Rule}
+use Rattle.path_model.specs.declared.machine.Source.{Source}
+use Rattle.path_model.specs.declared.machine.Source.TheVariants as sources
+use Rattle.path_model.specs.declared.machine.Target.{Target}
+use Rattle.path_model.specs.declared.machine.Target.TheVariants as targets
+use Rattle.path_model.specs.declared.report.Report.{Report}
+use Rattle.metalcheck.specs.declared.fault.Fault.{Fault}
+use Rattle.metalcheck.specs.Judged.{IsJudged}
+use Rattle.metalcheck.specs.Reading.{total_limit, file_limit, HasFault, IsSmall, IsSound, AreSound, IsTurn, FailedAt, FaultyAt, left_after}
+use Rattle.metalcheck.specs.SmallBody.{IsBody}
+use Rattle.metalcheck.specs.SmallChecker.{Checker, Origin, Start, State, Shape, Call, Dereference, Line, IsSmallChecker, IsMachine, IsSource, IsPattern, IsTarget, IsRule, AreRules, rules_of}
+use Rattle.metalcheck.specs.SmallSource as source
+use Rattle.metalcheck.specs.Stages.{IsLoaded, IsChecked}
+
+-- a machine stays what it is when names are added
+module _ (old new : List (List ℕ)) (kept : (n : ℕ) (t : List ℕ) → slice_get old n ≡ Some t → slice_get new n ≡ Some t) where
+  source_kept : (o : Origin) (s : Source) → IsSource old o s → IsSource new o s
+  source_kept Start sources.Start h = tt
+  source_kept Start (sources.State n) h = absurd h
+  source_kept (State t) sources.Start h = absurd h
+  source_kept (State t) (sources.State n) h = kept n t h
+
+  pattern_kept : (s : Shape) (p : Pattern) → IsPattern old s p → IsPattern new s p
+  pattern_kept (Call g) (patterns.Call n) h = kept n g h
+  pattern_kept (Call g) patterns.Dereference h = absurd h
+  pattern_kept Dereference (patterns.Call n) h = absurd h
+  pattern_kept Dereference patterns.Dereference h = tt
+
+  target_kept : (t : List ℕ) (target : Target) → IsTarget old t target → IsTarget new t target
+  target_kept t targets.Unknown h = h
+  target_kept t (targets.State n) h = (kept n t h.0, h.1)
+
+  rules_kept : (number : ℕ) (xs : List (Origin × Line)) (rs : List Rule) → AreRules old number xs rs → AreRules new number xs rs
+  rules_kept number [] [] h = tt
+  rules_kept number [] (r ∷ rs) h = absurd h
+  rules_kept number (x ∷ xs) [] h = absurd h
+  rules_kept number (x ∷ xs) (r ∷ rs) h = (
+    record {
+      number_is = h.0.number_is;
+      source = source_kept x.0 r.source h.0.source;
+      pattern = pattern_kept x.1.shape r.pattern h.0.pattern;
+      target = target_kept x.1.target r.target h.0.target;
+      message = h.0.message;
+    },
+    rules_kept (number + 1) xs rs h.1,
+  )
+
+  pub machine_kept : (c : Checker) (machine : Machine) → IsMachine old c machine → IsMachine new c machine
+  machine_kept c machine m = record { name = kept machine.name c.name m.name; rules = rules_kept 1 (rules_of c) machine.rules.items m.rules }
+
+-- the text of a body is small
+pub small_of_body : (names : List (List ℕ)) (word bytes : List ℕ) (s : source.Source) (body : _) → IsBody names word bytes s body → source.IsSmallSource bytes s
+small_of_body names word bytes s body b = record { pieces = b.tokens.pieces; cut = b.tokens.cut; spelled = b.spelled; well = b.well }
+
+module _ (told : List ℕ → Option (List ℕ)) (c s : List ℕ) (old new : List (List ℕ)) where
+  first_turn : IsTurn told (c ∷ s ∷ []) 0
+  first_turn = record { texts = []; before = record { agree = tt; sound = tt }; count = refl; name = c; named = refl }
+
+  pub first_failed : new ≡ old ++ c ∷ [] → FailedAt told (c ∷ s ∷ []) old new 0
+  first_failed e = record { turn = first_turn; grew = e }
+
+  pub first_faulty : (fault : Fault) (bytes : List ℕ) → Stands (told c) bytes → HasFault 0 33554432 bytes fault → FaultyAt told (c ∷ s ∷ []) 0 fault
+  first_faulty fault bytes stands h = record { turn = first_turn; bytes = bytes; stands = stands; faulty = h }
+
+  module _ (names : List (List ℕ)) (size : ℕ) (machine : Machine) (l : IsLoaded (told c) names size machine) where
+    pub first_sound : IsSound 0 total_limit l.bytes
+    first_sound = record { fits = omega (arith, l.sized, l.fits); small = (l.checker, l.small) }
+
+    second_turn : IsTurn told (c ∷ s ∷ []) 1
+    second_turn = record { texts = l.bytes ∷ []; before = record { agree = (l.stands, tt); sound = (first_sound, tt) }; count = refl; name = s; named = refl }
+
+    pub second_failed : new ≡ old ++ s ∷ [] → FailedAt told (c ∷ s ∷ []) old new 1
+    second_failed e = record { turn = second_turn; grew = e }
+
+    pub second_faulty : (fault : Fault) (left : ℕ) (bytes : List ℕ) → left ≡ 33554432 - size → Stands (told s) bytes → HasFault 1 left bytes fault → FaultyAt told (c ∷ s ∷ []) 1 fault
+    second_faulty fault left bytes e stands h =
+        let same : left ≡ 33554432 - length l.bytes = e ∙ ap (λ n. 33554432 - n) (sym l.sized) in
+        record { turn = second_turn; bytes = bytes; stands = stands; faulty = subst (λ n. HasFault 1 n bytes fault) same h }
+
+    module _ (grown : List (List ℕ)) (left : ℕ) (reports : List Report) (e : left ≡ 33554432 - size) (k : IsChecked (told s) left grown s machine reports) where
+      pub both_sound : AreSound told (c ∷ s ∷ []) (l.bytes ∷ k.bytes ∷ [])
+      both_sound =
+          let same : left ≡ 33554432 - length l.bytes = e ∙ ap (λ n. 33554432 - n) (sym l.sized) in
+          record {
+            agree = (l.stands, (k.stands, tt));
+            sound = (first_sound, (record { fits = subst (λ n. length k.bytes ≤ min file_limit n) same k.fits; small = (k.has.source, small_of_body grown s k.bytes k.has.source k.has.body k.has.body_is) }, tt));
+          }
+
+      pub judged : HasNoRepeats grown → ((n : ℕ) (t : List ℕ) → slice_get names n ≡ Some t → slice_get grown n ≡ Some t) → IsJudged s l.bytes k.bytes reports
+      judged distinct kept = record {
+        names = grown;
+        distinct = distinct;
+        checker = l.checker;
+        small_checker = l.small;
+        machine = machine;
+        machine_is = machine_kept names grown kept l.checker machine l.machine_is;
+        source = k.has.source;
+        body = k.has.body;
+        body_is = k.has.body_is;
+        reports_are = k.has.reports_are;
+      }

@@ -1,0 +1,26 @@
+use Rattle.std.proofs.Common.{◌≡◌, ◌≤◌, [], length, ap, sym, subst, refl, Some, arith, true, ◌==◌}
+use Rattle.std.specs.List.{All}
+use Rattle.std.proofs.lemmas.List.{length-map}
+use Rattle.metalcheck.specs.SmallChecker.{AreRules}
+use Rattle.metalcheck.specs.SmallReading.{head_first, spellings, text_at}
+use Rattle.metalcheck.specs.SmallViews.{IsWellRule, ReadsSections, rule_of, rules_in}
+use Rattle.metalcheck.proofs.SmallCheckers.{read_well, whole_checker, empty_list}
+use Rattle.metalcheck.proofs.small.machine.read_checker.Goals as goal
+
+pub returns : goal.returns
+returns c =
+    let names = c.args.names.now in
+    let v = text_at names c.in_ok-head.head.variable in
+    let read = rules_in names c.read_sections.new.rules.items in
+    let head : head_first (spellings names c.args.tokens.now) ≡ Some ((text_at names c.in_ok-head.head.name, v), spellings names c.in_ok-head.rest.now) =
+    sym (rw c.in_ok-head.ensures.ok_part at c.read_head.ensures) in
+    let empty : (length c.in_ok-rest.rest.now == 0) ≡ true = grind (arith, c.is_empty.ensures, c.if-not-is_empty.false) in
+    let over : spellings names c.in_ok-rest.rest.now ≡ [] = ap (spellings names) (empty_list c.in_ok-rest.rest.now empty) in
+    let sections : ReadsSections v (spellings names c.in_ok-head.rest.now) [] [] read =
+    subst (λ x. ReadsSections x (spellings names c.in_ok-head.rest.now) [] [] read) c.text.ensures
+    (subst (λ old. ReadsSections c.text.result.now (spellings names c.in_ok-head.rest.now) [] old read) (ap (rules_in names) c.new-read.ensures.items)
+    (subst (λ r. ReadsSections c.text.result.now (spellings names c.in_ok-head.rest.now) r (rules_in names c.new-read.result.items) read) over c.in_ok-rest.ensures)) in
+    let same : rules_in names c.as_slice.result.now ≡ read = ap (rules_in names) c.as_slice.ensures.value in
+    let well : All (IsWellRule v) (rules_in names c.as_slice.result.now) = subst (All (IsWellRule v)) (sym same) (read_well v _ _ read sections) in
+    let few : length read ≤ 1000 = omega (arith, length-map c.read_sections.new.rules.items (rule_of names)) in
+    record { ok = whole_checker names _ _ c.in_ok-head.head.name v read _ head sections few refl (subst (λ l. AreRules names 1 l c.in_ok-rules.rules.items) same (c.in_ok-rules.ensures v well)) }

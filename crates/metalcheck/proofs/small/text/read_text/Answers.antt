@@ -1,0 +1,50 @@
+use Rattle.std.proofs.Common.{◌≡◌, length, refl, sym, ◌∙◌, ap, subst, Some, arith}
+use Rattle.std.specs.List.{slice_get}
+use Rattle.metalcheck.specs.SmallText.{bytes_of, spot_behind}
+use Rattle.metalcheck.specs.SmallFront.{piece_of, IsFront}
+use Rattle.metalcheck.specs.SmallTokens.{IsExtension, ArePushed, spot_of}
+use Rattle.metalcheck.proofs.SmallCutting.{cut_nothing, cut_more}
+use Rattle.metalcheck.proofs.SmallGrowth.{number_named, after_extends, extended_twice, length-names_after}
+use Rattle.metalcheck.proofs.small.text.read_text.Goals as goal
+
+pub cutting-init : goal.cutting-init
+cutting-init c = record {
+  cut =
+      let named : slice_get c.intern.new.self c.in_ok-source.source ≡ Some c.args.word.now =
+      cc (number_named c.args.names.now c.args.word.now, c.in_ok-source.ensures.names, c.in_ok-source.ensures.number) in
+      cut_nothing _ _ _ _ _ _ named c.new-tokens.ensures.items;
+  file = refl;
+  kept = subst (λ l. IsExtension c.args.names.now l) (sym c.in_ok-source.ensures.names) (after_extends c.args.names.now c.args.word.now);
+  room = omega (arith, length-names_after c.args.names.now c.args.word.now, ap length c.in_ok-source.ensures.names);
+  start = omega arith;
+  line = omega arith;
+  col = omega arith;
+  token = omega arith;
+}
+
+pub cutting-preserved : goal.cutting-preserved
+cutting-preserved c =
+    let front : IsFront c.cutting.rest.now c.in-Some.part c.in-Some.len = c.in-Some.ensures in
+    let spelled : bytes_of (piece_of c.in-Some.part c.split_at.result.0.now) ≡ c.split_at.result.0.now =
+    subst (λ l. bytes_of (piece_of c.in-Some.part l) ≡ l) (sym c.split_at.ensures.front) front.spelled in
+    let moved = c.behind-cursor.ensures.moved in
+    let some = front.some in
+    let fewer = c.in_ok-push_part.ensures.room in
+    let split = c.split_at.ensures.back_len in
+    let first = c.split_at.ensures.front_len in
+    record {
+      cut =
+          cut_more _ _ c.args.word.now c.args.bytes.now c.cutting.rest.now c.split_at.result.1.now c.cutting.cursor c.behind-cursor.result _ _ c.in-Some.part c.in-Some.len
+          c.cutting.invariant.cut front c.split_at.ensures.back c.in_ok-push_part.ensures.kept
+          (subst (λ l. ArePushed c.push_part.new.names c.cutting.cursor.file c.args.word.now (spot_of c.cutting.cursor) (piece_of c.in-Some.part l) c.cutting.tokens.items c.push_part.new.tokens.items)
+          c.split_at.ensures.front (c.in_ok-push_part.ensures.ok c.args.word.now c.cutting.invariant.cut.source spelled))
+          (c.behind-cursor.ensures.spot spelled ∙ ap (λ l. spot_behind (piece_of c.in-Some.part l) (spot_of c.cutting.cursor)) c.split_at.ensures.front)
+          moved.file moved.source;
+      file = moved.file ∙ c.cutting.invariant.file;
+      kept = extended_twice _ _ _ c.cutting.invariant.kept c.in_ok-push_part.ensures.kept;
+      room = omega (arith, some, fewer, split, c.cutting.invariant.room);
+      start = omega (arith, moved.start, first, split, c.cutting.invariant.start);
+      line = omega (arith, moved.start, moved.line, c.cutting.invariant.line);
+      col = omega (arith, moved.start, moved.col, c.cutting.invariant.col);
+      token = omega (arith, moved.start, moved.token, c.cutting.invariant.token);
+    }

@@ -1,0 +1,19 @@
+use Rattle.std.proofs.Common.{◌≡◌, ◌+◌, ◌≤◌, length}
+use Rattle.metalcheck.specs.SmallTokens.{IsExtension}
+use Rattle.metalcheck.proofs.SmallCutting.{IsCutTo}
+use Rattle.metalcheck.proofs.small.text.read_text.Given as goal
+
+abbrev pub invariant-cutting : goal.invariant-cutting
+invariant-cutting l = record {
+  cut : IsCutTo l.names l.word l.bytes l.rest l.cursor l.tokens.items;
+  file : l.cursor.file ≡ l.file;
+  kept : IsExtension l.fn.names l.names;
+  room : length l.names + length l.rest ≤ length l.fn.names + length l.bytes + 1;
+  start : l.cursor.start + length l.rest ≡ length l.bytes;
+  line : l.cursor.line ≤ l.cursor.start + 1;
+  col : l.cursor.col ≤ l.cursor.start + 1;
+  token : l.cursor.token ≤ l.cursor.start;
+}
+
+abbrev pub decreases-cutting : goal.decreases-cutting
+decreases-cutting l = length l.rest
