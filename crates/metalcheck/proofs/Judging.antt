@@ -60,7 +60,7 @@ pub small_of_body : (names : List (List ℕ)) (word bytes : List ℕ) (s : sourc
 small_of_body names word bytes s body b = record { pieces = b.tokens.pieces; cut = b.tokens.cut; spelled = b.spelled; well = b.well }
 
 module _ (told : List ℕ → Option (List ℕ)) (c s : List ℕ) (old new : List (List ℕ)) where
-  first_turn : IsTurn told (c ∷ s ∷ []) 0
+  abbrev first_turn : IsTurn told (c ∷ s ∷ []) 0
   first_turn = record { texts = []; before = record { agree = tt; sound = tt }; count = refl; name = c; named = refl }
 
   pub first_failed : new ≡ old ++ c ∷ [] → FailedAt told (c ∷ s ∷ []) old new 0
@@ -70,10 +70,10 @@ module _ (told : List ℕ → Option (List ℕ)) (c s : List ℕ) (old new : Lis
   first_faulty fault bytes stands h = record { turn = first_turn; bytes = bytes; stands = stands; faulty = h }
 
   module _ (names : List (List ℕ)) (size : ℕ) (machine : Machine) (l : IsLoaded (told c) names size machine) where
-    pub first_sound : IsSound 0 total_limit l.bytes
+    abbrev pub first_sound : IsSound 0 total_limit l.bytes
     first_sound = record { fits = omega (arith, l.sized, l.fits); small = (l.checker, l.small) }
 
-    second_turn : IsTurn told (c ∷ s ∷ []) 1
+    abbrev second_turn : IsTurn told (c ∷ s ∷ []) 1
     second_turn = record { texts = l.bytes ∷ []; before = record { agree = (l.stands, tt); sound = (first_sound, tt) }; count = refl; name = s; named = refl }
 
     pub second_failed : new ≡ old ++ s ∷ [] → FailedAt told (c ∷ s ∷ []) old new 1

@@ -1,6 +1,7 @@
 pub mod Finding
 pub mod Judging
 pub mod Members
+pub mod Plans
 pub mod Reporting
 pub mod SmallBodies
 pub mod SmallCheckers

