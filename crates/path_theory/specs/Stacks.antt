@@ -1,0 +1,23 @@
+-- A path as the run of its last frame on the frames below, and what it does to the state.
+use Rattle.std.specs.Prelude.{Bool, true, false, None}
+use Rattle.path_theory.specs.Model.{Model, Machine}
+use Rattle.path_theory.specs.Paths.{Below, Bottom, Waits, Now}
+use Rattle.path_theory.specs.Runs.{Run, run_global, run_map}
+
+module _ (M : Model) (K : Machine M) where
+  -- the frames up to the entry of the last one
+  pub data Opened : M.Fn → Bool → Below M K → Type 0 where
+    OfRoot : {f : M.Fn} → K.IsRoot f → Opened f true Bottom
+    OfCall : {f : M.Fn} {k : Bool} {p q : K.Place} {b : Below M K} → Opened f k b → Run M K f p → (s : M.Site) → (h : M.Fn) → K.Jumps f p s h q → Opened h false (Waits f k s q b)
+
+  -- the state in which a frame goes on, from that at its entry
+  abbrev pub now_after : {f : M.Fn} {p : K.Place} {b : Below M K} → Run M K f p → Bool → Now M K b → Now M K b
+  now_after R k n = record { global = run_global M K R k n.global; here = run_map M K R k n.global n.here; below = n.below }
+
+  abbrev pub at_call : {b : Below M K} (f : M.Fn) (k : Bool) (q : K.Place) (s : M.Site) → Now M K b → Now M K (Waits f k s q b)
+  at_call f k q s n = record { global = n.global; here = M.entered s n.here; below = (n.here, n.below) }
+
+  -- the state at the entry of the last frame
+  abbrev pub at_entry : {f : M.Fn} {k : Bool} {b : Below M K} → Opened f k b → Now M K b
+  at_entry (OfRoot r) = record { global = M.start; here = λ o. None; below = tt }
+  at_entry (OfCall {f = f} {k = k} {q = q} O R s h t) = at_call f k q s (now_after R k (at_entry O))
