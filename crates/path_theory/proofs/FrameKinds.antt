@@ -1,25 +1,28 @@
 -- A context that frames of both kinds begin has the same entries in both, up to the end of the frame.
 use Rattle.std.proofs.Common.{◌≡◌, Bool, false, Option, Some, None, refl, sym, ◌∙◌, ap}
 use Rattle.std.proofs.Math.Path.{fun_ext}
-use Rattle.path_theory.specs.Model.{Model, Machine}
+use Rattle.path_theory.specs.Model.{Model}
+use Rattle.path_theory.specs.Supergraph.{Supergraph}
 use Rattle.path_theory.specs.Paths.{Map, stepped}
-use Rattle.path_theory.specs.Runs.{Local, IsLocal, Run, Here, Skipped, Gone, Closed, run_global, run_map, origin}
-use Rattle.path_theory.specs.Stacks.{at_entry}
-use Rattle.path_theory.specs.Derivable.{Nobody, Tracks, seen, Objects, Tuple, Realised, IsTracked}
-use Rattle.path_theory.specs.Blocks.{Graphs, Spot, Head, In, Skipping, Opens, Moves_on, Going, Does_one, Jumping, Leaps, machine}
-use Rattle.path_theory.specs.RootFrame.{Exits, EachStays, ExitsApart}
+use Rattle.path_theory.specs.Origins.{Origins, IsLocal}
+use Rattle.path_theory.specs.Runs.{Run, Here, Skipped, Gone, Closed, run_global, run_map, origin}
+use Rattle.path_theory.specs.OpenFrames.{at_entry}
+use Rattle.path_theory.specs.Facts.{NoObject, HasObject, fact_of, Objects, Fact}
+use Rattle.path_theory.specs.Realised.{Realised, IsTracked}
+use Rattle.path_theory.specs.FlowGraphs.{FlowGraphs, Point, Head, Before, PointSkips, EntersBlock, LeavesBlock, PointGoes, PassesEvent, PointCalls, MakesCall, supergraph}
+use Rattle.path_theory.specs.FrameEnds.{Exits, EachStays, ExitsApart}
 use Rattle.path_theory.proofs.Independence.{independent}
 use Rattle.path_theory.proofs.Sound.{seen_some}
 
-bare_object : {O S B : Type 0} (o : O) (x : Option S) → Tracks o x ≡ Nobody → B
+bare_object : {O S B : Type 0} (o : O) (x : Option S) → HasObject o x ≡ NoObject → B
 bare_object o x e = cc
 
-seen_same : {O S : Type 0} (z : Option O) (m n : O → Option S) → ((b : O) → z ≡ Some b → m b ≡ n b) → seen z m ≡ seen z n
+seen_same : {O S : Type 0} (z : Option O) (m n : O → Option S) → ((b : O) → z ≡ Some b → m b ≡ n b) → fact_of z m ≡ fact_of z n
 seen_same None m n h = refl
-seen_same (Some o) m n h = ap (Tracks o) (h o refl)
+seen_same (Some o) m n h = ap (HasObject o) (h o refl)
 
-module _ (M : Model) (L : Local M) (E : Exits M L) where
-  module _ (K : Machine M) where
+module _ (M : Model) (L : Origins M) (E : Exits M L) where
+  module _ (K : Supergraph M) where
     -- no event of the frame itself ends it
     abbrev pub IsInside : {f : M.Fn} {p : K.Place} → Run M K f p → Type 0
     IsInside Here = Unit {0}
@@ -30,14 +33,14 @@ module _ (M : Model) (L : Local M) (E : Exits M L) where
     pub kind_global : {f : M.Fn} {p : K.Place} (R : Run M K f p) (k l : Bool) (g : M.Global) → IsInside R → run_global M K R k g ≡ run_global M K R l g
     kind_global Here k l g i = refl
     kind_global (Skipped R t) k l g i = kind_global R k l g i
-    kind_global (Gone {f = f} R e t) k l g i = E.same_global e i.0 f k l (run_global M K R k g) ∙ ap (M.next_global e f l) (kind_global R k l g i.1)
+    kind_global (Gone {f = f} R e t) k l g i = E.same.global e i.0 f k l (run_global M K R k g) ∙ ap (M.next_global e f l) (kind_global R k l g i.1)
     kind_global (Closed R s t C e) k l g i = ap (run_global M K C false) (kind_global R k l g i)
 
     pub kind_map : {f : M.Fn} {p : K.Place} (R : Run M K f p) (k l : Bool) (g : M.Global) (m : Map M) → IsInside R → run_map M K R k g m ≡ run_map M K R l g m
     kind_map Here k l g m i = refl
     kind_map (Skipped R t) k l g m i = kind_map R k l g m i
     kind_map (Gone {f = f} R e t) k l g m i =
-        fun_ext (λ o. E.same_choice e i.0 f k l (run_global M K R k g) o (M.moved e (run_map M K R k g m) o))
+        fun_ext (λ o. E.same.choice e i.0 f k l (run_global M K R k g) o (M.moved e (run_map M K R k g m) o))
         ∙ ap (λ y. stepped M e f l y (run_map M K R k g m)) (kind_global R k l g i.1)
         ∙ ap (stepped M e f l (run_global M K R l g)) (kind_map R k l g m i.1)
     kind_map (Closed R s t C e) k l g m i =
@@ -46,21 +49,21 @@ module _ (M : Model) (L : Local M) (E : Exits M L) where
 
     module _ (I : IsLocal M L) (A : Objects M) where
       -- the entry tuple is that of the frame's entry
-      entry_state : {f : M.Fn} {p : K.Place} (R : Run M K f p) (k : Bool) (g : M.Global) (m : Map M) (t₀ t : Tuple M) → IsTracked M K L A R k g m t₀ t → (b : M.Obj) (x : Option M.State) → t₀ ≡ Tracks b x → m b ≡ x
-      entry_state R k g m t₀ Nobody w b x d = bare_object b x (sym d ∙ w)
-      entry_state R k g m t₀ (Tracks o y) w b x d = sym (seen_some (origin M K L R o) m b x (sym d ∙ w.1)).1
+      entry_state : {f : M.Fn} {p : K.Place} (R : Run M K f p) (k : Bool) (g : M.Global) (m : Map M) (t₀ t : Fact M) → IsTracked M K L R k g m t₀ t → (b : M.Obj) (x : Option M.State) → t₀ ≡ HasObject b x → m b ≡ x
+      entry_state R k g m t₀ NoObject w b x d = bare_object b x (sym d ∙ w)
+      entry_state R k g m t₀ (HasObject o y) w b x d = sym (seen_some (origin M K L R o) m b x (sym d ∙ w.1)).1
 
       -- what a run gives from one frame's entry it gives from another's with the same context
-      tracked_other : {f : M.Fn} {p : K.Place} (R : Run M K f p) → IsInside R → (k l : Bool) (g h : M.Global) (m n : Map M) (t₀ t : Tuple M) → g ≡ h → ((b : M.Obj) (x : Option M.State) → t₀ ≡ Tracks b x → n b ≡ x) → IsTracked M K L A R k g m t₀ t → IsTracked M K L A R l h n t₀ t
-      tracked_other R i k l g h m n t₀ Nobody q e w = w
-      tracked_other R i k l g h m n t₀ (Tracks o x) q e w =
-          let same : (b : M.Obj) → origin M K L R o ≡ Some b → n b ≡ m b = λ b d. e b (m b) (w.1 ∙ ap (λ z. seen z m) d) in (
+      tracked_other : {f : M.Fn} {p : K.Place} (R : Run M K f p) → IsInside R → (k l : Bool) (g h : M.Global) (m n : Map M) (t₀ t : Fact M) → g ≡ h → ((b : M.Obj) (x : Option M.State) → t₀ ≡ HasObject b x → n b ≡ x) → IsTracked M K L R k g m t₀ t → IsTracked M K L R l h n t₀ t
+      tracked_other R i k l g h m n t₀ NoObject q e w = w
+      tracked_other R i k l g h m n t₀ (HasObject o x) q e w =
+          let same : (b : M.Obj) → origin M K L R o ≡ Some b → n b ≡ m b = λ b d. e b (m b) (w.1 ∙ ap (λ z. fact_of z m) d) in (
             independent M K L I R l h n m o same ∙ ap (λ y. run_map M K R l y m o) (sym q) ∙ ap (λ (y : Map M). y o) (sym (kind_map R k l g m i)) ∙ w.0,
             w.1 ∙ seen_same (origin M K L R o) m n (λ b d. sym (same b d)),
           )
 
       -- a context that a frame of another kind begins too has the same entries there
-      pub other_kind : {f : M.Fn} {k l : Bool} {g₀ g h : M.Global} {t₀ t u : Tuple M} {p q : K.Place} (w : Realised M K L A f k g₀ t₀ p g t) → IsInside w.run → Realised M K L A f l g₀ t₀ q h u → Realised M K L A f l g₀ t₀ p g t
+      pub other_kind : {f : M.Fn} {k l : Bool} {g₀ g h : M.Global} {t₀ t u : Fact M} {p q : K.Place} (w : Realised M K L f k g₀ t₀ p g t) → IsInside w.run → Realised M K L f l g₀ t₀ q h u → Realised M K L f l g₀ t₀ p g t
       other_kind {k = k} {l = l} {t₀ = t₀} {t = t} {u = u} w i v =
           let same = w.entry ∙ sym v.entry in
           record {
@@ -72,23 +75,23 @@ module _ (M : Model) (L : Local M) (E : Exits M L) where
             tracked = tracked_other w.run i k l _ _ _ _ t₀ t same (entry_state v.run l _ _ t₀ u v.tracked) w.tracked;
           }
 
-  module _ (G : Graphs M) (X : ExitsApart M L E G) where
+  module _ (G : FlowGraphs M) (X : ExitsApart M L E G) where
     -- up to the head of a block no event ends the frame
-    abbrev Stayed : {f : M.Fn} → (p : Spot G.Block M.Event) → Run M (machine M G) f p → Type 0
-    Stayed (Head b) R = IsInside (machine M G) R
-    Stayed {f = f} (In b es) R = EachStays E (G.events f b) → IsInside (machine M G) R × EachStays E es
+    abbrev Stayed : {f : M.Fn} → (p : Point G.Block M.Event) → Run M (supergraph M G) f p → Type 0
+    Stayed (Head b) R = IsInside (supergraph M G) R
+    Stayed {f = f} (Before b es) R = EachStays E (G.events f b) → IsInside (supergraph M G) R × EachStays E es
 
-    skip_stays : {f : M.Fn} (p q : Spot G.Block M.Event) (R : Run M (machine M G) f p) (t : Skipping M G f p q) → Stayed p R → Stayed q (Skipped R t)
-    skip_stays _ _ R (Opens b) h = λ a. (h, a)
-    skip_stays _ _ R (Moves_on n) h = (h (X.next n)).0
+    skip_stays : {f : M.Fn} (p q : Point G.Block M.Event) (R : Run M (supergraph M G) f p) (t : PointSkips M G f p q) → Stayed p R → Stayed q (Skipped R t)
+    skip_stays _ _ R (EntersBlock b) h = λ a. (h, a)
+    skip_stays _ _ R (LeavesBlock n) h = (h (X.next n)).0
 
-    go_stays : {f : M.Fn} (p q : Spot G.Block M.Event) (R : Run M (machine M G) f p) (e : M.Event) (t : Going M G f p e q) → Stayed p R → Stayed q (Gone R e t)
-    go_stays _ _ R _ (Does_one b e es) h = λ a. let w = h a in ((w.1.0, w.0), w.1.1)
+    go_stays : {f : M.Fn} (p q : Point G.Block M.Event) (R : Run M (supergraph M G) f p) (e : M.Event) (t : PointGoes M G f p e q) → Stayed p R → Stayed q (Gone R e t)
+    go_stays _ _ R _ (PassesEvent b e es) h = λ a. let w = h a in ((w.1.0, w.0), w.1.1)
 
-    closed_stays : {f h : M.Fn} (p q r : Spot G.Block M.Event) (R : Run M (machine M G) f p) (s : M.Site) (t : Jumping M G f p s h q) (C : Run M (machine M G) h r) (e : (machine M G).Ends h r) → Stayed p R → Stayed q (Closed R s t C e)
-    closed_stays _ _ r R s (Leaps j) C e h = (h (X.jump j)).0
+    closed_stays : {f h : M.Fn} (p q r : Point G.Block M.Event) (R : Run M (supergraph M G) f p) (s : M.Site) (t : PointCalls M G f p s h q) (C : Run M (supergraph M G) h r) (e : (supergraph M G).Ends h r) → Stayed p R → Stayed q (Closed R s t C e)
+    closed_stays _ _ r R s (MakesCall j) C e h = (h (X.call j)).0
 
-    pub stayed : {f : M.Fn} {p : Spot G.Block M.Event} (R : Run M (machine M G) f p) → Stayed p R
+    pub stayed : {f : M.Fn} {p : Point G.Block M.Event} (R : Run M (supergraph M G) f p) → Stayed p R
     stayed Here = tt
     stayed (Skipped R t) = skip_stays _ _ R t (stayed R)
     stayed (Gone R e t) = go_stays _ _ R e t (stayed R)

@@ -1,8 +1,10 @@
 -- One object's state after a run, from the one object's state before it.
 use Rattle.std.proofs.Common.{◌≡◌, Bool, false, Option, Some, None, refl, sym, ◌∙◌, ap}
-use Rattle.path_theory.specs.Model.{Model, Machine}
+use Rattle.path_theory.specs.Model.{Model}
+use Rattle.path_theory.specs.Supergraph.{Supergraph}
 use Rattle.path_theory.specs.Paths.{Map}
-use Rattle.path_theory.specs.Runs.{Local, IsLocal, and_then, handed, Run, Here, Skipped, Gone, Closed, run_global, run_map, origin}
+use Rattle.path_theory.specs.Origins.{Origins, IsLocal, and_then, handed}
+use Rattle.path_theory.specs.Runs.{Run, Here, Skipped, Gone, Closed, run_global, run_map, origin}
 
 -- two maps that agree at an object, where there is one
 pub then_same : {O S : Type 0} (x : Option O) (m n : O → Option S) → ((o : O) → x ≡ Some o → m o ≡ n o) → and_then x m ≡ and_then x n
@@ -13,7 +15,7 @@ pub handed_same : {O S : Type 0} (x : Option O) (m n : O → Option S) (a b : Op
 handed_same None m n a b h i = i refl
 handed_same (Some o) m n a b h i = h o refl
 
-module _ (M : Model) (K : Machine M) (L : Local M) (I : IsLocal M L) where
+module _ (M : Model) (K : Supergraph M) (L : Origins M) (I : IsLocal M L) where
   -- the state of an object after a run depends on that of its origin alone
   pub independent : {f : M.Fn} {p : K.Place} (R : Run M K f p) (k : Bool) (g : M.Global) (m n : Map M) (o : M.Obj) → ((b : M.Obj) → origin M K L R o ≡ Some b → m b ≡ n b) → run_map M K R k g m o ≡ run_map M K R k g n o
   independent Here k g m n o h = h o refl

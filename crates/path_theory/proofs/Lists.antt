@@ -1,8 +1,11 @@
 -- Paths as lists of actions are the paths.
 use Rattle.std.proofs.Common.{◌≡◌, Bool, List, [], ◌∷◌, inl, inr, refl, sym, ◌∙◌, ap, subst}
-use Rattle.path_theory.specs.Model.{Model, Machine, Trail, Start, More}
-use Rattle.path_theory.specs.Paths.{Below, Bottom, Waits, Path, Begin, Skip, Go, Call, Return, Maps, Now, after, Reported, Of, OfGlobal}
-use Rattle.path_theory.specs.Actions.{Action, Did, Called, Returned, Actions, Frame, State, go, call, back_to, fold, root_of, actions_of, IsPath, Taken, Errors, InErrors}
+use Rattle.path_theory.specs.Model.{Model}
+use Rattle.path_theory.specs.Supergraph.{Supergraph}
+use Rattle.path_theory.specs.Trails.{Trail, Start, More}
+use Rattle.path_theory.specs.Paths.{Callers, NoCaller, Waiting, Path, Begin, Skip, Go, Call, Return, Maps, Now, after, Reported, ReportOf, ReportOfGlobal}
+use Rattle.path_theory.specs.Actions.{Action, Did, Called, Returned, Actions, Frame, State, go, call, back_to, fold, Errors}
+use Rattle.path_theory.specs.FlatPaths.{root_of, actions_of, IsPath, Taken, InErrors}
 
 start_more : {A B : Type 0} {l : Trail A} {a : A} → Start ≡ More l a → B
 start_more d = cc
@@ -19,16 +22,16 @@ called_did d = cc
 returned_did : {E S F B : Type 0} {l m : Trail (Action E S F)} {a : E} {s : S} → More l (Returned s) ≡ More m (Did a) → B
 returned_did d = cc
 
-module _ (M : Model) (K : Machine M) where
-  abbrev pub frames : (b : Below M K) → Maps M K b → List (Frame M)
-  frames Bottom m = []
-  frames (Waits f k s q b) m = record { fn = f; is_root = k; map = m.0 } ∷ frames b m.1
+module _ (M : Model) (K : Supergraph M) where
+  abbrev pub frames : (b : Callers M K) → Maps M K b → List (Frame M)
+  frames NoCaller m = []
+  frames (Waiting f k s q b) m = record { fn = f; is_root = k; map = m.0 } ∷ frames b m.1
 
-  abbrev pub state_of : {b : Below M K} (f : M.Fn) (k : Bool) → Now M K b → State M
+  abbrev pub state_of : {b : Callers M K} (f : M.Fn) (k : Bool) → Now M K b → State M
   state_of {b = b} f k n = record { global = n.global; top = record { fn = f; is_root = k; map = n.here }; below = frames b n.below }
 
   -- the state after a path is that of its list
-  pub folded : {f : M.Fn} {k : Bool} {p : K.Place} {b : Below M K} (P : Path M K f k p b) → fold M (root_of M K P) (actions_of M K P) ≡ state_of f k (after M K P)
+  pub folded : {f : M.Fn} {k : Bool} {p : K.Place} {b : Callers M K} (P : Path M K f k p b) → fold M (root_of M K P) (actions_of M K P) ≡ state_of f k (after M K P)
   folded (Begin r) = refl
   folded (Skip P t) = folded P
   folded (Go P e t) = ap (go M e) (folded P)
@@ -36,7 +39,7 @@ module _ (M : Model) (K : Machine M) where
   folded (Return s P t) = ap (λ n. back_to M s n.global n.top n.below) (folded P)
 
   -- Every prefix of a path is a path.
-  prefix_of : {f : M.Fn} {k : Bool} {p : K.Place} {b : Below M K} (P : Path M K f k p b) {l : Actions M} {a : Action M.Event M.Site M.Fn} → actions_of M K P ≡ More l a → IsPath M K (root_of M K P) l
+  prefix_of : {f : M.Fn} {k : Bool} {p : K.Place} {b : Callers M K} (P : Path M K f k p b) {l : Actions M} {a : Action M.Event M.Site M.Fn} → actions_of M K P ≡ More l a → IsPath M K (root_of M K P) l
   prefix_of (Begin r) d = start_more d
   prefix_of (Skip P t) d = prefix_of P d
   prefix_of (Go P e t) d = record { fn = _; kind = _; place = _; below = _; path = P; root_is = refl; actions_are = more_init d }
@@ -52,13 +55,13 @@ module _ (M : Model) (K : Machine M) where
     kind : Bool
     place : K.Place
     to : K.Place
-    below : Below M K
+    below : Callers M K
     path : Path M K fn kind place below
     goes : K.Goes fn place e to
     root_is : root_of M K path ≡ root
     actions_are : actions_of M K path ≡ l
 
-  last_event : {f : M.Fn} {k : Bool} {p : K.Place} {b : Below M K} (P : Path M K f k p b) {l : Actions M} {e : M.Event} → actions_of M K P ≡ More l (Did e) → LastEvent (root_of M K P) l e
+  last_event : {f : M.Fn} {k : Bool} {p : K.Place} {b : Callers M K} (P : Path M K f k p b) {l : Actions M} {e : M.Event} → actions_of M K P ≡ More l (Did e) → LastEvent (root_of M K P) l e
   last_event (Begin r) d = start_more d
   last_event (Skip P t) d = last_event P d
   last_event (Go {f = f} {p = p} {q = q} P i t) d = record { fn = f; kind = _; place = p; to = q; below = _; path = P; goes = subst (λ y. K.Goes f p y q) (more_did d) t; root_is = refl; actions_are = more_init d }
@@ -66,14 +69,14 @@ module _ (M : Model) (K : Machine M) where
   last_event (Return s P t) d = returned_did d
 
   pub taken : (r : M.Report) → Reported M K r → Taken M K r
-  taken r (Of {f = f} {k = k} P e t o i) = record {
+  taken r (ReportOf {f = f} {k = k} P e t o i) = record {
     root = root_of M K P;
     actions = actions_of M K P;
     event = e;
     path = record { fn = _; kind = _; place = _; below = _; path = Go P e t; root_is = refl; actions_are = refl };
     takes = inl (o, subst (λ (n : State M). M.Fires e n.top.fn n.top.is_root n.global o (M.moved e n.top.map o) r) (sym (folded P)) i);
   }
-  taken r (OfGlobal {f = f} {k = k} P e t i) = record {
+  taken r (ReportOfGlobal {f = f} {k = k} P e t i) = record {
     root = root_of M K P;
     actions = actions_of M K P;
     event = e;
@@ -87,8 +90,8 @@ module _ (M : Model) (K : Machine M) where
       let same : fold M w.root w.actions ≡ state_of v.fn v.kind (after M K v.path) =
       ap (λ g. fold M g w.actions) (sym (v.root_is ∙ w.path.root_is)) ∙ ap (fold M (root_of M K v.path)) (sym v.actions_are) ∙ folded v.path in
       elim w.takes [
-        | inl i ↦ Of v.path w.event v.goes i.0 (subst (λ (n : State M). M.Fires w.event n.top.fn n.top.is_root n.global i.0 (M.moved w.event n.top.map i.0) r) same i.1)
-        | inr i ↦ OfGlobal v.path w.event v.goes (subst (λ (n : State M). M.FiresGlobal w.event n.top.fn n.top.is_root n.global r) same i)
+        | inl i ↦ ReportOf v.path w.event v.goes i.0 (subst (λ (n : State M). M.Fires w.event n.top.fn n.top.is_root n.global i.0 (M.moved w.event n.top.map i.0) r) same i.1)
+        | inr i ↦ ReportOfGlobal v.path w.event v.goes (subst (λ (n : State M). M.FiresGlobal w.event n.top.fn n.top.is_root n.global r) same i)
       ]
 
   -- a report on the way is one at the end of a prefix

@@ -1,16 +1,21 @@
 -- Entries by context alone are those of both kinds of frame.
 use Rattle.std.proofs.Common.{◌≡◌, Bool, true, false, Option, Some, None, List, [], ◌∷◌, refl, sym, ◌∙◌, ap, subst, inl, inr}
 use Rattle.path_theory.specs.Model.{Model}
-use Rattle.path_theory.specs.Runs.{Local, IsLocal, Here}
-use Rattle.path_theory.specs.Stacks.{OfCall}
-use Rattle.path_theory.specs.Derivable.{Nobody, Tracks, Gives, GivesNone, GivesState, Objects, Tuple, Starts, StartsBare, StartsUnknown, Moves, MovesBare, MovesObject, Feeds, Hands, HandsBare, HandsObject, Derivable, DRoot, DSkip, DGo, DCall, DReturn, DSaved, Found, FoundObject, FoundGlobal, Realised, IsFollowed}
-use Rattle.path_theory.specs.Relevant.{IsClosed}
-use Rattle.path_theory.specs.Blocks.{Graphs, Spot, Head, In, Skipping, Opens, Moves_on, Going, Does_one, Jumping, Leaps, Ending, Is_last, machine, Crosses, CrossesNone, CrossesOne, Shows, ShowsObject, ShowsGlobal, ShowsLater}
-use Rattle.path_theory.specs.RootFrame.{Exits, EachStays, ExitsApart}
-use Rattle.path_theory.specs.Merged.{IsUnknown, Kinds, Leads, IsMerged, Shown}
-use Rattle.path_theory.proofs.Sound.{realised}
-use Rattle.path_theory.proofs.Reports.{derivable, followed, reported, found}
 use Rattle.path_theory.specs.Paths.{Reported}
+use Rattle.path_theory.specs.Origins.{Origins, IsLocal}
+use Rattle.path_theory.specs.Runs.{Here}
+use Rattle.path_theory.specs.OpenFrames.{CalledFrame}
+use Rattle.path_theory.specs.Facts.{NoObject, HasObject, Gives, GivesNone, GivesState, Objects, Fact, IsFollowed}
+use Rattle.path_theory.specs.Flows.{Starts, StartsNone, StartsUnknown, EventFlow, EventNone, EventObject, CallFlow, ReturnFlow, ReturnNone, ReturnObject}
+use Rattle.path_theory.specs.Tabulation.{PathEdge, AtRoot, AlongSkip, AlongEvent, IntoCallee, OverCall, AroundCall, Found, FoundObject, FoundGlobal}
+use Rattle.path_theory.specs.Realised.{Realised}
+use Rattle.path_theory.specs.Relevant.{IsClosed}
+use Rattle.path_theory.specs.FlowGraphs.{FlowGraphs, Point, Head, Before, PointSkips, EntersBlock, LeavesBlock, PointGoes, PassesEvent, PointCalls, MakesCall, PointEnds, EndsFrame, supergraph}
+use Rattle.path_theory.specs.BlockEdges.{Crosses, CrossesNone, CrossesOne, Shows, ShowsObject, ShowsGlobal, ShowsLater}
+use Rattle.path_theory.specs.FrameEnds.{Exits, EachStays, ExitsApart}
+use Rattle.path_theory.specs.Merged.{IsUnknown, Kinds, Leads, IsSaturatedMerged, Shown}
+use Rattle.path_theory.proofs.Sound.{realised}
+use Rattle.path_theory.proofs.Reports.{path_edge, followed, reported, found}
 use Rattle.path_theory.proofs.Saturated.{to_end, shown}
 use Rattle.path_theory.proofs.FrameKinds.{other_kind, stayed}
 
@@ -37,239 +42,239 @@ some_is : {O : Type 0} (a b : O) → Some a ≡ Some b → a ≡ b
 some_is a b e = cc
 
 -- some path has its last frame there, of either kind
-abbrev pub InSome : (M : Model) (L : Local M) → Objects M → (G : Graphs M) → M.Fn → M.Global → Tuple M → G.Block → M.Global → Tuple M → Type 0
-InSome M L A G f g₀ t₀ b g t = (k : Bool) × Realised M (machine M G) L A f k g₀ t₀ (Head b) g t
+abbrev pub InSome : (M : Model) (L : Origins M) → Objects M → (G : FlowGraphs M) → M.Fn → M.Global → Fact M → G.Block → M.Global → Fact M → Type 0
+InSome M L A G f g₀ t₀ b g t = (k : Bool) × Realised M (supergraph M G) L f k g₀ t₀ (Head b) g t
 
-module _ (M : Model) (L : Local M) (A : Objects M) (G : Graphs M) (C : Kinds M G) (E : Exits M L) (N : ExitsApart M L E G) where
-  abbrev pub D : M.Fn → Bool → M.Global → Tuple M → Spot G.Block M.Event → M.Global → Tuple M → Type 0
-  D = Derivable M (machine M G) L A
+module _ (M : Model) (L : Origins M) (A : Objects M) (G : FlowGraphs M) (C : Kinds M G) (E : Exits M L) (N : ExitsApart M L E G) where
+  abbrev pub D : M.Fn → Bool → M.Global → Fact M → Point G.Block M.Event → M.Global → Fact M → Type 0
+  D = PathEdge M (supergraph M G) L A
 
   -- the root's own frame begins as a root does
-  starts_unknown : {f : M.Fn} {t : Tuple M} → Starts M L A f t → IsUnknown M t
-  starts_unknown StartsBare = tt
+  starts_unknown : {f : M.Fn} {t : Fact M} → Starts M L A f t → IsUnknown M t
+  starts_unknown StartsNone = tt
   starts_unknown (StartsUnknown o a) = tt
 
-  of_kind : {f : M.Fn} {k : Bool} {g₀ g : M.Global} {t₀ t : Tuple M} {p : Spot G.Block M.Event} → D f k g₀ t₀ p g t → k ≡ true → C.kind f g₀ t₀ ≡ true
-  of_kind (DRoot r a) q = C.of_root _ r (starts_unknown a)
-  of_kind (DSkip d t) q = of_kind d q
-  of_kind (DGo d e t a) q = of_kind d q
-  of_kind (DCall d s t a) q = cc
-  of_kind (DReturn d s t a c e b) q = of_kind d q
-  of_kind (DSaved d s t c e z) q = of_kind d q
+  of_kind : {f : M.Fn} {k : Bool} {g₀ g : M.Global} {t₀ t : Fact M} {p : Point G.Block M.Event} → D f k g₀ t₀ p g t → k ≡ true → C.kind f g₀ t₀ ≡ true
+  of_kind (AtRoot r a) q = C.of_root _ r (starts_unknown a)
+  of_kind (AlongSkip d t) q = of_kind d q
+  of_kind (AlongEvent d e t a) q = of_kind d q
+  of_kind (IntoCallee d s t a) q = cc
+  of_kind (OverCall d s t a c e b) q = of_kind d q
+  of_kind (AroundCall d s t c e z) q = of_kind d q
 
   -- an event that ends no frame, in a frame of the other kind
-  moves_kind : {f : M.Fn} (k l : Bool) {e : M.Event} {g : M.Global} {t u : Tuple M} → E.Stays e → Moves M L A f k e g t u → Moves M L A f l e g t u
-  moves_kind k l a MovesBare = MovesBare
-  moves_kind {f = f} k l {e = e} {g = g} {t = t} a (MovesObject o x i v) = subst (λ y. Moves M L A f l e g t (Tracks o y)) (E.same_choice e a f l k g o x) (MovesObject o x i v)
+  moves_kind : {f : M.Fn} (k l : Bool) {e : M.Event} {g : M.Global} {t u : Fact M} → E.Stays e → EventFlow M L A f k e g t u → EventFlow M L A f l e g t u
+  moves_kind k l a EventNone = EventNone
+  moves_kind {f = f} k l {e = e} {g = g} {t = t} a (EventObject o x i v) = subst (λ y. EventFlow M L A f l e g t (HasObject o y)) (E.same.choice e a f l k g o x) (EventObject o x i v)
 
   -- the end of a called frame, and what is handed back
-  same_gives : {z : Option M.Obj} {t : Tuple M} {x : Option M.State} {c : M.Obj} → Gives z t x → z ≡ Some c → t ≡ Tracks c x
+  same_gives : {z : Option M.Obj} {t : Fact M} {x : Option M.State} {c : M.Obj} → Gives z t x → z ≡ Some c → t ≡ HasObject c x
   same_gives GivesNone d = cc
-  same_gives {x = x} (GivesState {o = o}) d = ap (λ a. Tracks a x) (some_is o _ d)
+  same_gives {x = x} (GivesState {o = o}) d = ap (λ a. HasObject a x) (some_is o _ d)
 
-  hands_before : {f h : M.Fn} {e : M.Event} {g : M.Global} {t u v : Tuple M} {s : M.Site} {b c : G.Block} → G.Jump f b s h c → E.IsExit e → Moves M L A h false e g t u → Hands M L A s f u v → Hands M L A s f t v
-  hands_before j i MovesBare HandsBare = HandsBare
-  hands_before {f = f} {h = h} {e = e} {g = g} {t = t} {s = s} j i (MovesObject c x a v) (HandsObject o _ y l d) =
-      subst (λ y. Hands M L A s f t (Tracks o y)) (sym (N.kept j e i g o c d x)) (subst (λ y. Hands M L A s f y (Tracks o x)) (sym (same_gives v (E.exit_source e i c))) (HandsObject o c x l d))
+  hands_before : {f h : M.Fn} {e : M.Event} {g : M.Global} {t u v : Fact M} {s : M.Site} {b c : G.Block} → G.Call f b s h c → E.IsExit e → EventFlow M L A h false e g t u → ReturnFlow M L A s f u v → ReturnFlow M L A s f t v
+  hands_before j i EventNone ReturnNone = ReturnNone
+  hands_before {f = f} {h = h} {e = e} {g = g} {t = t} {s = s} j i (EventObject c x a v) (ReturnObject o _ y l d) =
+      subst (λ y. ReturnFlow M L A s f t (HasObject o y)) (sym (N.kept j e i g o c d x)) (subst (λ y. ReturnFlow M L A s f y (HasObject o x)) (sym (same_gives v (E.quiet.source e i c))) (ReturnObject o c x l d))
 
-  bare_before : {h : M.Fn} {e : M.Event} {g : M.Global} {t u : Tuple M} → Moves M L A h false e g t u → u ≡ Nobody → t ≡ Nobody
-  bare_before MovesBare d = refl
-  bare_before (MovesObject o x a v) d = cc
+  bare_before : {h : M.Fn} {e : M.Event} {g : M.Global} {t u : Fact M} → EventFlow M L A h false e g t u → u ≡ NoObject → t ≡ NoObject
+  bare_before EventNone d = refl
+  bare_before (EventObject o x a v) d = cc
 
-  module _ (X : M.Fn → M.Global → Tuple M → G.Block → M.Global → Tuple M → Type 0) (S : IsMerged M L A G C X) where
+  module _ (X : M.Fn → M.Global → Fact M → G.Block → M.Global → Fact M → Type 0) (S : IsSaturatedMerged M L A G C X) where
     -- how far a block has been gone through
-    pub data Progress (f : M.Fn) (k : Bool) (b : G.Block) (global : M.Global) (tuple : Tuple M) (es : List M.Event) (g : M.Global) (t : Tuple M) : Type 0 where
-      AtStart : es ≡ G.events f b → global ≡ g → tuple ≡ t → Progress f k b global tuple es g t
-      OneDone : (e : M.Event) → e ∷ es ≡ G.events f b → Moves M L A f k e global tuple t → M.next_global e f k global ≡ g → Progress f k b global tuple es g t
-      MoreDone : (e d : M.Event) (ds : List M.Event) → e ∷ d ∷ ds ≡ G.events f b → Progress f k b global tuple es g t
+    pub data Progress (f : M.Fn) (k : Bool) (b : G.Block) (global : M.Global) (fact : Fact M) (es : List M.Event) (g : M.Global) (t : Fact M) : Type 0 where
+      AtStart : es ≡ G.events f b → global ≡ g → fact ≡ t → Progress f k b global fact es g t
+      OneDone : (e : M.Event) → e ∷ es ≡ G.events f b → EventFlow M L A f k e global fact t → M.next_global e f k global ≡ g → Progress f k b global fact es g t
+      MoreDone : (e d : M.Event) (ds : List M.Event) → e ∷ d ∷ ds ≡ G.events f b → Progress f k b global fact es g t
 
-    pub record Inside (f : M.Fn) (k : Bool) (g₀ : M.Global) (t₀ : Tuple M) (b : G.Block) (es : List M.Event) (g : M.Global) (t : Tuple M) : Type 0 where
+    pub record Inside (f : M.Fn) (k : Bool) (g₀ : M.Global) (t₀ : Fact M) (b : G.Block) (es : List M.Event) (g : M.Global) (t : Fact M) : Type 0 where
       pub global : M.Global
-      pub tuple : Tuple M
-      pub entry : X f g₀ t₀ b global tuple
-      pub crosses : EachStays E (G.events f b) → EachStays E es × ((i : M.Global) (u : Tuple M) → Crosses M L A f (C.kind f g₀ t₀) es g t i u → Crosses M L A f (C.kind f g₀ t₀) (G.events f b) global tuple i u)
-      pub shows : EachStays E (G.events f b) → (r : M.Report) → Shows M L A f (C.kind f g₀ t₀) r es g t → Shows M L A f (C.kind f g₀ t₀) r (G.events f b) global tuple
-      pub progress : Progress f k b global tuple es g t
+      pub fact : Fact M
+      pub entry : X f g₀ t₀ b global fact
+      pub crosses : EachStays E (G.events f b) → EachStays E es × ((i : M.Global) (u : Fact M) → Crosses M L A f (C.kind f g₀ t₀) es g t i u → Crosses M L A f (C.kind f g₀ t₀) (G.events f b) global fact i u)
+      pub shows : EachStays E (G.events f b) → (r : M.Report) → Shows M L A f (C.kind f g₀ t₀) r es g t → Shows M L A f (C.kind f g₀ t₀) r (G.events f b) global fact
+      pub progress : Progress f k b global fact es g t
 
-    pub data Stands (f : M.Fn) (k : Bool) (g₀ : M.Global) (t₀ : Tuple M) : Spot G.Block M.Event → M.Global → Tuple M → Type 0 where
-      AtHead : {b : G.Block} {g : M.Global} {t : Tuple M} → X f g₀ t₀ b g t → Stands f k g₀ t₀ (Head b) g t
-      Within : {b : G.Block} {es : List M.Event} {g : M.Global} {t : Tuple M} → Inside f k g₀ t₀ b es g t → Stands f k g₀ t₀ (In b es) g t
+    pub data Stands (f : M.Fn) (k : Bool) (g₀ : M.Global) (t₀ : Fact M) : Point G.Block M.Event → M.Global → Fact M → Type 0 where
+      AtHead : {b : G.Block} {g : M.Global} {t : Fact M} → X f g₀ t₀ b g t → Stands f k g₀ t₀ (Head b) g t
+      Within : {b : G.Block} {es : List M.Event} {g : M.Global} {t : Fact M} → Inside f k g₀ t₀ b es g t → Stands f k g₀ t₀ (Before b es) g t
 
-    stands_skip : {f : M.Fn} {k : Bool} {g₀ g : M.Global} {t₀ t : Tuple M} {p q : Spot G.Block M.Event} → Skipping M G f p q → Stands f k g₀ t₀ p g t → Stands f k g₀ t₀ q g t
-    stands_skip (Opens b) (AtHead x) = Within (record { global = _; tuple = _; entry = x; crosses = λ a. (a, λ i u c. c); shows = λ a r c. c; progress = AtStart refl refl refl })
-    stands_skip (Moves_on n) (Within x) = AtHead (S.next x.entry ((x.crosses (N.next n)).1 _ _ CrossesNone) n)
+    stands_skip : {f : M.Fn} {k : Bool} {g₀ g : M.Global} {t₀ t : Fact M} {p q : Point G.Block M.Event} → PointSkips M G f p q → Stands f k g₀ t₀ p g t → Stands f k g₀ t₀ q g t
+    stands_skip (EntersBlock b) (AtHead x) = Within (record { global = _; fact = _; entry = x; crosses = λ a. (a, λ i u c. c); shows = λ a r c. c; progress = AtStart refl refl refl })
+    stands_skip (LeavesBlock n) (Within x) = AtHead (S.next x.entry ((x.crosses (N.next n)).1 _ _ CrossesNone) n)
 
-    go_on : {f : M.Fn} {k : Bool} {b : G.Block} {e : M.Event} {es : List M.Event} {global g : M.Global} {tuple t u : Tuple M} → Progress f k b global tuple (e ∷ es) g t → Moves M L A f k e g t u → Progress f k b global tuple es (M.next_global e f k g) u
-    go_on {f = f} {k = k} {e = e} {g = g} {tuple = tuple} {u = u} (AtStart d q r) a = OneDone e d (subst (λ y. Moves M L A f k e y tuple u) (sym q) (subst (λ y. Moves M L A f k e g y u) (sym r) a)) (ap (M.next_global e f k) q)
+    go_on : {f : M.Fn} {k : Bool} {b : G.Block} {e : M.Event} {es : List M.Event} {global g : M.Global} {fact t u : Fact M} → Progress f k b global fact (e ∷ es) g t → EventFlow M L A f k e g t u → Progress f k b global fact es (M.next_global e f k g) u
+    go_on {f = f} {k = k} {e = e} {g = g} {fact = fact} {u = u} (AtStart d q r) a = OneDone e d (subst (λ y. EventFlow M L A f k e y fact u) (sym q) (subst (λ y. EventFlow M L A f k e g y u) (sym r) a)) (ap (M.next_global e f k) q)
     go_on (OneDone d i m q) a = MoreDone d _ _ i
     go_on (MoreDone d c ds i) a = MoreDone d c ds i
 
-    stands_go : {f : M.Fn} (k : Bool) {g₀ g : M.Global} {t₀ t u : Tuple M} {e : M.Event} {p q : Spot G.Block M.Event} → Going M G f p e q → Moves M L A f k e g t u → Stands f k g₀ t₀ p g t → Stands f k g₀ t₀ q (M.next_global e f k g) u
-    stands_go {f = f} k {g₀ = g₀} {g = g} {t₀ = t₀} {t = t} {u = u} (Does_one b e es) a (Within x) = Within (record {
+    stands_go : {f : M.Fn} (k : Bool) {g₀ g : M.Global} {t₀ t u : Fact M} {e : M.Event} {p q : Point G.Block M.Event} → PointGoes M G f p e q → EventFlow M L A f k e g t u → Stands f k g₀ t₀ p g t → Stands f k g₀ t₀ q (M.next_global e f k g) u
+    stands_go {f = f} k {g₀ = g₀} {g = g} {t₀ = t₀} {t = t} {u = u} (PassesEvent b e es) a (Within x) = Within (record {
       global = x.global;
-      tuple = x.tuple;
+      fact = x.fact;
       entry = x.entry;
-      crosses = λ n. let w = x.crosses n in (w.0.1, λ i v c. w.1 i v (CrossesOne (moves_kind k (C.kind f g₀ t₀) w.0.0 a) (subst (λ y. Crosses M L A f (C.kind f g₀ t₀) es y u i v) (E.same_global e w.0.0 f k (C.kind f g₀ t₀) g) c)));
-      shows = λ n r c. let w = x.crosses n in x.shows n r (ShowsLater (moves_kind k (C.kind f g₀ t₀) w.0.0 a) (subst (λ y. Shows M L A f (C.kind f g₀ t₀) r es y u) (E.same_global e w.0.0 f k (C.kind f g₀ t₀) g) c));
+      crosses = λ n. let w = x.crosses n in (w.0.1, λ i v c. w.1 i v (CrossesOne (moves_kind k (C.kind f g₀ t₀) w.0.0 a) (subst (λ y. Crosses M L A f (C.kind f g₀ t₀) es y u i v) (E.same.global e w.0.0 f k (C.kind f g₀ t₀) g) c)));
+      shows = λ n r c. let w = x.crosses n in x.shows n r (ShowsLater (moves_kind k (C.kind f g₀ t₀) w.0.0 a) (subst (λ y. Shows M L A f (C.kind f g₀ t₀) r es y u) (E.same.global e w.0.0 f k (C.kind f g₀ t₀) g) c));
       progress = go_on x.progress a;
     })
 
-    stands_call : {f h : M.Fn} {k : Bool} {g₀ g : M.Global} {t₀ t u : Tuple M} {s : M.Site} {p q : Spot G.Block M.Event} → Jumping M G f p s h q → Feeds M L A s h t u → Stands f k g₀ t₀ p g t → Stands h false g u (Head (G.first h)) g u
-    stands_call {s = s} (Leaps j) a (Within x) = AtHead (S.call x.entry ((x.crosses (N.jump j)).1 _ _ CrossesNone) s j a)
+    stands_call : {f h : M.Fn} {k : Bool} {g₀ g : M.Global} {t₀ t u : Fact M} {s : M.Site} {p q : Point G.Block M.Event} → PointCalls M G f p s h q → CallFlow M L A s h t u → Stands f k g₀ t₀ p g t → Stands h false g u (Head (G.first h)) g u
+    stands_call {s = s} (MakesCall j) a (Within x) = AtHead (S.call x.entry ((x.crosses (N.call j)).1 _ _ CrossesNone) s j a)
 
     -- the head of the block that ended the frame
-    record Ended (h : M.Fn) (g₀ : M.Global) (t₀ : Tuple M) (d : G.Block) (g : M.Global) (t : Tuple M) : Type 0 where
+    record Ended (h : M.Fn) (g₀ : M.Global) (t₀ : Fact M) (d : G.Block) (g : M.Global) (t : Fact M) : Type 0 where
       global : M.Global
-      tuple : Tuple M
-      entry : X h g₀ t₀ d global tuple
+      fact : Fact M
+      entry : X h g₀ t₀ d global fact
       same : global ≡ g
       event : M.Event
       exit : E.IsExit event
-      moves : Moves M L A h false event global tuple t
+      moves : EventFlow M L A h false event global fact t
 
-    ended_at : {h : M.Fn} {g₀ g : M.Global} {t₀ t : Tuple M} {d : G.Block} (x : Inside h false g₀ t₀ d [] g t) → Progress h false d x.global x.tuple [] g t → (e : M.Event) → E.IsExit e → G.events h d ≡ e ∷ [] → Ended h g₀ t₀ d g t
+    ended_at : {h : M.Fn} {g₀ g : M.Global} {t₀ t : Fact M} {d : G.Block} (x : Inside h false g₀ t₀ d [] g t) → Progress h false d x.global x.fact [] g t → (e : M.Event) → E.IsExit e → G.events h d ≡ e ∷ [] → Ended h g₀ t₀ d g t
     ended_at x (AtStart i q r) e n l = absurd (nil_cons (i ∙ l))
     ended_at {h = h} x (OneDone d i m q) e n l = record {
       global = x.global;
-      tuple = x.tuple;
+      fact = x.fact;
       entry = x.entry;
-      same = sym (E.exit_global d (subst E.IsExit (sym (head_is (i ∙ l))) n) h x.global) ∙ q;
+      same = sym (E.quiet.global d (subst E.IsExit (sym (head_is (i ∙ l))) n) h x.global) ∙ q;
       event = d;
       exit = subst E.IsExit (sym (head_is (i ∙ l))) n;
       moves = m;
     }
     ended_at x (MoreDone d c ds i) e n l = absurd (two_one (i ∙ l))
 
-    stands_return : {f h : M.Fn} {k : Bool} {g₀ g i : M.Global} {t₀ t u v w : Tuple M} {s : M.Site} {p q r : Spot G.Block M.Event} → Jumping M G f p s h q → Ending M G h r → Feeds M L A s h t u → Hands M L A s f v w → Stands f k g₀ t₀ p g t → Stands h false g u r i v → Stands f k g₀ t₀ q i w
-    stands_return {f = f} {g₀ = g₀} {t₀ = t₀} {w = w} {s = s} (Leaps {c = c} j) (Is_last l) a b (Within x) (Within y) =
+    stands_return : {f h : M.Fn} {k : Bool} {g₀ g i : M.Global} {t₀ t u v w : Fact M} {s : M.Site} {p q r : Point G.Block M.Event} → PointCalls M G f p s h q → PointEnds M G h r → CallFlow M L A s h t u → ReturnFlow M L A s f v w → Stands f k g₀ t₀ p g t → Stands h false g u r i v → Stands f k g₀ t₀ q i w
+    stands_return {f = f} {g₀ = g₀} {t₀ = t₀} {w = w} {s = s} (MakesCall {c = c} j) (EndsFrame l) a b (Within x) (Within y) =
         let n = N.last l in
         let z = ended_at y y.progress n.0 n.1 n.2 in
-        AtHead (subst (λ i. X f g₀ t₀ c i w) z.same (S.return x.entry ((x.crosses (N.jump j)).1 _ _ CrossesNone) s j a z.entry l (hands_before j z.exit z.moves b)))
+        AtHead (subst (λ i. X f g₀ t₀ c i w) z.same (S.return x.entry ((x.crosses (N.call j)).1 _ _ CrossesNone) s j a z.entry l (hands_before j z.exit z.moves b)))
 
-    stands_saved : {f h : M.Fn} {k : Bool} {g₀ g i : M.Global} {t₀ : Tuple M} {o : M.Obj} {x : Option M.State} {s : M.Site} {p q r : Spot G.Block M.Event} → Jumping M G f p s h q → Ending M G h r → L.out s o ≡ None → Stands f k g₀ t₀ p g (Tracks o x) → Stands h false g Nobody r i Nobody → Stands f k g₀ t₀ q i (Tracks o x)
-    stands_saved {f = f} {h = h} {g₀ = g₀} {g = g} {t₀ = t₀} {o = o} {x = state} {s = s} (Leaps {c = c} j) (Is_last {b = e} l) d (Within x) (Within y) =
+    stands_saved : {f h : M.Fn} {k : Bool} {g₀ g i : M.Global} {t₀ : Fact M} {o : M.Obj} {x : Option M.State} {s : M.Site} {p q r : Point G.Block M.Event} → PointCalls M G f p s h q → PointEnds M G h r → L.out s o ≡ None → Stands f k g₀ t₀ p g (HasObject o x) → Stands h false g NoObject r i NoObject → Stands f k g₀ t₀ q i (HasObject o x)
+    stands_saved {f = f} {h = h} {g₀ = g₀} {g = g} {t₀ = t₀} {o = o} {x = state} {s = s} (MakesCall {c = c} j) (EndsFrame {b = e} l) d (Within x) (Within y) =
         let n = N.last l in
         let z = ended_at y y.progress n.0 n.1 n.2 in
-        AtHead (subst (λ i. X f g₀ t₀ c i (Tracks o state)) z.same (S.saved x.entry ((x.crosses (N.jump j)).1 _ _ CrossesNone) s j (subst (λ i. X h g Nobody e z.global i) (bare_before z.moves refl) z.entry) l d))
+        AtHead (subst (λ i. X f g₀ t₀ c i (HasObject o state)) z.same (S.saved x.entry ((x.crosses (N.call j)).1 _ _ CrossesNone) s j (subst (λ i. X h g NoObject e z.global i) (bare_before z.moves refl) z.entry) l d))
 
-    pub stands : {f : M.Fn} {k : Bool} {g₀ g : M.Global} {t₀ t : Tuple M} {p : Spot G.Block M.Event} → D f k g₀ t₀ p g t → Stands f k g₀ t₀ p g t
-    stands (DRoot r a) = AtHead (S.root r a)
-    stands (DSkip d t) = stands_skip t (stands d)
-    stands (DGo {k = k} d e t a) = stands_go k t a (stands d)
-    stands (DCall d s t a) = stands_call t a (stands d)
-    stands (DReturn d s t a c e b) = stands_return t e a b (stands d) (stands c)
-    stands (DSaved d s t c e z) = stands_saved t e z (stands d) (stands c)
+    pub stands : {f : M.Fn} {k : Bool} {g₀ g : M.Global} {t₀ t : Fact M} {p : Point G.Block M.Event} → D f k g₀ t₀ p g t → Stands f k g₀ t₀ p g t
+    stands (AtRoot r a) = AtHead (S.root r a)
+    stands (AlongSkip d t) = stands_skip t (stands d)
+    stands (AlongEvent {k = k} d e t a) = stands_go k t a (stands d)
+    stands (IntoCallee d s t a) = stands_call t a (stands d)
+    stands (OverCall d s t a c e b) = stands_return t e a b (stands d) (stands c)
+    stands (AroundCall d s t c e z) = stands_saved t e z (stands d) (stands c)
 
-    at_head : {f : M.Fn} {k : Bool} {g₀ g : M.Global} {t₀ t : Tuple M} {b : G.Block} → Stands f k g₀ t₀ (Head b) g t → X f g₀ t₀ b g t
+    at_head : {f : M.Fn} {k : Bool} {g₀ g : M.Global} {t₀ t : Fact M} {b : G.Block} → Stands f k g₀ t₀ (Head b) g t → X f g₀ t₀ b g t
     at_head (AtHead x) = x
 
     -- what is derivable at the head of a block, in a frame of either kind, is an entry
-    pub merged_least : {f : M.Fn} {k : Bool} {g₀ g : M.Global} {t₀ t : Tuple M} {b : G.Block} → D f k g₀ t₀ (Head b) g t → X f g₀ t₀ b g t
+    pub merged_least : {f : M.Fn} {k : Bool} {g₀ g : M.Global} {t₀ t : Fact M} {b : G.Block} → D f k g₀ t₀ (Head b) g t → X f g₀ t₀ b g t
     merged_least d = at_head (stands d)
 
     -- its reports are given too
-    last_shows : {f : M.Fn} {k : Bool} {b : G.Block} {e : M.Event} {es : List M.Event} {global g : M.Global} {tuple t : Tuple M} (r : M.Report) → Progress f k b global tuple (e ∷ es) g t → (l : Bool) (d : M.Event) → E.IsExit d → G.events f b ≡ d ∷ [] → (E.IsExit e → (es : List M.Event) → Shows M L A f l r (e ∷ es) g t) → Shows M L A f l r (G.events f b) global tuple
-    last_shows {f = f} {b = b} {e = e} {es = es} {global = global} {g = g} {tuple = tuple} {t = t} r (AtStart i q c) l d n j h =
-        subst (λ y. Shows M L A f l r y global tuple) i
+    last_shows : {f : M.Fn} {k : Bool} {b : G.Block} {e : M.Event} {es : List M.Event} {global g : M.Global} {fact t : Fact M} (r : M.Report) → Progress f k b global fact (e ∷ es) g t → (l : Bool) (d : M.Event) → E.IsExit d → G.events f b ≡ d ∷ [] → (E.IsExit e → (es : List M.Event) → Shows M L A f l r (e ∷ es) g t) → Shows M L A f l r (G.events f b) global fact
+    last_shows {f = f} {b = b} {e = e} {es = es} {global = global} {g = g} {fact = fact} {t = t} r (AtStart i q c) l d n j h =
+        subst (λ y. Shows M L A f l r y global fact) i
         (subst (λ y. Shows M L A f l r (e ∷ es) global y) (sym c)
         (subst (λ y. Shows M L A f l r (e ∷ es) y t) (sym q) (h (subst E.IsExit (sym (head_is (i ∙ j))) n) es)))
     last_shows r (OneDone c i m q) l d n j h = absurd (two_one (i ∙ j))
     last_shows r (MoreDone c e ds i) l d n j h = absurd (two_one (i ∙ j))
 
-    shown_at : {f : M.Fn} {k : Bool} {g₀ g : M.Global} {t₀ t : Tuple M} {p q : Spot G.Block M.Event} {e : M.Event} (r : M.Report) → Going M G f p e q → Stands f k g₀ t₀ p g t → (E.Stays e → (es : List M.Event) → Shows M L A f (C.kind f g₀ t₀) r (e ∷ es) g t) → (E.IsExit e → (es : List M.Event) → Shows M L A f (C.kind f g₀ t₀) r (e ∷ es) g t) → Shown M L A G C X r
-    shown_at {f = f} {k = k} {g₀ = g₀} {g = g} {t₀ = t₀} {t = t} r (Does_one b e es) (Within x) h i =
+    shown_at : {f : M.Fn} {k : Bool} {g₀ g : M.Global} {t₀ t : Fact M} {p q : Point G.Block M.Event} {e : M.Event} (r : M.Report) → PointGoes M G f p e q → Stands f k g₀ t₀ p g t → (E.Stays e → (es : List M.Event) → Shows M L A f (C.kind f g₀ t₀) r (e ∷ es) g t) → (E.IsExit e → (es : List M.Event) → Shows M L A f (C.kind f g₀ t₀) r (e ∷ es) g t) → Shown M L A G C X r
+    shown_at {f = f} {k = k} {g₀ = g₀} {g = g} {t₀ = t₀} {t = t} r (PassesEvent b e es) (Within x) h i =
         elim (N.either f b) [
-          | inl n ↦ record { fn = f; global₀ = g₀; tuple₀ = t₀; block = b; global = x.global; tuple = x.tuple; entry = x.entry; shows = x.shows n r (h (x.crosses n).0.0 es) }
-          | inr l ↦ record { fn = f; global₀ = g₀; tuple₀ = t₀; block = b; global = x.global; tuple = x.tuple; entry = x.entry; shows = last_shows r x.progress (C.kind f g₀ t₀) (N.last l).0 (N.last l).1 (N.last l).2 i }
+          | inl n ↦ record { fn = f; global₀ = g₀; fact₀ = t₀; block = b; global = x.global; fact = x.fact; entry = x.entry; shows = x.shows n r (h (x.crosses n).0.0 es) }
+          | inr l ↦ record { fn = f; global₀ = g₀; fact₀ = t₀; block = b; global = x.global; fact = x.fact; entry = x.entry; shows = last_shows r x.progress (C.kind f g₀ t₀) (N.last l).0 (N.last l).1 (N.last l).2 i }
         ]
 
-    pub merged_shown : (r : M.Report) → Found M (machine M G) L A r → Shown M L A G C X r
+    pub merged_shown : (r : M.Report) → Found M (supergraph M G) L A r → Shown M L A G C X r
     merged_shown r (FoundObject {f = f} {k = k} {g₀ = g₀} {g = g} {t₀ = t₀} d e t o x a v i) =
         shown_at r t (stands d)
-        (λ n es. ShowsObject o x a v (E.same_fires e n f k (C.kind f g₀ t₀) g o x r i))
-        (λ n es. ShowsObject o x a v (exit_kind k (C.kind f g₀ t₀) (λ y. M.Fires e f y g o x r) (of_kind d) (E.exit_fires e n f g o x r) i))
+        (λ n es. ShowsObject o x a v (E.same.fires e n f k (C.kind f g₀ t₀) g o x r i))
+        (λ n es. ShowsObject o x a v (exit_kind k (C.kind f g₀ t₀) (λ y. M.Fires e f y g o x r) (of_kind d) (E.quiet.fires e n f g o x r) i))
     merged_shown r (FoundGlobal {f = f} {k = k} {g₀ = g₀} {g = g} {t₀ = t₀} d e t i) =
         shown_at r t (stands d)
-        (λ n es. ShowsGlobal (E.same_fires_global e n f k (C.kind f g₀ t₀) g r i))
-        (λ n es. ShowsGlobal (exit_kind k (C.kind f g₀ t₀) (λ y. M.FiresGlobal e f y g r) (of_kind d) (E.exit_fires_global e n f g r) i))
+        (λ n es. ShowsGlobal (E.same.fires_global e n f k (C.kind f g₀ t₀) g r i))
+        (λ n es. ShowsGlobal (exit_kind k (C.kind f g₀ t₀) (λ y. M.FiresGlobal e f y g r) (of_kind d) (E.quiet.fires_global e n f g r) i))
 
   -- Each step of an engine leads from what is derivable to what is derivable.
-  abbrev pub Dk : M.Fn → M.Global → Tuple M → G.Block → M.Global → Tuple M → Type 0
+  abbrev pub Dk : M.Fn → M.Global → Fact M → G.Block → M.Global → Fact M → Type 0
   Dk f g₀ t₀ b g t = D f (C.kind f g₀ t₀) g₀ t₀ (Head b) g t
 
-  starts_of : {f : M.Fn} (t : Tuple M) → IsUnknown M t → IsFollowed M A f t → Starts M L A f t
-  starts_of Nobody u a = StartsBare
-  starts_of (Tracks o None) u a = StartsUnknown o a
-  starts_of (Tracks o (Some x)) u a = absurd u
+  starts_of : {f : M.Fn} (t : Fact M) → IsUnknown M t → IsFollowed M A f t → Starts M L A f t
+  starts_of NoObject u a = StartsNone
+  starts_of (HasObject o None) u a = StartsUnknown o a
+  starts_of (HasObject o (Some x)) u a = absurd u
 
-  pub sound_root : {f : M.Fn} {t : Tuple M} → G.IsRoot f → Starts M L A f t → Dk f M.start t (G.first f) M.start t
-  sound_root {f = f} {t = t} r a = subst (λ k. D f k M.start t (Head (G.first f)) M.start t) (sym (C.of_root t r (starts_unknown a))) (DRoot r a)
+  pub sound_root : {f : M.Fn} {t : Fact M} → G.IsRoot f → Starts M L A f t → Dk f M.start t (G.first f) M.start t
+  sound_root {f = f} {t = t} r a = subst (λ k. D f k M.start t (Head (G.first f)) M.start t) (sym (C.of_root t r (starts_unknown a))) (AtRoot r a)
 
-  pub sound_next : {f : M.Fn} {g₀ g i : M.Global} {t₀ t u : Tuple M} {b c : G.Block} → Dk f g₀ t₀ b g t → Crosses M L A f (C.kind f g₀ t₀) (G.events f b) g t i u → G.Next f b c → Dk f g₀ t₀ c i u
-  sound_next d c n = DSkip (to_end M L A G d c) (Moves_on n)
+  pub sound_next : {f : M.Fn} {g₀ g i : M.Global} {t₀ t u : Fact M} {b c : G.Block} → Dk f g₀ t₀ b g t → Crosses M L A f (C.kind f g₀ t₀) (G.events f b) g t i u → G.Next f b c → Dk f g₀ t₀ c i u
+  sound_next d c n = AlongSkip (to_end M L A G d c) (LeavesBlock n)
 
-  module _ (I : IsLocal M L) (Q : IsClosed M (machine M G) L A) where
-    begins : {h : M.Fn} {g : M.Global} {t : Tuple M} (k : Bool) → C.kind h g t ≡ k → D h false g t (Head (G.first h)) g t → D h k g t (Head (G.first h)) g t
+  module _ (I : IsLocal M L) (Q : IsClosed M (supergraph M G) L A) where
+    begins : {h : M.Fn} {g : M.Global} {t : Fact M} (k : Bool) → C.kind h g t ≡ k → D h false g t (Head (G.first h)) g t → D h k g t (Head (G.first h)) g t
     begins false q d = d
     begins {h = h} {g = g} {t = t} true q d =
         let w = C.is_root q in
-        subst (λ y. D h true y t (Head (G.first h)) y t) (sym w.1) (DRoot w.0 (starts_of t w.2 (followed M (machine M G) L I A Q d)))
+        subst (λ y. D h true y t (Head (G.first h)) y t) (sym w.1) (AtRoot w.0 (starts_of t w.2 (followed M (supergraph M G) L I A Q d)))
 
-    pub sound_call : {f h : M.Fn} {g₀ g i : M.Global} {t₀ t u v : Tuple M} {b c : G.Block} → Dk f g₀ t₀ b g t → Crosses M L A f (C.kind f g₀ t₀) (G.events f b) g t i u → (s : M.Site) → G.Jump f b s h c → Feeds M L A s h u v → Dk h i v (G.first h) i v
-    sound_call {h = h} {i = i} {v = v} d c s j a = begins (C.kind h i v) refl (DCall (to_end M L A G d c) s (Leaps j) a)
+    pub sound_call : {f h : M.Fn} {g₀ g i : M.Global} {t₀ t u v : Fact M} {b c : G.Block} → Dk f g₀ t₀ b g t → Crosses M L A f (C.kind f g₀ t₀) (G.events f b) g t i u → (s : M.Site) → G.Call f b s h c → CallFlow M L A s h u v → Dk h i v (G.first h) i v
+    sound_call {h = h} {i = i} {v = v} d c s j a = begins (C.kind h i v) refl (IntoCallee (to_end M L A G d c) s (MakesCall j) a)
 
     -- in the called frame, what was derived in the root's own
-    to_called : {h : M.Fn} {k : Bool} {g₀ g : M.Global} {t₀ t : Tuple M} {b : G.Block} → D h k g₀ t₀ (Head b) g t → D h false g₀ t₀ (Head (G.first h)) g₀ t₀ → D h false g₀ t₀ (Head b) g t
+    to_called : {h : M.Fn} {k : Bool} {g₀ g : M.Global} {t₀ t : Fact M} {b : G.Block} → D h k g₀ t₀ (Head b) g t → D h false g₀ t₀ (Head (G.first h)) g₀ t₀ → D h false g₀ t₀ (Head b) g t
     to_called {t = t} d c =
-        let w = realised M (machine M G) L I A d in
-        derivable M (machine M G) L I A Q t (other_kind M L E (machine M G) I A w (stayed M L E G N w.run) (realised M (machine M G) L I A c)) (followed M (machine M G) L I A Q d)
+        let w = realised M (supergraph M G) L I A d in
+        path_edge M (supergraph M G) L I A Q t (other_kind M L E (supergraph M G) I A w (stayed M L E G N w.run) (realised M (supergraph M G) L I A c)) (followed M (supergraph M G) L I A Q d)
 
-    exit_moves : {f h : M.Fn} {s : M.Site} {w y : Tuple M} {b c : G.Block} → G.Jump f b s h c → (e : M.Event) (g : M.Global) → E.IsExit e → Hands M L A s f w y → IsFollowed M A h w → Moves M L A h false e g w w
-    exit_moves j e g n HandsBare a = MovesBare
-    exit_moves {h = h} {s = s} j e g n (HandsObject o c x l d) a =
-        subst (λ y. Moves M L A h false e g (Tracks c x) (Tracks c y)) (N.kept j e n g o c d x)
-        (MovesObject c x tt (subst (λ z. Gives z (Tracks c x) x) (sym (E.exit_source e n c)) GivesState))
+    exit_moves : {f h : M.Fn} {s : M.Site} {w y : Fact M} {b c : G.Block} → G.Call f b s h c → (e : M.Event) (g : M.Global) → E.IsExit e → ReturnFlow M L A s f w y → IsFollowed M A h w → EventFlow M L A h false e g w w
+    exit_moves j e g n ReturnNone a = EventNone
+    exit_moves {h = h} {s = s} j e g n (ReturnObject o c x l d) a =
+        subst (λ y. EventFlow M L A h false e g (HasObject c x) (HasObject c y)) (N.kept j e n g o c d x)
+        (EventObject c x tt (subst (λ z. Gives z (HasObject c x) x) (sym (E.quiet.source e n c)) GivesState))
 
     -- over the end of a called frame
-    to_last : {h : M.Fn} {g₀ g : M.Global} {t₀ t : Tuple M} {b : G.Block} → D h false g₀ t₀ (Head b) g t → G.Last h b → ((e : M.Event) → E.IsExit e → Moves M L A h false e g t t) → D h false g₀ t₀ (In b []) g t
+    to_last : {h : M.Fn} {g₀ g : M.Global} {t₀ t : Fact M} {b : G.Block} → D h false g₀ t₀ (Head b) g t → G.Ends h b → ((e : M.Event) → E.IsExit e → EventFlow M L A h false e g t t) → D h false g₀ t₀ (Before b []) g t
     to_last {h = h} {g₀ = g₀} {g = g} {t₀ = t₀} {t = t} {b = b} d l m =
         let n = N.last l in
-        subst (λ i. D h false g₀ t₀ (In b []) i t) (E.exit_global n.0 n.1 h g)
-        (DGo (subst (λ es. D h false g₀ t₀ (In b es) g t) n.2 (DSkip d (Opens b))) n.0 (Does_one b n.0 []) (m n.0 n.1))
+        subst (λ i. D h false g₀ t₀ (Before b []) i t) (E.quiet.global n.0 n.1 h g)
+        (AlongEvent (subst (λ es. D h false g₀ t₀ (Before b es) g t) n.2 (AlongSkip d (EntersBlock b))) n.0 (PassesEvent b n.0 []) (m n.0 n.1))
 
     -- a call begins the callee's frame, whatever is followed in the caller
-    called_bare : {f h : M.Fn} {k : Bool} {g₀ g : M.Global} {t₀ t : Tuple M} {p q : Spot G.Block M.Event} → D f k g₀ t₀ p g t → (s : M.Site) → Jumping M G f p s h q → D h false g Nobody (Head (G.first h)) g Nobody
+    called_bare : {f h : M.Fn} {k : Bool} {g₀ g : M.Global} {t₀ t : Fact M} {p q : Point G.Block M.Event} → D f k g₀ t₀ p g t → (s : M.Site) → PointCalls M G f p s h q → D h false g NoObject (Head (G.first h)) g NoObject
     called_bare d s j =
-        let w = realised M (machine M G) L I A d in
-        derivable M (machine M G) L I A Q Nobody (record { below = _; opened = OfCall w.opened w.run s _ j; run = Here; entry = w.global; global = w.global; tracked = refl }) tt
+        let w = realised M (supergraph M G) L I A d in
+        path_edge M (supergraph M G) L I A Q NoObject (record { below = _; opened = CalledFrame w.opened w.run s _ j; run = Here; entry = w.global; global = w.global; tracked = refl }) tt
 
-    pub sound_return : {f h : M.Fn} {g₀ g i j : M.Global} {t₀ t u v w y : Tuple M} {b c d : G.Block} → Dk f g₀ t₀ b g t → Crosses M L A f (C.kind f g₀ t₀) (G.events f b) g t i u → (s : M.Site) → G.Jump f b s h c → Feeds M L A s h u v → Dk h i v d j w → G.Last h d → Hands M L A s f w y → Dk f g₀ t₀ c j y
+    pub sound_return : {f h : M.Fn} {g₀ g i j : M.Global} {t₀ t u v w y : Fact M} {b c d : G.Block} → Dk f g₀ t₀ b g t → Crosses M L A f (C.kind f g₀ t₀) (G.events f b) g t i u → (s : M.Site) → G.Call f b s h c → CallFlow M L A s h u v → Dk h i v d j w → G.Ends h d → ReturnFlow M L A s f w y → Dk f g₀ t₀ c j y
     sound_return d c s j a e l b =
         let x = to_end M L A G d c in
-        let called = to_called e (DCall x s (Leaps j) a) in
-        DReturn x s (Leaps j) a (to_last called l (λ n i. exit_moves j n _ i b (followed M (machine M G) L I A Q e))) (Is_last l) b
+        let called = to_called e (IntoCallee x s (MakesCall j) a) in
+        OverCall x s (MakesCall j) a (to_last called l (λ n i. exit_moves j n _ i b (followed M (supergraph M G) L I A Q e))) (EndsFrame l) b
 
-    pub sound_saved : {f h : M.Fn} {g₀ g i j : M.Global} {t₀ t : Tuple M} {o : M.Obj} {z : Option M.State} {b c d : G.Block} → Dk f g₀ t₀ b g t → Crosses M L A f (C.kind f g₀ t₀) (G.events f b) g t i (Tracks o z) → (s : M.Site) → G.Jump f b s h c → Dk h i Nobody d j Nobody → G.Last h d → L.out s o ≡ None → Dk f g₀ t₀ c j (Tracks o z)
+    pub sound_saved : {f h : M.Fn} {g₀ g i j : M.Global} {t₀ t : Fact M} {o : M.Obj} {z : Option M.State} {b c d : G.Block} → Dk f g₀ t₀ b g t → Crosses M L A f (C.kind f g₀ t₀) (G.events f b) g t i (HasObject o z) → (s : M.Site) → G.Call f b s h c → Dk h i NoObject d j NoObject → G.Ends h d → L.out s o ≡ None → Dk f g₀ t₀ c j (HasObject o z)
     sound_saved d c s j e l q =
         let x = to_end M L A G d c in
-        DSaved x s (Leaps j) (to_last (to_called e (called_bare x s (Leaps j))) l (λ n i. MovesBare)) (Is_last l) q
+        AroundCall x s (MakesCall j) (to_last (to_called e (called_bare x s (MakesCall j))) l (λ n i. EventNone)) (EndsFrame l) q
 
     -- what is derivable is closed under the steps
-    pub derivable_leads : Leads M L A G C Dk Dk
-    derivable_leads = record { root = sound_root; next = sound_next; call = sound_call; return = sound_return; saved = sound_saved }
+    pub path_edges_lead : Leads M L A G C Dk Dk
+    path_edges_lead = record { root = sound_root; next = sound_next; call = sound_call; return = sound_return; saved = sound_saved }
 
     -- The theorem for an engine that keeps entries by context: each is derivable in the kind of its context, and nothing else follows from them.
-    module _ (X : M.Fn → M.Global → Tuple M → G.Block → M.Global → Tuple M → Type 0) (S : IsMerged M L A G C X) (V : (f : M.Fn) (g₀ : M.Global) (t₀ : Tuple M) (b : G.Block) (g : M.Global) (t : Tuple M) → X f g₀ t₀ b g t → Dk f g₀ t₀ b g t) where
+    module _ (X : M.Fn → M.Global → Fact M → G.Block → M.Global → Fact M → Type 0) (S : IsSaturatedMerged M L A G C X) (V : (f : M.Fn) (g₀ : M.Global) (t₀ : Fact M) (b : G.Block) (g : M.Global) (t : Fact M) → X f g₀ t₀ b g t → Dk f g₀ t₀ b g t) where
       -- the entries are what is realised in a frame of some kind
-      pub merged_entries : (f : M.Fn) (g₀ : M.Global) (t₀ : Tuple M) (b : G.Block) (g : M.Global) (t : Tuple M) → (X f g₀ t₀ b g t → InSome M L A G f g₀ t₀ b g t × IsFollowed M A f t) × (InSome M L A G f g₀ t₀ b g t × IsFollowed M A f t → X f g₀ t₀ b g t)
+      pub merged_entries : (f : M.Fn) (g₀ : M.Global) (t₀ : Fact M) (b : G.Block) (g : M.Global) (t : Fact M) → (X f g₀ t₀ b g t → InSome M L A G f g₀ t₀ b g t × IsFollowed M A f t) × (InSome M L A G f g₀ t₀ b g t × IsFollowed M A f t → X f g₀ t₀ b g t)
       merged_entries f g₀ t₀ b g t = (
-        (λ x. let d = V f g₀ t₀ b g t x in ((C.kind f g₀ t₀, realised M (machine M G) L I A d), followed M (machine M G) L I A Q d)),
-        (λ w. merged_least X S (derivable M (machine M G) L I A Q t w.0.1 w.1)),
+        (λ x. let d = V f g₀ t₀ b g t x in ((C.kind f g₀ t₀, realised M (supergraph M G) L I A d), followed M (supergraph M G) L I A Q d)),
+        (λ w. merged_least X S (path_edge M (supergraph M G) L I A Q t w.0.1 w.1)),
       )
 
       -- and the reports are those of all paths
-      pub merged_reports : (r : M.Report) → (Shown M L A G C X r → Reported M (machine M G) r) × (Reported M (machine M G) r → Shown M L A G C X r)
+      pub merged_reports : (r : M.Report) → (Shown M L A G C X r → Reported M (supergraph M G) r) × (Reported M (supergraph M G) r → Shown M L A G C X r)
       merged_reports r = (
-        (λ w. reported M (machine M G) L I A r (shown M L A G r (G.events w.fn w.block) (DSkip (V _ _ _ _ _ _ w.entry) (Opens w.block)) w.shows)),
-        (λ w. merged_shown X S r (found M (machine M G) L I A Q r w)),
+        (λ w. reported M (supergraph M G) L I A r (shown M L A G r (G.events w.fn w.block) (AlongSkip (V _ _ _ _ _ _ w.entry) (EntersBlock w.block)) w.shows)),
+        (λ w. merged_shown X S r (found M (supergraph M G) L I A Q r w)),
       )

@@ -1,18 +1,23 @@
 -- What is derivable is on a path.
 use Rattle.std.proofs.Common.{◌≡◌, Bool, true, false, Option, Some, None, refl, sym, ◌∙◌, ap}
-use Rattle.path_theory.specs.Model.{Model, Machine}
-use Rattle.path_theory.specs.Paths.{Bottom, Map}
-use Rattle.path_theory.specs.Runs.{Local, IsLocal, and_then, handed, Run, Here, Skipped, Gone, Closed, run_global, run_map, origin}
-use Rattle.path_theory.specs.Stacks.{OfRoot, OfCall}
-use Rattle.path_theory.specs.Derivable.{Nobody, Tracks, Gives, GivesNone, GivesState, seen, Objects, Tuple, Starts, StartsBare, StartsUnknown, Moves, MovesBare, MovesObject, Feeds, FeedsBare, FeedsObject, Hands, HandsBare, HandsObject, Derivable, DRoot, DSkip, DGo, DCall, DReturn, DSaved, IsTracked, Realised}
+use Rattle.path_theory.specs.Model.{Model}
+use Rattle.path_theory.specs.Supergraph.{Supergraph}
+use Rattle.path_theory.specs.Paths.{NoCaller, Map}
+use Rattle.path_theory.specs.Origins.{Origins, IsLocal, and_then, handed}
+use Rattle.path_theory.specs.Runs.{Run, Here, Skipped, Gone, Closed, run_global, run_map, origin}
+use Rattle.path_theory.specs.OpenFrames.{RootFrame, CalledFrame}
+use Rattle.path_theory.specs.Facts.{NoObject, HasObject, Gives, GivesNone, GivesState, fact_of, Objects, Fact}
+use Rattle.path_theory.specs.Flows.{Starts, StartsNone, StartsUnknown, EventFlow, EventNone, EventObject, CallFlow, CallNone, CallObject, ReturnFlow, ReturnNone, ReturnObject}
+use Rattle.path_theory.specs.Tabulation.{PathEdge, AtRoot, AlongSkip, AlongEvent, IntoCallee, OverCall, AroundCall}
+use Rattle.path_theory.specs.Realised.{IsTracked, Realised}
 use Rattle.path_theory.proofs.Independence.{independent}
 
 -- the object whose tuple it is
-pub seen_some : {O S : Type 0} (z : Option O) (m : O → Option S) (o : O) (x : Option S) → Tracks o x ≡ seen z m → (z ≡ Some o) × (x ≡ m o)
+pub seen_some : {O S : Type 0} (z : Option O) (m : O → Option S) (o : O) (x : Option S) → HasObject o x ≡ fact_of z m → (z ≡ Some o) × (x ≡ m o)
 seen_some None m o x e = cc
 seen_some (Some a) m o x e = let d : o ≡ a = cc in (ap Some (sym d), (let v : x ≡ m a = cc in v ∙ ap m (sym d)))
 
-seen_none : {O S : Type 0} (z : Option O) (m : O → Option S) → Nobody ≡ seen z m → z ≡ None
+seen_none : {O S : Type 0} (z : Option O) (m : O → Option S) → NoObject ≡ fact_of z m → z ≡ None
 seen_none None m e = refl
 seen_none (Some a) m e = cc
 
@@ -22,39 +27,39 @@ none_some z b e d = cc
 some_some : {O : Type 0} (z : Option O) (a b : O) → z ≡ Some a → z ≡ Some b → b ≡ a
 some_some z a b e d = cc
 
-bare_object : {O S B : Type 0} (o : O) (x : Option S) → Tracks o x ≡ Nobody → B
+bare_object : {O S B : Type 0} (o : O) (x : Option S) → HasObject o x ≡ NoObject → B
 bare_object o x e = cc
 
-module _ (M : Model) (K : Machine M) (L : Local M) (I : IsLocal M L) (A : Objects M) where
+module _ (M : Model) (K : Supergraph M) (L : Origins M) (I : IsLocal M L) (A : Objects M) where
   -- the state that a tuple gives is that of the map
-  pub gives_state : {f : M.Fn} {p : K.Place} (R : Run M K f p) (k : Bool) (g : M.Global) (m : Map M) (t₀ : Tuple M) {z : Option M.Obj} {t : Tuple M} {x : Option M.State} → Gives z t x → IsTracked M K L A R k g m t₀ t → and_then z (run_map M K R k g m) ≡ x
+  pub gives_state : {f : M.Fn} {p : K.Place} (R : Run M K f p) (k : Bool) (g : M.Global) (m : Map M) (t₀ : Fact M) {z : Option M.Obj} {t : Fact M} {x : Option M.State} → Gives z t x → IsTracked M K L R k g m t₀ t → and_then z (run_map M K R k g m) ≡ x
   gives_state R k g m t₀ GivesNone w = refl
   gives_state R k g m t₀ GivesState w = w.0
 
   -- and it goes back to the same entry tuple
-  gives_entry : {f : M.Fn} {p : K.Place} (R : Run M K f p) (k : Bool) (g : M.Global) (m : Map M) (t₀ : Tuple M) {z : Option M.Obj} {t : Tuple M} {x : Option M.State} → Gives z t x → IsTracked M K L A R k g m t₀ t → t₀ ≡ seen (and_then z (origin M K L R)) m
+  gives_entry : {f : M.Fn} {p : K.Place} (R : Run M K f p) (k : Bool) (g : M.Global) (m : Map M) (t₀ : Fact M) {z : Option M.Obj} {t : Fact M} {x : Option M.State} → Gives z t x → IsTracked M K L R k g m t₀ t → t₀ ≡ fact_of (and_then z (origin M K L R)) m
   gives_entry R k g m t₀ GivesNone w = w
   gives_entry R k g m t₀ GivesState w = w.1
 
-  pub tracked_skip : {f : M.Fn} {p q : K.Place} (R : Run M K f p) (j : K.Skips f p q) (k : Bool) (g : M.Global) (m : Map M) (t₀ t : Tuple M) → IsTracked M K L A R k g m t₀ t → IsTracked M K L A (Skipped R j) k g m t₀ t
-  tracked_skip R j k g m t₀ Nobody w = w
-  tracked_skip R j k g m t₀ (Tracks o x) w = w
+  pub tracked_skip : {f : M.Fn} {p q : K.Place} (R : Run M K f p) (j : K.Skips f p q) (k : Bool) (g : M.Global) (m : Map M) (t₀ t : Fact M) → IsTracked M K L R k g m t₀ t → IsTracked M K L (Skipped R j) k g m t₀ t
+  tracked_skip R j k g m t₀ NoObject w = w
+  tracked_skip R j k g m t₀ (HasObject o x) w = w
 
-  pub tracked_go : {f : M.Fn} {p q : K.Place} (R : Run M K f p) (e : M.Event) (j : K.Goes f p e q) (k : Bool) (g i : M.Global) (m : Map M) (t₀ : Tuple M) {t u : Tuple M} → Moves M L A f k e i t u → run_global M K R k g ≡ i → IsTracked M K L A R k g m t₀ t → IsTracked M K L A (Gone R e j) k g m t₀ u
-  tracked_go R e j k g i m t₀ MovesBare q w = w
-  tracked_go {f = f} R e j k g i m t₀ (MovesObject o x a v) q w = (
+  pub tracked_go : {f : M.Fn} {p q : K.Place} (R : Run M K f p) (e : M.Event) (j : K.Goes f p e q) (k : Bool) (g i : M.Global) (m : Map M) (t₀ : Fact M) {t u : Fact M} → EventFlow M L A f k e i t u → run_global M K R k g ≡ i → IsTracked M K L R k g m t₀ t → IsTracked M K L (Gone R e j) k g m t₀ u
+  tracked_go R e j k g i m t₀ EventNone q w = w
+  tracked_go {f = f} R e j k g i m t₀ (EventObject o x a v) q w = (
     ap (λ y. M.choose e f k y o (M.moved e (run_map M K R k g m) o)) q ∙ ap (M.choose e f k i o) (I.moved e (run_map M K R k g m) o ∙ gives_state R k g m t₀ v w),
     gives_entry R k g m t₀ v w,
   )
 
-  pub tracked_call : {f h : M.Fn} {p : K.Place} (R : Run M K f p) (s : M.Site) (k : Bool) (g i : M.Global) (m : Map M) (t₀ : Tuple M) {t u : Tuple M} → Feeds M L A s h t u → IsTracked M K L A R k g m t₀ t → IsTracked M K L A (Here {f = h}) false i (M.entered s (run_map M K R k g m)) u u
-  tracked_call R s k g i m t₀ FeedsBare w = refl
-  tracked_call R s k g i m t₀ (FeedsObject c x a v) w =
+  pub tracked_call : {f h : M.Fn} {p : K.Place} (R : Run M K f p) (s : M.Site) (k : Bool) (g i : M.Global) (m : Map M) (t₀ : Fact M) {t u : Fact M} → CallFlow M L A s h t u → IsTracked M K L R k g m t₀ t → IsTracked M K L (Here {f = h}) false i (M.entered s (run_map M K R k g m)) u u
+  tracked_call R s k g i m t₀ CallNone w = refl
+  tracked_call R s k g i m t₀ (CallObject c x a v) w =
       let e : M.entered s (run_map M K R k g m) c ≡ x = I.entered s (run_map M K R k g m) c ∙ gives_state R k g m t₀ v w in
-      (e, ap (Tracks c) (sym e))
+      (e, ap (HasObject c) (sym e))
 
   -- the state of what the callee hands back is that of the closed call
-  handed_state : {f h : M.Fn} {p q r : K.Place} (R : Run M K f p) (s : M.Site) (j : K.Jumps f p s h q) (C : Run M K h r) (e : K.Ends h r) (k : Bool) (g i : M.Global) (m n : Map M) (o c : M.Obj) (x : Option M.State) → run_global M K R k g ≡ i → L.out s o ≡ Some c → run_map M K C false i n c ≡ x → ((b : M.Obj) → origin M K L C c ≡ Some b → and_then (L.into s b) (run_map M K R k g m) ≡ n b) → run_map M K (Closed R s j C e) k g m o ≡ x
+  handed_state : {f h : M.Fn} {p q r : K.Place} (R : Run M K f p) (s : M.Site) (j : K.Calls f p s h q) (C : Run M K h r) (e : K.Ends h r) (k : Bool) (g i : M.Global) (m n : Map M) (o c : M.Obj) (x : Option M.State) → run_global M K R k g ≡ i → L.out s o ≡ Some c → run_map M K C false i n c ≡ x → ((b : M.Obj) → origin M K L C c ≡ Some b → and_then (L.into s b) (run_map M K R k g m) ≡ n b) → run_map M K (Closed R s j C e) k g m o ≡ x
   handed_state R s j C e k g i m n o c x q d y h =
       I.returned s (run_map M K C false (run_global M K R k g) (M.entered s (run_map M K R k g m))) (run_map M K R k g m) o
       ∙ ap (λ z. handed z (run_map M K C false (run_global M K R k g) (M.entered s (run_map M K R k g m))) (run_map M K R k g m o)) d
@@ -62,54 +67,54 @@ module _ (M : Model) (K : Machine M) (L : Local M) (I : IsLocal M L) (A : Object
       ∙ independent M K L I C false i (M.entered s (run_map M K R k g m)) n c (λ b l. I.entered s (run_map M K R k g m) b ∙ h b l)
       ∙ y
 
-  handed_origin : {f h : M.Fn} {p q r : K.Place} (R : Run M K f p) (s : M.Site) (j : K.Jumps f p s h q) (C : Run M K h r) (e : K.Ends h r) (o c : M.Obj) (z : Option M.Obj) → L.out s o ≡ Some c → origin M K L C c ≡ z → origin M K L (Closed R s j C e) o ≡ and_then (and_then z (L.into s)) (origin M K L R)
+  handed_origin : {f h : M.Fn} {p q r : K.Place} (R : Run M K f p) (s : M.Site) (j : K.Calls f p s h q) (C : Run M K h r) (e : K.Ends h r) (o c : M.Obj) (z : Option M.Obj) → L.out s o ≡ Some c → origin M K L C c ≡ z → origin M K L (Closed R s j C e) o ≡ and_then (and_then z (L.into s)) (origin M K L R)
   handed_origin R s j C e o c z d l =
       ap (λ y. handed y (λ b. and_then (and_then (origin M K L C b) (L.into s)) (origin M K L R)) (origin M K L R o)) d
       ∙ ap (λ y. and_then (and_then y (L.into s)) (origin M K L R)) l
 
-  pub tracked_return : {f h : M.Fn} {p q r : K.Place} (R : Run M K f p) (s : M.Site) (j : K.Jumps f p s h q) (C : Run M K h r) (e : K.Ends h r) (k : Bool) (g i : M.Global) (m n : Map M) (t₀ : Tuple M) {t u v w : Tuple M} → Feeds M L A s h t u → Hands M L A s f v w → run_global M K R k g ≡ i → IsTracked M K L A R k g m t₀ t → IsTracked M K L A C false i n u v → IsTracked M K L A (Closed R s j C e) k g m t₀ w
-  tracked_return R s j C e k g i m n t₀ FeedsBare HandsBare q a b = a
-  tracked_return R s j C e k g i m n t₀ (FeedsObject c x l v) HandsBare q a b = bare_object c x b
-  tracked_return R s j C e k g i m n t₀ FeedsBare (HandsObject o c x l d) q a b =
+  pub tracked_return : {f h : M.Fn} {p q r : K.Place} (R : Run M K f p) (s : M.Site) (j : K.Calls f p s h q) (C : Run M K h r) (e : K.Ends h r) (k : Bool) (g i : M.Global) (m n : Map M) (t₀ : Fact M) {t u v w : Fact M} → CallFlow M L A s h t u → ReturnFlow M L A s f v w → run_global M K R k g ≡ i → IsTracked M K L R k g m t₀ t → IsTracked M K L C false i n u v → IsTracked M K L (Closed R s j C e) k g m t₀ w
+  tracked_return R s j C e k g i m n t₀ CallNone ReturnNone q a b = a
+  tracked_return R s j C e k g i m n t₀ (CallObject c x l v) ReturnNone q a b = bare_object c x b
+  tracked_return R s j C e k g i m n t₀ CallNone (ReturnObject o c x l d) q a b =
       let z : origin M K L C c ≡ None = seen_none (origin M K L C c) n b.1 in (
         handed_state R s j C e k g i m n o c x q d b.0 (λ y d2. none_some (origin M K L C c) y z d2),
-        a ∙ ap (λ y. seen y m) (sym (handed_origin R s j C e o c None d z)),
+        a ∙ ap (λ y. fact_of y m) (sym (handed_origin R s j C e o c None d z)),
       )
-  tracked_return R s j C e k g i m n t₀ (FeedsObject c₀ y l₀ v) (HandsObject o c x l d) q a b =
+  tracked_return R s j C e k g i m n t₀ (CallObject c₀ y l₀ v) (ReturnObject o c x l d) q a b =
       let z = seen_some (origin M K L C c) n c₀ y b.1 in (
         handed_state R s j C e k g i m n o c x q d b.0
             (λ y2 d2. let same : y2 ≡ c₀ = some_some (origin M K L C c) c₀ y2 z.0 d2 in
             ap (λ o2. and_then (L.into s o2) (run_map M K R k g m)) same ∙ gives_state R k g m t₀ v a ∙ z.1 ∙ ap n (sym same)),
-        gives_entry R k g m t₀ v a ∙ ap (λ o2. seen o2 m) (sym (handed_origin R s j C e o c (Some c₀) d z.0)),
+        gives_entry R k g m t₀ v a ∙ ap (λ o2. fact_of o2 m) (sym (handed_origin R s j C e o c (Some c₀) d z.0)),
       )
 
-  pub tracked_saved : {f h : M.Fn} {p q r : K.Place} (R : Run M K f p) (s : M.Site) (j : K.Jumps f p s h q) (C : Run M K h r) (e : K.Ends h r) (k : Bool) (g : M.Global) (m : Map M) {t₀ : Tuple M} (o : M.Obj) (x : Option M.State) → L.out s o ≡ None → IsTracked M K L A R k g m t₀ (Tracks o x) → IsTracked M K L A (Closed R s j C e) k g m t₀ (Tracks o x)
+  pub tracked_saved : {f h : M.Fn} {p q r : K.Place} (R : Run M K f p) (s : M.Site) (j : K.Calls f p s h q) (C : Run M K h r) (e : K.Ends h r) (k : Bool) (g : M.Global) (m : Map M) {t₀ : Fact M} (o : M.Obj) (x : Option M.State) → L.out s o ≡ None → IsTracked M K L R k g m t₀ (HasObject o x) → IsTracked M K L (Closed R s j C e) k g m t₀ (HasObject o x)
   tracked_saved R s j C e k g m o x d w = (
     I.returned s (run_map M K C false (run_global M K R k g) (M.entered s (run_map M K R k g m))) (run_map M K R k g m) o
         ∙ ap (λ z. handed z (run_map M K C false (run_global M K R k g) (M.entered s (run_map M K R k g m))) (run_map M K R k g m o)) d
         ∙ w.0,
-    w.1 ∙ ap (λ o2. seen o2 m) (sym (ap (λ y. handed y (λ b. and_then (and_then (origin M K L C b) (L.into s)) (origin M K L R)) (origin M K L R o)) d)),
+    w.1 ∙ ap (λ o2. fact_of o2 m) (sym (ap (λ y. handed y (λ b. and_then (and_then (origin M K L C b) (L.into s)) (origin M K L R)) (origin M K L R o)) d)),
   )
 
-  tracked_root : {f : M.Fn} {t : Tuple M} (r : K.IsRoot f) → Starts M L A f t → IsTracked M K L A (Here {f = f}) true M.start (λ o. None) t t
-  tracked_root r StartsBare = refl
+  tracked_root : {f : M.Fn} {t : Fact M} (r : K.IsRoot f) → Starts M L A f t → IsTracked M K L (Here {f = f}) true M.start (λ o. None) t t
+  tracked_root r StartsNone = refl
   tracked_root r (StartsUnknown o a) = (refl, refl)
 
-  pub realised : {f : M.Fn} {k : Bool} {g₀ g : M.Global} {t₀ t : Tuple M} {p : K.Place} → Derivable M K L A f k g₀ t₀ p g t → Realised M K L A f k g₀ t₀ p g t
-  realised (DRoot r a) = record { below = Bottom; opened = OfRoot r; run = Here; entry = refl; global = refl; tracked = tracked_root r a }
-  realised (DSkip D t) = let w = realised D in record { below = w.below; opened = w.opened; run = Skipped w.run t; entry = w.entry; global = w.global; tracked = tracked_skip w.run t _ _ _ _ _ w.tracked }
-  realised (DGo {f = f} {k = k} D e t a) =
+  pub realised : {f : M.Fn} {k : Bool} {g₀ g : M.Global} {t₀ t : Fact M} {p : K.Place} → PathEdge M K L A f k g₀ t₀ p g t → Realised M K L f k g₀ t₀ p g t
+  realised (AtRoot r a) = record { below = NoCaller; opened = RootFrame r; run = Here; entry = refl; global = refl; tracked = tracked_root r a }
+  realised (AlongSkip D t) = let w = realised D in record { below = w.below; opened = w.opened; run = Skipped w.run t; entry = w.entry; global = w.global; tracked = tracked_skip w.run t _ _ _ _ _ w.tracked }
+  realised (AlongEvent {f = f} {k = k} D e t a) =
       let w = realised D in
       record { below = w.below; opened = w.opened; run = Gone w.run e t; entry = w.entry; global = ap (M.next_global e f k) w.global; tracked = tracked_go w.run e t _ _ _ _ _ a w.global w.tracked }
-  realised (DCall {h = h} {k = k} {g = g} D s t a) =
+  realised (IntoCallee {h = h} {k = k} {g = g} D s t a) =
       let w = realised D in
-      record { below = _; opened = OfCall w.opened w.run s h t; run = Here; entry = w.global; global = w.global; tracked = tracked_call w.run s k _ g _ _ a w.tracked }
-  realised (DReturn {k = k} D s t a C e b) =
+      record { below = _; opened = CalledFrame w.opened w.run s h t; run = Here; entry = w.global; global = w.global; tracked = tracked_call w.run s k _ g _ _ a w.tracked }
+  realised (OverCall {k = k} D s t a C e b) =
       let w = realised D in
       let v = realised C in
       let same = w.global ∙ sym v.entry in
       record { below = w.below; opened = w.opened; run = Closed w.run s t v.run e; entry = w.entry; global = ap (run_global M K v.run false) same ∙ v.global; tracked = tracked_return w.run s t v.run e k _ _ _ _ _ a b same w.tracked v.tracked }
-  realised (DSaved {k = k} D s t C e d) =
+  realised (AroundCall {k = k} D s t C e d) =
       let w = realised D in
       let v = realised C in
       record { below = w.below; opened = w.opened; run = Closed w.run s t v.run e; entry = w.entry; global = ap (run_global M K v.run false) (w.global ∙ sym v.entry) ∙ v.global; tracked = tracked_saved w.run s t v.run e k _ _ _ _ d w.tracked }

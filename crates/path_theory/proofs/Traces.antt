@@ -1,11 +1,15 @@
 -- Machines with the same traces have the same paths, states and reports.
 use Rattle.std.proofs.Common.{◌≡◌, Bool, false, Option, Some, None, refl, sym, ◌∙◌, ap, subst}
-use Rattle.path_theory.specs.Model.{Model, Machine, Label, Does, Calls, Trail, Start, More}
-use Rattle.path_theory.specs.Walks.{Labels, Walk, WalkStart, WalkSkip, WalkGo, WalkJump, HasTraces}
-use Rattle.path_theory.specs.Paths.{Below, Bottom, Map, stepped, Reported, Of, OfGlobal}
-use Rattle.path_theory.specs.Runs.{Local, and_then, handed, Run, Here, Skipped, Gone, Closed, run_global, run_map, origin, labels_of}
-use Rattle.path_theory.specs.Stacks.{Opened, OfRoot, OfCall, at_entry}
-use Rattle.path_theory.specs.Derivable.{Nobody, Tracks, Tuple, Objects, seen, IsTracked, Realised}
+use Rattle.path_theory.specs.Model.{Model}
+use Rattle.path_theory.specs.Supergraph.{Supergraph}
+use Rattle.path_theory.specs.Trails.{Trail, Start, More}
+use Rattle.path_theory.specs.Walks.{Label, AtEvent, AtCall, Labels, Walk, WalkStart, WalkSkip, WalkGo, WalkCall, HasTraces}
+use Rattle.path_theory.specs.Paths.{Callers, NoCaller, Map, stepped, Reported, ReportOf, ReportOfGlobal}
+use Rattle.path_theory.specs.Origins.{Origins, and_then, handed}
+use Rattle.path_theory.specs.Runs.{Run, Here, Skipped, Gone, Closed, run_global, run_map, origin, labels_of}
+use Rattle.path_theory.specs.OpenFrames.{OpenFrames, RootFrame, CalledFrame, at_entry}
+use Rattle.path_theory.specs.Facts.{NoObject, HasObject, Fact, Objects, fact_of}
+use Rattle.path_theory.specs.Realised.{IsTracked, Realised, RealisedByTraces}
 use Rattle.path_theory.proofs.Splitting.{split, flat}
 use Rattle.path_theory.proofs.Complete.{walk_of}
 
@@ -15,16 +19,16 @@ start_more d = cc
 more_init : {A : Type 0} {l m : Trail A} {a b : A} → More l a ≡ More m b → l ≡ m
 more_init d = cc
 
-more_does : {E S F : Type 0} {l m : Trail (Label E S F)} {a b : E} → More l (Does a) ≡ More m (Does b) → a ≡ b
+more_does : {E S F : Type 0} {l m : Trail (Label E S F)} {a b : E} → More l (AtEvent a) ≡ More m (AtEvent b) → a ≡ b
 more_does d = cc
 
-more_site : {E S F : Type 0} {l m : Trail (Label E S F)} {a b : S} {f g : F} → More l (Calls a f) ≡ More m (Calls b g) → a ≡ b
+more_site : {E S F : Type 0} {l m : Trail (Label E S F)} {a b : S} {f g : F} → More l (AtCall a f) ≡ More m (AtCall b g) → a ≡ b
 more_site d = cc
 
-more_callee : {E S F : Type 0} {l m : Trail (Label E S F)} {a b : S} {f g : F} → More l (Calls a f) ≡ More m (Calls b g) → f ≡ g
+more_callee : {E S F : Type 0} {l m : Trail (Label E S F)} {a b : S} {f g : F} → More l (AtCall a f) ≡ More m (AtCall b g) → f ≡ g
 more_callee d = cc
 
-does_calls : {E S F B : Type 0} {l m : Trail (Label E S F)} {a : E} {b : S} {f : F} → More l (Does a) ≡ More m (Calls b f) → B
+does_calls : {E S F B : Type 0} {l m : Trail (Label E S F)} {a : E} {b : S} {f : F} → More l (AtEvent a) ≡ More m (AtCall b f) → B
 does_calls d = cc
 
 and_same : {A B : Type 0} (z : Option A) {f g : A → Option B} → ((a : A) → f a ≡ g a) → and_then z f ≡ and_then z g
@@ -35,13 +39,13 @@ handed_all : {A B : Type 0} (z : Option A) {f g : A → Option B} {a b : Option 
 handed_all None h d = d
 handed_all (Some c) h d = h c
 
-module _ (M : Model) (K₁ K₂ : Machine M) (H : HasTraces M K₁ K₂) where
+module _ (M : Model) (K₁ K₂ : Supergraph M) (H : HasTraces M K₁ K₂) where
   -- the same run on the other machine
   pub record Twin {f : M.Fn} {p : K₁.Place} (R : Run M K₁ f p) (q : K₂.Place) : Type 0 where
     pub run : Run M K₂ f q
     pub global : (k : Bool) (g : M.Global) → run_global M K₂ run k g ≡ run_global M K₁ R k g
     pub map : (k : Bool) (g : M.Global) (m : Map M) → run_map M K₂ run k g m ≡ run_map M K₁ R k g m
-    pub origins : (L : Local M) (o : M.Obj) → origin M K₂ L run o ≡ origin M K₁ L R o
+    pub origins : (L : Origins M) (o : M.Obj) → origin M K₂ L run o ≡ origin M K₁ L R o
     pub labels : labels_of M K₂ run ≡ labels_of M K₁ R
 
   twin_skip : {f : M.Fn} {p : K₁.Place} {R : Run M K₁ f p} {q r : K₂.Place} → Twin R q → K₂.Skips f q r → Twin R r
@@ -51,9 +55,9 @@ module _ (M : Model) (K₁ K₂ : Machine M) (H : HasTraces M K₁ K₂) where
   twin_here WalkStart d = record { run = Here; global = λ k g. refl; map = λ k g m. refl; origins = λ L o. refl; labels = refl }
   twin_here (WalkSkip W t) d = twin_skip (twin_here W d) t
   twin_here (WalkGo W e t) d = start_more (sym d)
-  twin_here (WalkJump W s h t) d = start_more (sym d)
+  twin_here (WalkCall W s h t) d = start_more (sym d)
 
-  twin_go : {f : M.Fn} {p r : K₁.Place} (R : Run M K₁ f p) (e : M.Event) (t : K₁.Goes f p e r) → ((q : K₂.Place) → Walk M K₂ f (labels_of M K₁ R) q → Twin R q) → {l : Labels M} {q : K₂.Place} → Walk M K₂ f l q → l ≡ More (labels_of M K₁ R) (Does e) → Twin (Gone R e t) q
+  twin_go : {f : M.Fn} {p r : K₁.Place} (R : Run M K₁ f p) (e : M.Event) (t : K₁.Goes f p e r) → ((q : K₂.Place) → Walk M K₂ f (labels_of M K₁ R) q → Twin R q) → {l : Labels M} {q : K₂.Place} → Walk M K₂ f l q → l ≡ More (labels_of M K₁ R) (AtEvent e) → Twin (Gone R e t) q
   twin_go R e t h WalkStart d = start_more d
   twin_go R e t h (WalkSkip W j) d = twin_skip (twin_go R e t h W d) j
   twin_go {f = f} R e t h (WalkGo {p = p} {q = q} W i j) d =
@@ -63,9 +67,9 @@ module _ (M : Model) (K₁ K₂ : Machine M) (H : HasTraces M K₁ K₂) where
         global = λ k g. ap (M.next_global e f k) (w.global k g);
         map = λ k g m. ap (λ y. stepped M e f k y (run_map M K₂ w.run k g m)) (w.global k g) ∙ ap (stepped M e f k (run_global M K₁ R k g)) (w.map k g m);
         origins = λ L o. and_same (L.source e o) (w.origins L);
-        labels = ap (λ l. More l (Does e)) w.labels;
+        labels = ap (λ l. More l (AtEvent e)) w.labels;
       }
-  twin_go R e t h (WalkJump W s i j) d = does_calls (sym d)
+  twin_go R e t h (WalkCall W s i j) d = does_calls (sym d)
 
   -- a closed call on the other machine
   pub record TwinCall {h : M.Fn} {p : K₁.Place} (C : Run M K₁ h p) : Type 0 where
@@ -73,14 +77,14 @@ module _ (M : Model) (K₁ K₂ : Machine M) (H : HasTraces M K₁ K₂) where
     pub twin : Twin C place
     pub ends : K₂.Ends h place
 
-  twin_closed : {f h : M.Fn} {p q r : K₁.Place} (R : Run M K₁ f p) (s : M.Site) (t : K₁.Jumps f p s h q) (C : Run M K₁ h r) (e : K₁.Ends h r) → ((q : K₂.Place) → Walk M K₂ f (labels_of M K₁ R) q → Twin R q) → TwinCall C → {l : Labels M} {q : K₂.Place} → Walk M K₂ f l q → l ≡ More (labels_of M K₁ R) (Calls s h) → Twin (Closed R s t C e) q
+  twin_closed : {f h : M.Fn} {p q r : K₁.Place} (R : Run M K₁ f p) (s : M.Site) (t : K₁.Calls f p s h q) (C : Run M K₁ h r) (e : K₁.Ends h r) → ((q : K₂.Place) → Walk M K₂ f (labels_of M K₁ R) q → Twin R q) → TwinCall C → {l : Labels M} {q : K₂.Place} → Walk M K₂ f l q → l ≡ More (labels_of M K₁ R) (AtCall s h) → Twin (Closed R s t C e) q
   twin_closed R s t C e i c WalkStart d = start_more d
   twin_closed R s t C e i c (WalkSkip W j) d = twin_skip (twin_closed R s t C e i c W d) j
   twin_closed R s t C e i c (WalkGo W a j) d = does_calls d
-  twin_closed {f = f} {h = h} R s t C e i c (WalkJump {p = p} {q = q} W a b j) d =
+  twin_closed {f = f} {h = h} R s t C e i c (WalkCall {p = p} {q = q} W a b j) d =
       let w = i p (subst (λ l. Walk M K₂ f l p) (more_init d) W) in
       record {
-        run = Closed w.run s (subst (λ y. K₂.Jumps f p s y q) (more_callee d) (subst (λ y. K₂.Jumps f p y b q) (more_site d) j)) c.twin.run c.ends;
+        run = Closed w.run s (subst (λ y. K₂.Calls f p s y q) (more_callee d) (subst (λ y. K₂.Calls f p y b q) (more_site d) j)) c.twin.run c.ends;
         global = λ k g. ap (run_global M K₂ c.twin.run false) (w.global k g) ∙ c.twin.global false (run_global M K₁ R k g);
         map = λ k g m.
             ap (λ y. M.returned s (run_map M K₂ c.twin.run false y (M.entered s (run_map M K₂ w.run k g m))) (run_map M K₂ w.run k g m)) (w.global k g)
@@ -89,7 +93,7 @@ module _ (M : Model) (K₁ K₂ : Machine M) (H : HasTraces M K₁ K₂) where
         origins = λ L o. handed_all (L.out s o)
             (λ b. ap (λ z. and_then (and_then z (L.into s)) (origin M K₂ L w.run)) (c.twin.origins L b) ∙ and_same (and_then (origin M K₁ L C b) (L.into s)) (w.origins L))
             (w.origins L o);
-        labels = ap (λ l. More l (Calls s h)) w.labels;
+        labels = ap (λ l. More l (AtCall s h)) w.labels;
       }
 
   -- each run has one for each walk with its trace
@@ -110,90 +114,90 @@ module _ (M : Model) (K₁ K₂ : Machine M) (H : HasTraces M K₁ K₂) where
     walk : Walk M K₂ f l from
     goes : K₂.Goes f from e to
 
-  last_go : {f : M.Fn} {l m : Labels M} {e : M.Event} {q : K₂.Place} → Walk M K₂ f l q → l ≡ More m (Does e) → LastGo f m e
+  last_go : {f : M.Fn} {l m : Labels M} {e : M.Event} {q : K₂.Place} → Walk M K₂ f l q → l ≡ More m (AtEvent e) → LastGo f m e
   last_go WalkStart d = start_more d
   last_go (WalkSkip W t) d = last_go W d
   last_go {f = f} (WalkGo {p = p} {q = q} W e t) d = record { from = p; to = q; walk = subst (λ l. Walk M K₂ f l p) (more_init d) W; goes = subst (λ e. K₂.Goes f p e q) (more_does d) t }
-  last_go (WalkJump W s h t) d = does_calls (sym d)
+  last_go (WalkCall W s h t) d = does_calls (sym d)
 
   record LastJump (f : M.Fn) (l : Labels M) (s : M.Site) (h : M.Fn) : Type 0 where
     from : K₂.Place
     to : K₂.Place
     walk : Walk M K₂ f l from
-    jumps : K₂.Jumps f from s h to
+    calls : K₂.Calls f from s h to
 
-  last_jump : {f h : M.Fn} {l m : Labels M} {s : M.Site} {q : K₂.Place} → Walk M K₂ f l q → l ≡ More m (Calls s h) → LastJump f m s h
+  last_jump : {f h : M.Fn} {l m : Labels M} {s : M.Site} {q : K₂.Place} → Walk M K₂ f l q → l ≡ More m (AtCall s h) → LastJump f m s h
   last_jump WalkStart d = start_more d
   last_jump (WalkSkip W t) d = last_jump W d
   last_jump (WalkGo W e t) d = does_calls d
-  last_jump {f = f} {s = a} (WalkJump {p = p} {q = q} W s h t) d = record { from = p; to = q; walk = subst (λ l. Walk M K₂ f l p) (more_init d) W; jumps = subst (λ y. K₂.Jumps f p a y q) (more_callee d) (subst (λ y. K₂.Jumps f p y h q) (more_site d) t) }
+  last_jump {f = f} {s = a} (WalkCall {p = p} {q = q} W s h t) d = record { from = p; to = q; walk = subst (λ l. Walk M K₂ f l p) (more_init d) W; calls = subst (λ y. K₂.Calls f p a y q) (more_callee d) (subst (λ y. K₂.Calls f p y h q) (more_site d) t) }
 
   -- the frames below on the other machine
-  pub record TwinFrames {f : M.Fn} {k : Bool} {b : Below M K₁} (O : Opened M K₁ f k b) : Type 0 where
-    pub below : Below M K₂
-    pub opened : Opened M K₂ f k below
+  pub record TwinFrames {f : M.Fn} {k : Bool} {b : Callers M K₁} (O : OpenFrames M K₁ f k b) : Type 0 where
+    pub below : Callers M K₂
+    pub opened : OpenFrames M K₂ f k below
     pub global : (at_entry M K₂ opened).global ≡ (at_entry M K₁ O).global
     pub here : (at_entry M K₂ opened).here ≡ (at_entry M K₁ O).here
 
   -- the state behind a run on open frames, on both machines
-  both_global : {f : M.Fn} {k : Bool} {p : K₁.Place} {b : Below M K₁} (O : Opened M K₁ f k b) (R : Run M K₁ f p) {q : K₂.Place} (w : TwinFrames O) (v : Twin R q) → run_global M K₂ v.run k (at_entry M K₂ w.opened).global ≡ run_global M K₁ R k (at_entry M K₁ O).global
+  both_global : {f : M.Fn} {k : Bool} {p : K₁.Place} {b : Callers M K₁} (O : OpenFrames M K₁ f k b) (R : Run M K₁ f p) {q : K₂.Place} (w : TwinFrames O) (v : Twin R q) → run_global M K₂ v.run k (at_entry M K₂ w.opened).global ≡ run_global M K₁ R k (at_entry M K₁ O).global
   both_global {k = k} O R w v = v.global k (at_entry M K₂ w.opened).global ∙ ap (run_global M K₁ R k) w.global
 
-  both_map : {f : M.Fn} {k : Bool} {p : K₁.Place} {b : Below M K₁} (O : Opened M K₁ f k b) (R : Run M K₁ f p) {q : K₂.Place} (w : TwinFrames O) (v : Twin R q) → run_map M K₂ v.run k (at_entry M K₂ w.opened).global (at_entry M K₂ w.opened).here ≡ run_map M K₁ R k (at_entry M K₁ O).global (at_entry M K₁ O).here
+  both_map : {f : M.Fn} {k : Bool} {p : K₁.Place} {b : Callers M K₁} (O : OpenFrames M K₁ f k b) (R : Run M K₁ f p) {q : K₂.Place} (w : TwinFrames O) (v : Twin R q) → run_map M K₂ v.run k (at_entry M K₂ w.opened).global (at_entry M K₂ w.opened).here ≡ run_map M K₁ R k (at_entry M K₁ O).global (at_entry M K₁ O).here
   both_map {k = k} O R w v = v.map k (at_entry M K₂ w.opened).global (at_entry M K₂ w.opened).here
       ∙ ap (λ g. run_map M K₁ R k g (at_entry M K₂ w.opened).here) w.global
       ∙ ap (run_map M K₁ R k (at_entry M K₁ O).global) w.here
 
-  pub twin_frames : {f : M.Fn} {k : Bool} {b : Below M K₁} (O : Opened M K₁ f k b) → TwinFrames O
-  twin_frames (OfRoot r) = record { below = Bottom; opened = OfRoot (H.roots _ r); global = refl; here = refl }
-  twin_frames (OfCall {f = f} {k = k} O R s h t) =
+  pub twin_frames : {f : M.Fn} {k : Bool} {b : Callers M K₁} (O : OpenFrames M K₁ f k b) → TwinFrames O
+  twin_frames (RootFrame r) = record { below = NoCaller; opened = RootFrame (H.roots _ r); global = refl; here = refl }
+  twin_frames (CalledFrame {f = f} {k = k} O R s h t) =
       let w = twin_frames O in
-      let x = H.traces f (More (labels_of M K₁ R) (Calls s h)) (_, WalkJump (walk_of M K₁ R) s h t) in
+      let x = H.traces f (More (labels_of M K₁ R) (AtCall s h)) (_, WalkCall (walk_of M K₁ R) s h t) in
       let y = last_jump x.1 refl in
       let v = twin R y.from y.walk in
       record {
         below = _;
-        opened = OfCall w.opened v.run s h y.jumps;
+        opened = CalledFrame w.opened v.run s h y.calls;
         global = both_global O R w v;
         here = ap (M.entered s) (both_map O R w v);
       }
 
   -- each report of a path on the first machine is one of a path on the second
   pub reported_on : (r : M.Report) → Reported M K₁ r → Reported M K₂ r
-  reported_on r (Of {f = f} {k = k} P e t o i) =
+  reported_on r (ReportOf {f = f} {k = k} P e t o i) =
       let s = split M K₁ P in
-      let x = H.traces f (More (labels_of M K₁ s.run) (Does e)) (_, WalkGo (walk_of M K₁ s.run) e t) in
+      let x = H.traces f (More (labels_of M K₁ s.run) (AtEvent e)) (_, WalkGo (walk_of M K₁ s.run) e t) in
       let y = last_go x.1 refl in
       let v = twin s.run y.from y.walk in
       let w = twin_frames s.opened in
       let F = flat M K₂ w.opened v.run in
-      Of F.path e y.goes o
+      ReportOf F.path e y.goes o
       (subst (λ n. M.Fires e f k n.global o (M.moved e n.here o) r) (sym F.state)
       (subst (λ (m : Map M). M.Fires e f k (run_global M K₂ v.run k (at_entry M K₂ w.opened).global) o (M.moved e m o) r) (sym (both_map s.opened s.run w v))
       (subst (λ g. M.Fires e f k g o (M.moved e (run_map M K₁ s.run k (at_entry M K₁ s.opened).global (at_entry M K₁ s.opened).here) o) r) (sym (both_global s.opened s.run w v))
       (subst (λ n. M.Fires e f k n.global o (M.moved e n.here o) r) s.state i))))
-  reported_on r (OfGlobal {f = f} {k = k} P e t i) =
+  reported_on r (ReportOfGlobal {f = f} {k = k} P e t i) =
       let s = split M K₁ P in
-      let x = H.traces f (More (labels_of M K₁ s.run) (Does e)) (_, WalkGo (walk_of M K₁ s.run) e t) in
+      let x = H.traces f (More (labels_of M K₁ s.run) (AtEvent e)) (_, WalkGo (walk_of M K₁ s.run) e t) in
       let y = last_go x.1 refl in
       let v = twin s.run y.from y.walk in
       let w = twin_frames s.opened in
       let F = flat M K₂ w.opened v.run in
-      OfGlobal F.path e y.goes
+      ReportOfGlobal F.path e y.goes
       (subst (λ n. M.FiresGlobal e f k n.global r) (sym F.state)
       (subst (λ g. M.FiresGlobal e f k g r) (sym (both_global s.opened s.run w v))
       (subst (λ n. M.FiresGlobal e f k n.global r) s.state i)))
 
-  module _ (L : Local M) (A : Objects M) where
-    tracked_on : {f : M.Fn} {k : Bool} {p : K₁.Place} {b : Below M K₁} (O : Opened M K₁ f k b) (R : Run M K₁ f p) {q : K₂.Place} (w : TwinFrames O) (v : Twin R q) (t₀ t : Tuple M) → IsTracked M K₁ L A R k (at_entry M K₁ O).global (at_entry M K₁ O).here t₀ t → IsTracked M K₂ L A v.run k (at_entry M K₂ w.opened).global (at_entry M K₂ w.opened).here t₀ t
-    tracked_on O R w v t₀ Nobody a = a
-    tracked_on O R w v t₀ (Tracks o x) a = (
+  module _ (L : Origins M) where
+    tracked_on : {f : M.Fn} {k : Bool} {p : K₁.Place} {b : Callers M K₁} (O : OpenFrames M K₁ f k b) (R : Run M K₁ f p) {q : K₂.Place} (w : TwinFrames O) (v : Twin R q) (t₀ t : Fact M) → IsTracked M K₁ L R k (at_entry M K₁ O).global (at_entry M K₁ O).here t₀ t → IsTracked M K₂ L v.run k (at_entry M K₂ w.opened).global (at_entry M K₂ w.opened).here t₀ t
+    tracked_on O R w v t₀ NoObject a = a
+    tracked_on O R w v t₀ (HasObject o x) a = (
       ap (λ (m : Map M). m o) (both_map O R w v) ∙ a.0,
-      a.1 ∙ ap (seen (origin M K₁ L R o)) (sym w.here) ∙ ap (λ z. seen z (at_entry M K₂ w.opened).here) (sym (v.origins L o)),
+      a.1 ∙ ap (fact_of (origin M K₁ L R o)) (sym w.here) ∙ ap (λ z. fact_of z (at_entry M K₂ w.opened).here) (sym (v.origins L o)),
     )
 
     -- what is realised by the traces of the first machine is so at each place of the second to which a walk with the last frame's trace leads
-    pub realised_on : {f : M.Fn} {k : Bool} {g₀ g : M.Global} {t₀ t : Tuple M} {p : K₁.Place} {q : K₂.Place} (w : Realised M K₁ L A f k g₀ t₀ p g t) → Walk M K₂ f (labels_of M K₁ w.run) q → Realised M K₂ L A f k g₀ t₀ q g t
+    pub realised_on : {f : M.Fn} {k : Bool} {g₀ g : M.Global} {t₀ t : Fact M} {p : K₁.Place} {q : K₂.Place} (w : Realised M K₁ L f k g₀ t₀ p g t) → Walk M K₂ f (labels_of M K₁ w.run) q → Realised M K₂ L f k g₀ t₀ q g t
     realised_on {t₀ = t₀} {t = t} {q = q} w W =
         let v = twin w.run q W in
         let F = twin_frames w.opened in
@@ -206,24 +210,19 @@ module _ (M : Model) (K₁ K₂ : Machine M) (H : HasTraces M K₁ K₂) where
           tracked = tracked_on w.opened w.run F v t₀ t w.tracked;
         }
 
-    -- D25 by traces: a path of the first machine, whose last frame's trace is walked on the second
-    pub record ByTraces (f : M.Fn) (k : Bool) (g₀ : M.Global) (t₀ : Tuple M) (q : K₂.Place) (g : M.Global) (t : Tuple M) : Type 0 where
-      pub place : K₁.Place
-      pub realised : Realised M K₁ L A f k g₀ t₀ place g t
-      pub walk : Walk M K₂ f (labels_of M K₁ realised.run) q
-
-    pub by_traces : {f : M.Fn} {k : Bool} {g₀ g : M.Global} {t₀ t : Tuple M} {q : K₂.Place} → ByTraces f k g₀ t₀ q g t → Realised M K₂ L A f k g₀ t₀ q g t
+    -- by a path of the first and a walk on the second
+    pub by_traces : {f : M.Fn} {k : Bool} {g₀ g : M.Global} {t₀ t : Fact M} {q : K₂.Place} → RealisedByTraces M K₁ K₂ L f k g₀ t₀ q g t → Realised M K₂ L f k g₀ t₀ q g t
     by_traces w = realised_on w.realised w.walk
 
 -- and the other way round
-module _ (M : Model) (K₁ K₂ : Machine M) (H : HasTraces M K₁ K₂) (J : HasTraces M K₂ K₁) (L : Local M) (A : Objects M) where
-  pub to_traces : {f : M.Fn} {k : Bool} {g₀ g : M.Global} {t₀ t : Tuple M} {q : K₂.Place} → Realised M K₂ L A f k g₀ t₀ q g t → ByTraces M K₁ K₂ H L A f k g₀ t₀ q g t
+module _ (M : Model) (K₁ K₂ : Supergraph M) (H : HasTraces M K₁ K₂) (J : HasTraces M K₂ K₁) (L : Origins M) where
+  pub to_traces : {f : M.Fn} {k : Bool} {g₀ g : M.Global} {t₀ t : Fact M} {q : K₂.Place} → Realised M K₂ L f k g₀ t₀ q g t → RealisedByTraces M K₁ K₂ L f k g₀ t₀ q g t
   unfolding realised_on
   to_traces {f = f} {q = q} w =
       let W = walk_of M K₂ w.run in
       let x = J.traces f (labels_of M K₂ w.run) (q, W) in
       record {
         place = x.0;
-        realised = realised_on M K₂ K₁ J L A w x.1;
+        realised = realised_on M K₂ K₁ J L w x.1;
         walk = subst (λ l. Walk M K₂ f l q) (sym (twin M K₂ K₁ J w.run x.0 x.1).labels) W;
       }

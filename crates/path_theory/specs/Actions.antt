@@ -1,7 +1,9 @@
--- Paths as flat lists of events, calls and returns, and the fold over such a list. No place stands in a list.
-use Rattle.std.specs.Prelude.{◌≡◌, Bool, true, false, None, List, [], ◌∷◌, ◌⊎◌}
-use Rattle.path_theory.specs.Model.{Model, Machine, Trail, Start, More}
-use Rattle.path_theory.specs.Paths.{Map, stepped, Below, Path, Begin, Skip, Go, Call, Return}
+-- What happens on a path as one flat list: events, calls and returns, with no place of a program in it.
+-- The state after a list and the errors on it are computed from the list alone, by a fold over whole maps.
+use Rattle.std.specs.Prelude.{Bool, true, false, Option, None, List, [], ◌∷◌, ◌⊎◌}
+use Rattle.path_theory.specs.Model.{Model}
+use Rattle.path_theory.specs.Trails.{Trail, Start, More}
+use Rattle.path_theory.specs.Paths.{Map, stepped}
 
 pub data Action (E S F : Type 0) : Type 0 where
   Did : E → Action E S F
@@ -37,7 +39,7 @@ module _ (M : Model) where
   back_to s g top [] = record { global = g; top = top; below = [] }
   back_to s g top (c ∷ cs) = record { global = g; top = record { fn = c.fn; is_root = c.is_root; map = M.returned s top.map c.map }; below = cs }
 
-  -- the state after a list of actions that begins with this root
+  -- the state after a list of actions that begins in this root
   abbrev pub fold : M.Fn → Actions → State
   fold f Start = record { global = M.start; top = record { fn = f; is_root = true; map = λ o. None }; below = [] }
   fold f (More l (Did e)) = go e (fold f l)
@@ -48,49 +50,9 @@ module _ (M : Model) where
   abbrev pub TakenAt : M.Event → State → M.Report → Type 0
   TakenAt e s r = ((o : M.Obj) × M.Fires e s.top.fn s.top.is_root s.global o (M.moved e s.top.map o) r) ⊎ M.FiresGlobal e s.top.fn s.top.is_root s.global r
 
-  -- the reports of a list of actions
+  -- the reports that a list of actions takes
   abbrev pub Errors : M.Fn → Actions → M.Report → Type 0
   Errors f Start r = ⊥
   Errors f (More l (Did e)) r = Errors f l r ⊎ TakenAt e (fold f l) r
   Errors f (More l (Called s h)) r = Errors f l r
   Errors f (More l (Returned s)) r = Errors f l r
-
-  module _ (K : Machine M) where
-    abbrev pub root_of : {f : M.Fn} {k : Bool} {p : K.Place} {b : Below M K} → Path M K f k p b → M.Fn
-    root_of (Begin {f = f} r) = f
-    root_of (Skip P t) = root_of P
-    root_of (Go P e t) = root_of P
-    root_of (Call P s h t) = root_of P
-    root_of (Return s P t) = root_of P
-
-    abbrev pub actions_of : {f : M.Fn} {k : Bool} {p : K.Place} {b : Below M K} → Path M K f k p b → Actions
-    actions_of (Begin r) = Start
-    actions_of (Skip P t) = actions_of P
-    actions_of (Go P e t) = More (actions_of P) (Did e)
-    actions_of (Call P s h t) = More (actions_of P) (Called s h)
-    actions_of (Return s P t) = More (actions_of P) (Returned s)
-
-    -- the list is a path from this root
-    pub record IsPath (root : M.Fn) (l : Actions) : Type 0 where
-      pub fn : M.Fn
-      pub kind : Bool
-      pub place : K.Place
-      pub below : Below M K
-      pub path : Path M K fn kind place below
-      pub root_is : root_of path ≡ root
-      pub actions_are : actions_of path ≡ l
-
-    -- some path takes the report at its last event
-    pub record Taken (r : M.Report) : Type 0 where
-      pub root : M.Fn
-      pub actions : Actions
-      pub event : M.Event
-      pub path : IsPath root (More actions (Did event))
-      pub takes : TakenAt event (fold root actions) r
-
-    -- some path takes the report at one of its events
-    pub record InErrors (r : M.Report) : Type 0 where
-      pub root : M.Fn
-      pub actions : Actions
-      pub path : IsPath root actions
-      pub errors : Errors root actions r

@@ -1,0 +1,19 @@
+-- How long paths are, in events, calls and returns, and in how many steps a path takes a report.
+-- A shortest path for a report is one of least length that takes it at its last event.
+use Rattle.std.specs.Prelude.{ℕ, suc, Bool}
+use Rattle.path_theory.specs.Model.{Model}
+use Rattle.path_theory.specs.Supergraph.{Supergraph}
+use Rattle.path_theory.specs.Paths.{Callers, Path, Begin, Skip, Go, Call, Return, after}
+
+module _ (M : Model) (K : Supergraph M) where
+  abbrev pub path_length : {f : M.Fn} {k : Bool} {p : K.Place} {b : Callers M K} → Path M K f k p b → ℕ
+  path_length (Begin r) = 0
+  path_length (Skip P t) = path_length P
+  path_length (Go P e t) = suc (path_length P)
+  path_length (Call P s h t) = suc (path_length P)
+  path_length (Return s P t) = suc (path_length P)
+
+  -- a path of this length takes the report at its last event
+  pub data ReportedIn (r : M.Report) : ℕ → Type 0 where
+    ReportOfIn : {f : M.Fn} {k : Bool} {p q : K.Place} {b : Callers M K} (P : Path M K f k p b) (e : M.Event) → K.Goes f p e q → (o : M.Obj) → M.Fires e f k (after M K P).global o (M.moved e (after M K P).here o) r → ReportedIn r (suc (path_length P))
+    ReportOfGlobalIn : {f : M.Fn} {k : Bool} {p q : K.Place} {b : Callers M K} (P : Path M K f k p b) (e : M.Event) → K.Goes f p e q → M.FiresGlobal e f k (after M K P).global r → ReportedIn r (suc (path_length P))
