@@ -12,14 +12,7 @@ use Rattle.path_theory.specs.Realised.{Realised, IsTracked}
 use Rattle.path_theory.specs.FlowGraphs.{FlowGraphs, Point, Head, Before, PointSkips, EntersBlock, LeavesBlock, PointGoes, PassesEvent, PointCalls, MakesCall, supergraph}
 use Rattle.path_theory.specs.FrameEnds.{Exits, EachStays, ExitsApart}
 use Rattle.path_theory.proofs.Independence.{independent}
-use Rattle.path_theory.proofs.Sound.{seen_some}
-
-bare_object : {O S B : Type 0} (o : O) (x : Option S) → HasObject o x ≡ NoObject → B
-bare_object o x e = cc
-
-seen_same : {O S : Type 0} (z : Option O) (m n : O → Option S) → ((b : O) → z ≡ Some b → m b ≡ n b) → fact_of z m ≡ fact_of z n
-seen_same None m n h = refl
-seen_same (Some o) m n h = ap (HasObject o) (h o refl)
+use Rattle.path_theory.proofs.SmallFacts.{no_object_object, fact_of_same, fact_of_some}
 
 module _ (M : Model) (L : Origins M) (E : Exits M L) where
   module _ (K : Supergraph M) where
@@ -50,8 +43,8 @@ module _ (M : Model) (L : Origins M) (E : Exits M L) where
     module _ (I : IsLocal M L) (A : Objects M) where
       -- the entry tuple is that of the frame's entry
       entry_state : {f : M.Fn} {p : K.Place} (R : Run M K f p) (k : Bool) (g : M.Global) (m : Map M) (t₀ t : Fact M) → IsTracked M K L R k g m t₀ t → (b : M.Obj) (x : Option M.State) → t₀ ≡ HasObject b x → m b ≡ x
-      entry_state R k g m t₀ NoObject w b x d = bare_object b x (sym d ∙ w)
-      entry_state R k g m t₀ (HasObject o y) w b x d = sym (seen_some (origin M K L R o) m b x (sym d ∙ w.1)).1
+      entry_state R k g m t₀ NoObject w b x d = no_object_object b x (sym d ∙ w)
+      entry_state R k g m t₀ (HasObject o y) w b x d = sym (fact_of_some (origin M K L R o) m b x (sym d ∙ w.1)).1
 
       -- what a run gives from one frame's entry it gives from another's with the same context
       tracked_other : {f : M.Fn} {p : K.Place} (R : Run M K f p) → IsInside R → (k l : Bool) (g h : M.Global) (m n : Map M) (t₀ t : Fact M) → g ≡ h → ((b : M.Obj) (x : Option M.State) → t₀ ≡ HasObject b x → n b ≡ x) → IsTracked M K L R k g m t₀ t → IsTracked M K L R l h n t₀ t
@@ -59,7 +52,7 @@ module _ (M : Model) (L : Origins M) (E : Exits M L) where
       tracked_other R i k l g h m n t₀ (HasObject o x) q e w =
           let same : (b : M.Obj) → origin M K L R o ≡ Some b → n b ≡ m b = λ b d. e b (m b) (w.1 ∙ ap (λ z. fact_of z m) d) in (
             independent M K L I R l h n m o same ∙ ap (λ y. run_map M K R l y m o) (sym q) ∙ ap (λ (y : Map M). y o) (sym (kind_map R k l g m i)) ∙ w.0,
-            w.1 ∙ seen_same (origin M K L R o) m n (λ b d. sym (same b d)),
+            w.1 ∙ fact_of_same (origin M K L R o) m n (λ b d. sym (same b d)),
           )
 
       -- a context that a frame of another kind begins too has the same entries there

@@ -1,19 +1,12 @@
--- One object's state after a run, from the one object's state before it.
+-- The state of one object after a run depends on that of its origin alone, and on the global state before.
+-- So one object can be followed by itself, whatever states the others have.
 use Rattle.std.proofs.Common.{◌≡◌, Bool, false, Option, Some, None, refl, sym, ◌∙◌, ap}
 use Rattle.path_theory.specs.Model.{Model}
 use Rattle.path_theory.specs.Supergraph.{Supergraph}
 use Rattle.path_theory.specs.Paths.{Map}
 use Rattle.path_theory.specs.Origins.{Origins, IsLocal, and_then, handed}
 use Rattle.path_theory.specs.Runs.{Run, Here, Skipped, Gone, Closed, run_global, run_map, origin}
-
--- two maps that agree at an object, where there is one
-pub then_same : {O S : Type 0} (x : Option O) (m n : O → Option S) → ((o : O) → x ≡ Some o → m o ≡ n o) → and_then x m ≡ and_then x n
-then_same None m n h = refl
-then_same (Some o) m n h = h o refl
-
-pub handed_same : {O S : Type 0} (x : Option O) (m n : O → Option S) (a b : Option S) → ((o : O) → x ≡ Some o → m o ≡ n o) → (x ≡ None → a ≡ b) → handed x m a ≡ handed x n b
-handed_same None m n a b h i = i refl
-handed_same (Some o) m n a b h i = h o refl
+use Rattle.path_theory.proofs.SmallFacts.{then_same, handed_same}
 
 module _ (M : Model) (K : Supergraph M) (L : Origins M) (I : IsLocal M L) where
   -- the state of an object after a run depends on that of its origin alone

@@ -6,12 +6,7 @@ use Rattle.path_theory.specs.Trails.{Trail, Start, More}
 use Rattle.path_theory.specs.Paths.{Callers, NoCaller, Waiting, Path, Begin, Skip, Go, Call, Return, Maps, Now, after, Reported, ReportOf, ReportOfGlobal}
 use Rattle.path_theory.specs.Actions.{Action, Did, Called, Returned, Actions, Frame, State, go, call, back_to, fold, Errors}
 use Rattle.path_theory.specs.FlatPaths.{root_of, actions_of, IsPath, Taken, InErrors}
-
-start_more : {A B : Type 0} {l : Trail A} {a : A} → Start ≡ More l a → B
-start_more d = cc
-
-more_init : {A : Type 0} {l m : Trail A} {a b : A} → More l a ≡ More m b → l ≡ m
-more_init d = cc
+use Rattle.path_theory.proofs.SmallFacts.{start_more, more_init}
 
 more_did : {E S F : Type 0} {l m : Trail (Action E S F)} {a b : E} → More l (Did a) ≡ More m (Did b) → a ≡ b
 more_did d = cc

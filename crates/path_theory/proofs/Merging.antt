@@ -14,8 +14,9 @@ use Rattle.path_theory.specs.FlowGraphs.{FlowGraphs, Point, Head, Before, PointS
 use Rattle.path_theory.specs.BlockEdges.{Crosses, CrossesNone, CrossesOne, Shows, ShowsObject, ShowsGlobal, ShowsLater}
 use Rattle.path_theory.specs.FrameEnds.{Exits, EachStays, ExitsApart}
 use Rattle.path_theory.specs.Merged.{IsUnknown, Kinds, Leads, IsSaturatedMerged, Shown}
-use Rattle.path_theory.proofs.Sound.{realised}
-use Rattle.path_theory.proofs.Reports.{path_edge, followed, reported, found}
+use Rattle.path_theory.proofs.SmallFacts.{some_is}
+use Rattle.path_theory.proofs.Entries.{realised, path_edge, followed}
+use Rattle.path_theory.proofs.Reports.{reported, found}
 use Rattle.path_theory.proofs.Saturated.{to_end, shown}
 use Rattle.path_theory.proofs.FrameKinds.{other_kind, stayed}
 
@@ -37,9 +38,6 @@ head_is d = cc
 
 two_one : {A : Type 0} {a b c : A} {l : List A} → a ∷ b ∷ l ≡ c ∷ [] → ⊥
 two_one d = cc
-
-some_is : {O : Type 0} (a b : O) → Some a ≡ Some b → a ≡ b
-some_is a b e = cc
 
 -- some path has its last frame there, of either kind
 abbrev pub InSome : (M : Model) (L : Origins M) → Objects M → (G : FlowGraphs M) → M.Fn → M.Global → Fact M → G.Block → M.Global → Fact M → Type 0

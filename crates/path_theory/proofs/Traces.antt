@@ -11,13 +11,8 @@ use Rattle.path_theory.specs.OpenFrames.{OpenFrames, RootFrame, CalledFrame, at_
 use Rattle.path_theory.specs.Facts.{NoObject, HasObject, Fact, Objects, fact_of}
 use Rattle.path_theory.specs.Realised.{IsTracked, Realised, RealisedByTraces}
 use Rattle.path_theory.proofs.Splitting.{split, flat}
-use Rattle.path_theory.proofs.Complete.{walk_of}
-
-start_more : {A B : Type 0} {l : Trail A} {a : A} → Start ≡ More l a → B
-start_more d = cc
-
-more_init : {A : Type 0} {l m : Trail A} {a b : A} → More l a ≡ More m b → l ≡ m
-more_init d = cc
+use Rattle.path_theory.proofs.Known.{walk_of}
+use Rattle.path_theory.proofs.SmallFacts.{start_more, more_init, then_same, handed_same}
 
 more_does : {E S F : Type 0} {l m : Trail (Label E S F)} {a b : E} → More l (AtEvent a) ≡ More m (AtEvent b) → a ≡ b
 more_does d = cc
@@ -31,13 +26,6 @@ more_callee d = cc
 does_calls : {E S F B : Type 0} {l m : Trail (Label E S F)} {a : E} {b : S} {f : F} → More l (AtEvent a) ≡ More m (AtCall b f) → B
 does_calls d = cc
 
-and_same : {A B : Type 0} (z : Option A) {f g : A → Option B} → ((a : A) → f a ≡ g a) → and_then z f ≡ and_then z g
-and_same None h = refl
-and_same (Some a) h = h a
-
-handed_all : {A B : Type 0} (z : Option A) {f g : A → Option B} {a b : Option B} → ((c : A) → f c ≡ g c) → a ≡ b → handed z f a ≡ handed z g b
-handed_all None h d = d
-handed_all (Some c) h d = h c
 
 module _ (M : Model) (K₁ K₂ : Supergraph M) (H : HasTraces M K₁ K₂) where
   -- the same run on the other machine
@@ -66,7 +54,7 @@ module _ (M : Model) (K₁ K₂ : Supergraph M) (H : HasTraces M K₁ K₂) wher
         run = Gone w.run e (subst (λ i. K₂.Goes f p i q) (more_does d) j);
         global = λ k g. ap (M.next_global e f k) (w.global k g);
         map = λ k g m. ap (λ y. stepped M e f k y (run_map M K₂ w.run k g m)) (w.global k g) ∙ ap (stepped M e f k (run_global M K₁ R k g)) (w.map k g m);
-        origins = λ L o. and_same (L.source e o) (w.origins L);
+        origins = λ L o. then_same (L.source e o) _ _ (λ a d. w.origins L a);
         labels = ap (λ l. More l (AtEvent e)) w.labels;
       }
   twin_go R e t h (WalkCall W s i j) d = does_calls (sym d)
@@ -90,9 +78,9 @@ module _ (M : Model) (K₁ K₂ : Supergraph M) (H : HasTraces M K₁ K₂) wher
             ap (λ y. M.returned s (run_map M K₂ c.twin.run false y (M.entered s (run_map M K₂ w.run k g m))) (run_map M K₂ w.run k g m)) (w.global k g)
             ∙ ap (λ y. M.returned s (run_map M K₂ c.twin.run false (run_global M K₁ R k g) (M.entered s y)) y) (w.map k g m)
             ∙ ap (λ y. M.returned s y (run_map M K₁ R k g m)) (c.twin.map false (run_global M K₁ R k g) (M.entered s (run_map M K₁ R k g m)));
-        origins = λ L o. handed_all (L.out s o)
-            (λ b. ap (λ z. and_then (and_then z (L.into s)) (origin M K₂ L w.run)) (c.twin.origins L b) ∙ and_same (and_then (origin M K₁ L C b) (L.into s)) (w.origins L))
-            (w.origins L o);
+        origins = λ L o. handed_same (L.out s o) _ _ _ _
+            (λ b d2. ap (λ z. and_then (and_then z (L.into s)) (origin M K₂ L w.run)) (c.twin.origins L b) ∙ then_same (and_then (origin M K₁ L C b) (L.into s)) _ _ (λ a d3. w.origins L a))
+            (λ d2. w.origins L o);
         labels = ap (λ l. More l (AtCall s h)) w.labels;
       }
 

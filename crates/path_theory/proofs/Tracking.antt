@@ -1,34 +1,16 @@
--- What is derivable is on a path.
-use Rattle.std.proofs.Common.{◌≡◌, Bool, true, false, Option, Some, None, refl, sym, ◌∙◌, ap}
+-- What a run does to a fact, step by step: over an event, into a callee, back from it and around it the fact stays tracked.
+-- The callee's run may come from another path than the caller's; independence makes it fit.
+use Rattle.std.proofs.Common.{◌≡◌, Bool, false, Option, Some, None, refl, sym, ◌∙◌, ap}
 use Rattle.path_theory.specs.Model.{Model}
 use Rattle.path_theory.specs.Supergraph.{Supergraph}
-use Rattle.path_theory.specs.Paths.{NoCaller, Map}
+use Rattle.path_theory.specs.Paths.{Map}
 use Rattle.path_theory.specs.Origins.{Origins, IsLocal, and_then, handed}
 use Rattle.path_theory.specs.Runs.{Run, Here, Skipped, Gone, Closed, run_global, run_map, origin}
-use Rattle.path_theory.specs.OpenFrames.{RootFrame, CalledFrame}
-use Rattle.path_theory.specs.Facts.{NoObject, HasObject, Gives, GivesNone, GivesState, fact_of, Objects, Fact}
-use Rattle.path_theory.specs.Flows.{Starts, StartsNone, StartsUnknown, EventFlow, EventNone, EventObject, CallFlow, CallNone, CallObject, ReturnFlow, ReturnNone, ReturnObject}
-use Rattle.path_theory.specs.Tabulation.{PathEdge, AtRoot, AlongSkip, AlongEvent, IntoCallee, OverCall, AroundCall}
-use Rattle.path_theory.specs.Realised.{IsTracked, Realised}
+use Rattle.path_theory.specs.Facts.{NoObject, HasObject, Fact, Gives, GivesNone, GivesState, fact_of, Objects}
+use Rattle.path_theory.specs.Flows.{EventFlow, EventNone, EventObject, CallFlow, CallNone, CallObject, ReturnFlow, ReturnNone, ReturnObject}
+use Rattle.path_theory.specs.Realised.{IsTracked}
+use Rattle.path_theory.proofs.SmallFacts.{none_some, some_some, no_object_object, fact_of_some, fact_of_none}
 use Rattle.path_theory.proofs.Independence.{independent}
-
--- the object whose tuple it is
-pub seen_some : {O S : Type 0} (z : Option O) (m : O → Option S) (o : O) (x : Option S) → HasObject o x ≡ fact_of z m → (z ≡ Some o) × (x ≡ m o)
-seen_some None m o x e = cc
-seen_some (Some a) m o x e = let d : o ≡ a = cc in (ap Some (sym d), (let v : x ≡ m a = cc in v ∙ ap m (sym d)))
-
-seen_none : {O S : Type 0} (z : Option O) (m : O → Option S) → NoObject ≡ fact_of z m → z ≡ None
-seen_none None m e = refl
-seen_none (Some a) m e = cc
-
-none_some : {O B : Type 0} (z : Option O) (b : O) → z ≡ None → z ≡ Some b → B
-none_some z b e d = cc
-
-some_some : {O : Type 0} (z : Option O) (a b : O) → z ≡ Some a → z ≡ Some b → b ≡ a
-some_some z a b e d = cc
-
-bare_object : {O S B : Type 0} (o : O) (x : Option S) → HasObject o x ≡ NoObject → B
-bare_object o x e = cc
 
 module _ (M : Model) (K : Supergraph M) (L : Origins M) (I : IsLocal M L) (A : Objects M) where
   -- the state that a tuple gives is that of the map
@@ -74,14 +56,14 @@ module _ (M : Model) (K : Supergraph M) (L : Origins M) (I : IsLocal M L) (A : O
 
   pub tracked_return : {f h : M.Fn} {p q r : K.Place} (R : Run M K f p) (s : M.Site) (j : K.Calls f p s h q) (C : Run M K h r) (e : K.Ends h r) (k : Bool) (g i : M.Global) (m n : Map M) (t₀ : Fact M) {t u v w : Fact M} → CallFlow M L A s h t u → ReturnFlow M L A s f v w → run_global M K R k g ≡ i → IsTracked M K L R k g m t₀ t → IsTracked M K L C false i n u v → IsTracked M K L (Closed R s j C e) k g m t₀ w
   tracked_return R s j C e k g i m n t₀ CallNone ReturnNone q a b = a
-  tracked_return R s j C e k g i m n t₀ (CallObject c x l v) ReturnNone q a b = bare_object c x b
+  tracked_return R s j C e k g i m n t₀ (CallObject c x l v) ReturnNone q a b = no_object_object c x b
   tracked_return R s j C e k g i m n t₀ CallNone (ReturnObject o c x l d) q a b =
-      let z : origin M K L C c ≡ None = seen_none (origin M K L C c) n b.1 in (
+      let z : origin M K L C c ≡ None = fact_of_none (origin M K L C c) n b.1 in (
         handed_state R s j C e k g i m n o c x q d b.0 (λ y d2. none_some (origin M K L C c) y z d2),
         a ∙ ap (λ y. fact_of y m) (sym (handed_origin R s j C e o c None d z)),
       )
   tracked_return R s j C e k g i m n t₀ (CallObject c₀ y l₀ v) (ReturnObject o c x l d) q a b =
-      let z = seen_some (origin M K L C c) n c₀ y b.1 in (
+      let z = fact_of_some (origin M K L C c) n c₀ y b.1 in (
         handed_state R s j C e k g i m n o c x q d b.0
             (λ y2 d2. let same : y2 ≡ c₀ = some_some (origin M K L C c) c₀ y2 z.0 d2 in
             ap (λ o2. and_then (L.into s o2) (run_map M K R k g m)) same ∙ gives_state R k g m t₀ v a ∙ z.1 ∙ ap n (sym same)),
@@ -95,26 +77,3 @@ module _ (M : Model) (K : Supergraph M) (L : Origins M) (I : IsLocal M L) (A : O
         ∙ w.0,
     w.1 ∙ ap (λ o2. fact_of o2 m) (sym (ap (λ y. handed y (λ b. and_then (and_then (origin M K L C b) (L.into s)) (origin M K L R)) (origin M K L R o)) d)),
   )
-
-  tracked_root : {f : M.Fn} {t : Fact M} (r : K.IsRoot f) → Starts M L A f t → IsTracked M K L (Here {f = f}) true M.start (λ o. None) t t
-  tracked_root r StartsNone = refl
-  tracked_root r (StartsUnknown o a) = (refl, refl)
-
-  pub realised : {f : M.Fn} {k : Bool} {g₀ g : M.Global} {t₀ t : Fact M} {p : K.Place} → PathEdge M K L A f k g₀ t₀ p g t → Realised M K L f k g₀ t₀ p g t
-  realised (AtRoot r a) = record { below = NoCaller; opened = RootFrame r; run = Here; entry = refl; global = refl; tracked = tracked_root r a }
-  realised (AlongSkip D t) = let w = realised D in record { below = w.below; opened = w.opened; run = Skipped w.run t; entry = w.entry; global = w.global; tracked = tracked_skip w.run t _ _ _ _ _ w.tracked }
-  realised (AlongEvent {f = f} {k = k} D e t a) =
-      let w = realised D in
-      record { below = w.below; opened = w.opened; run = Gone w.run e t; entry = w.entry; global = ap (M.next_global e f k) w.global; tracked = tracked_go w.run e t _ _ _ _ _ a w.global w.tracked }
-  realised (IntoCallee {h = h} {k = k} {g = g} D s t a) =
-      let w = realised D in
-      record { below = _; opened = CalledFrame w.opened w.run s h t; run = Here; entry = w.global; global = w.global; tracked = tracked_call w.run s k _ g _ _ a w.tracked }
-  realised (OverCall {k = k} D s t a C e b) =
-      let w = realised D in
-      let v = realised C in
-      let same = w.global ∙ sym v.entry in
-      record { below = w.below; opened = w.opened; run = Closed w.run s t v.run e; entry = w.entry; global = ap (run_global M K v.run false) same ∙ v.global; tracked = tracked_return w.run s t v.run e k _ _ _ _ _ a b same w.tracked v.tracked }
-  realised (AroundCall {k = k} D s t C e d) =
-      let w = realised D in
-      let v = realised C in
-      record { below = w.below; opened = w.opened; run = Closed w.run s t v.run e; entry = w.entry; global = ap (run_global M K v.run false) (w.global ∙ sym v.entry) ∙ v.global; tracked = tracked_saved w.run s t v.run e k _ _ _ _ d w.tracked }
