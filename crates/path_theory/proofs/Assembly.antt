@@ -1,6 +1,6 @@
 -- A path edge is a beginning of its frame and a frame edge, and such a pair is a path edge.
 -- Where an object is saved, the callee's frame begins without object: the caller's frame comes to the call without object too.
-use Rattle.std.proofs.Common.{ℕ, Bool, false}
+use Rattle.std.proofs.Common.{ℕ, Bool}
 use Rattle.path_theory.specs.Model.{Model}
 use Rattle.path_theory.specs.Supergraph.{Supergraph}
 use Rattle.path_theory.specs.Origins.{Origins}

@@ -1,6 +1,6 @@
 -- The state of one object after a run depends on that of its origin alone, and on the global state before.
 -- So one object can be followed by itself, whatever states the others have.
-use Rattle.std.proofs.Common.{◌≡◌, Bool, false, Option, Some, None, refl, sym, ◌∙◌, ap}
+use Rattle.std.proofs.Common.{◌≡◌, Bool, false, Option, Some, refl, sym, ◌∙◌, ap}
 use Rattle.path_theory.specs.Model.{Model}
 use Rattle.path_theory.specs.Supergraph.{Supergraph}
 use Rattle.path_theory.specs.Paths.{Map}

@@ -1,5 +1,5 @@
 -- Each object that has a known state on a path, or takes a rule there, is among those that are followed; and so is each from which such an object has its state.
-use Rattle.std.proofs.Common.{◌≡◌, Bool, false, Option, Some, None, refl, sym, ◌∙◌, ap, subst, inl, inr}
+use Rattle.std.proofs.Common.{◌≡◌, Bool, false, Option, Some, None, refl, sym, ◌∙◌, subst, inl, inr}
 use Rattle.path_theory.specs.Model.{Model}
 use Rattle.path_theory.specs.Supergraph.{Supergraph}
 use Rattle.path_theory.specs.Walks.{Walk, WalkStart, WalkSkip, WalkGo, WalkCall}

@@ -1,6 +1,5 @@
 -- Small facts on options, facts and trails, which hold by their constructors alone.
 use Rattle.std.proofs.Common.{◌≡◌, Option, Some, None, ◌⊎◌, inl, inr, refl, sym, ◌∙◌, ap}
-use Rattle.path_theory.specs.Model.{Model}
 use Rattle.path_theory.specs.Trails.{Trail, Start, More}
 use Rattle.path_theory.specs.Origins.{and_then, handed}
 use Rattle.path_theory.specs.Facts.{FactOf, NoObject, HasObject, Gives, GivesNone, GivesState, fact_of, IfNoObject}

@@ -1,137 +1,33 @@
--- Machines with the same traces have the same paths, states and reports.
-use Rattle.std.proofs.Common.{◌≡◌, Bool, false, Option, Some, None, refl, sym, ◌∙◌, ap, subst}
+-- Supergraphs with the same traces have the same reports and the same realised tuples.
+-- So what is proved of a flow graph holds of the semantics from which it was built.
+use Rattle.std.proofs.Common.{◌≡◌, Bool, refl, sym, ◌∙◌, ap, subst}
 use Rattle.path_theory.specs.Model.{Model}
 use Rattle.path_theory.specs.Supergraph.{Supergraph}
-use Rattle.path_theory.specs.Trails.{Trail, Start, More}
-use Rattle.path_theory.specs.Walks.{Label, AtEvent, AtCall, Labels, Walk, WalkStart, WalkSkip, WalkGo, WalkCall, HasTraces}
-use Rattle.path_theory.specs.Paths.{Callers, NoCaller, Map, stepped, Reported, ReportOf, ReportOfGlobal}
-use Rattle.path_theory.specs.Origins.{Origins, and_then, handed}
-use Rattle.path_theory.specs.Runs.{Run, Here, Skipped, Gone, Closed, run_global, run_map, origin, labels_of}
+use Rattle.path_theory.specs.Trails.{More}
+use Rattle.path_theory.specs.Walks.{AtEvent, AtCall, Walk, WalkGo, WalkCall, HasTraces}
+use Rattle.path_theory.specs.Paths.{Callers, NoCaller, Map, Reported, ReportOf, ReportOfGlobal}
+use Rattle.path_theory.specs.Origins.{Origins}
+use Rattle.path_theory.specs.Runs.{Run, run_global, run_map, origin, labels_of}
 use Rattle.path_theory.specs.OpenFrames.{OpenFrames, RootFrame, CalledFrame, at_entry}
-use Rattle.path_theory.specs.Facts.{NoObject, HasObject, Fact, Objects, fact_of}
+use Rattle.path_theory.specs.Facts.{NoObject, HasObject, Fact, fact_of}
 use Rattle.path_theory.specs.Realised.{IsTracked, Realised, RealisedByTraces}
 use Rattle.path_theory.proofs.Splitting.{split, flat}
 use Rattle.path_theory.proofs.Known.{walk_of}
-use Rattle.path_theory.proofs.SmallFacts.{start_more, more_init, then_same, handed_same}
-
-more_does : {E S F : Type 0} {l m : Trail (Label E S F)} {a b : E} → More l (AtEvent a) ≡ More m (AtEvent b) → a ≡ b
-more_does d = cc
-
-more_site : {E S F : Type 0} {l m : Trail (Label E S F)} {a b : S} {f g : F} → More l (AtCall a f) ≡ More m (AtCall b g) → a ≡ b
-more_site d = cc
-
-more_callee : {E S F : Type 0} {l m : Trail (Label E S F)} {a b : S} {f g : F} → More l (AtCall a f) ≡ More m (AtCall b g) → f ≡ g
-more_callee d = cc
-
-does_calls : {E S F B : Type 0} {l m : Trail (Label E S F)} {a : E} {b : S} {f : F} → More l (AtEvent a) ≡ More m (AtCall b f) → B
-does_calls d = cc
-
+use Rattle.path_theory.proofs.Twins.{Twin, twin, last_go, last_call}
 
 module _ (M : Model) (K₁ K₂ : Supergraph M) (H : HasTraces M K₁ K₂) where
-  -- the same run on the other machine
-  pub record Twin {f : M.Fn} {p : K₁.Place} (R : Run M K₁ f p) (q : K₂.Place) : Type 0 where
-    pub run : Run M K₂ f q
-    pub global : (k : Bool) (g : M.Global) → run_global M K₂ run k g ≡ run_global M K₁ R k g
-    pub map : (k : Bool) (g : M.Global) (m : Map M) → run_map M K₂ run k g m ≡ run_map M K₁ R k g m
-    pub origins : (L : Origins M) (o : M.Obj) → origin M K₂ L run o ≡ origin M K₁ L R o
-    pub labels : labels_of M K₂ run ≡ labels_of M K₁ R
-
-  twin_skip : {f : M.Fn} {p : K₁.Place} {R : Run M K₁ f p} {q r : K₂.Place} → Twin R q → K₂.Skips f q r → Twin R r
-  twin_skip w t = record { run = Skipped w.run t; global = w.global; map = w.map; origins = w.origins; labels = w.labels }
-
-  twin_here : {f : M.Fn} {l : Labels M} {q : K₂.Place} → Walk M K₂ f l q → l ≡ Start → Twin (Here {f = f}) q
-  twin_here WalkStart d = record { run = Here; global = λ k g. refl; map = λ k g m. refl; origins = λ L o. refl; labels = refl }
-  twin_here (WalkSkip W t) d = twin_skip (twin_here W d) t
-  twin_here (WalkGo W e t) d = start_more (sym d)
-  twin_here (WalkCall W s h t) d = start_more (sym d)
-
-  twin_go : {f : M.Fn} {p r : K₁.Place} (R : Run M K₁ f p) (e : M.Event) (t : K₁.Goes f p e r) → ((q : K₂.Place) → Walk M K₂ f (labels_of M K₁ R) q → Twin R q) → {l : Labels M} {q : K₂.Place} → Walk M K₂ f l q → l ≡ More (labels_of M K₁ R) (AtEvent e) → Twin (Gone R e t) q
-  twin_go R e t h WalkStart d = start_more d
-  twin_go R e t h (WalkSkip W j) d = twin_skip (twin_go R e t h W d) j
-  twin_go {f = f} R e t h (WalkGo {p = p} {q = q} W i j) d =
-      let w = h p (subst (λ l. Walk M K₂ f l p) (more_init d) W) in
-      record {
-        run = Gone w.run e (subst (λ i. K₂.Goes f p i q) (more_does d) j);
-        global = λ k g. ap (M.next_global e f k) (w.global k g);
-        map = λ k g m. ap (λ y. stepped M e f k y (run_map M K₂ w.run k g m)) (w.global k g) ∙ ap (stepped M e f k (run_global M K₁ R k g)) (w.map k g m);
-        origins = λ L o. then_same (L.source e o) _ _ (λ a d. w.origins L a);
-        labels = ap (λ l. More l (AtEvent e)) w.labels;
-      }
-  twin_go R e t h (WalkCall W s i j) d = does_calls (sym d)
-
-  -- a closed call on the other machine
-  pub record TwinCall {h : M.Fn} {p : K₁.Place} (C : Run M K₁ h p) : Type 0 where
-    pub place : K₂.Place
-    pub twin : Twin C place
-    pub ends : K₂.Ends h place
-
-  twin_closed : {f h : M.Fn} {p q r : K₁.Place} (R : Run M K₁ f p) (s : M.Site) (t : K₁.Calls f p s h q) (C : Run M K₁ h r) (e : K₁.Ends h r) → ((q : K₂.Place) → Walk M K₂ f (labels_of M K₁ R) q → Twin R q) → TwinCall C → {l : Labels M} {q : K₂.Place} → Walk M K₂ f l q → l ≡ More (labels_of M K₁ R) (AtCall s h) → Twin (Closed R s t C e) q
-  twin_closed R s t C e i c WalkStart d = start_more d
-  twin_closed R s t C e i c (WalkSkip W j) d = twin_skip (twin_closed R s t C e i c W d) j
-  twin_closed R s t C e i c (WalkGo W a j) d = does_calls d
-  twin_closed {f = f} {h = h} R s t C e i c (WalkCall {p = p} {q = q} W a b j) d =
-      let w = i p (subst (λ l. Walk M K₂ f l p) (more_init d) W) in
-      record {
-        run = Closed w.run s (subst (λ y. K₂.Calls f p s y q) (more_callee d) (subst (λ y. K₂.Calls f p y b q) (more_site d) j)) c.twin.run c.ends;
-        global = λ k g. ap (run_global M K₂ c.twin.run false) (w.global k g) ∙ c.twin.global false (run_global M K₁ R k g);
-        map = λ k g m.
-            ap (λ y. M.returned s (run_map M K₂ c.twin.run false y (M.entered s (run_map M K₂ w.run k g m))) (run_map M K₂ w.run k g m)) (w.global k g)
-            ∙ ap (λ y. M.returned s (run_map M K₂ c.twin.run false (run_global M K₁ R k g) (M.entered s y)) y) (w.map k g m)
-            ∙ ap (λ y. M.returned s y (run_map M K₁ R k g m)) (c.twin.map false (run_global M K₁ R k g) (M.entered s (run_map M K₁ R k g m)));
-        origins = λ L o. handed_same (L.out s o) _ _ _ _
-            (λ b d2. ap (λ z. and_then (and_then z (L.into s)) (origin M K₂ L w.run)) (c.twin.origins L b) ∙ then_same (and_then (origin M K₁ L C b) (L.into s)) _ _ (λ a d3. w.origins L a))
-            (λ d2. w.origins L o);
-        labels = ap (λ l. More l (AtCall s h)) w.labels;
-      }
-
-  -- each run has one for each walk with its trace
-  pub twin : {f : M.Fn} {p : K₁.Place} (R : Run M K₁ f p) (q : K₂.Place) → Walk M K₂ f (labels_of M K₁ R) q → Twin R q
-  twin Here q W = twin_here W refl
-  twin (Skipped R t) q W =
-      let w = twin R q W in
-      record { run = w.run; global = w.global; map = w.map; origins = w.origins; labels = w.labels }
-  twin (Gone R e t) q W = twin_go R e t (twin R) W refl
-  twin (Closed R s t C e) q W =
-      let c = H.whole _ (labels_of M K₁ C) (_, walk_of M K₁ C, e) in
-      twin_closed R s t C e (twin R) (record { place = c.0; twin = twin C c.0 c.1; ends = c.2 }) W refl
-
-  -- the last step of a walk
-  record LastGo (f : M.Fn) (l : Labels M) (e : M.Event) : Type 0 where
-    from : K₂.Place
-    to : K₂.Place
-    walk : Walk M K₂ f l from
-    goes : K₂.Goes f from e to
-
-  last_go : {f : M.Fn} {l m : Labels M} {e : M.Event} {q : K₂.Place} → Walk M K₂ f l q → l ≡ More m (AtEvent e) → LastGo f m e
-  last_go WalkStart d = start_more d
-  last_go (WalkSkip W t) d = last_go W d
-  last_go {f = f} (WalkGo {p = p} {q = q} W e t) d = record { from = p; to = q; walk = subst (λ l. Walk M K₂ f l p) (more_init d) W; goes = subst (λ e. K₂.Goes f p e q) (more_does d) t }
-  last_go (WalkCall W s h t) d = does_calls (sym d)
-
-  record LastJump (f : M.Fn) (l : Labels M) (s : M.Site) (h : M.Fn) : Type 0 where
-    from : K₂.Place
-    to : K₂.Place
-    walk : Walk M K₂ f l from
-    calls : K₂.Calls f from s h to
-
-  last_jump : {f h : M.Fn} {l m : Labels M} {s : M.Site} {q : K₂.Place} → Walk M K₂ f l q → l ≡ More m (AtCall s h) → LastJump f m s h
-  last_jump WalkStart d = start_more d
-  last_jump (WalkSkip W t) d = last_jump W d
-  last_jump (WalkGo W e t) d = does_calls d
-  last_jump {f = f} {s = a} (WalkCall {p = p} {q = q} W s h t) d = record { from = p; to = q; walk = subst (λ l. Walk M K₂ f l p) (more_init d) W; calls = subst (λ y. K₂.Calls f p a y q) (more_callee d) (subst (λ y. K₂.Calls f p y h q) (more_site d) t) }
-
-  -- the frames below on the other machine
+  -- the frames below on the other supergraph
   pub record TwinFrames {f : M.Fn} {k : Bool} {b : Callers M K₁} (O : OpenFrames M K₁ f k b) : Type 0 where
     pub below : Callers M K₂
     pub opened : OpenFrames M K₂ f k below
     pub global : (at_entry M K₂ opened).global ≡ (at_entry M K₁ O).global
     pub here : (at_entry M K₂ opened).here ≡ (at_entry M K₁ O).here
 
-  -- the state behind a run on open frames, on both machines
-  both_global : {f : M.Fn} {k : Bool} {p : K₁.Place} {b : Callers M K₁} (O : OpenFrames M K₁ f k b) (R : Run M K₁ f p) {q : K₂.Place} (w : TwinFrames O) (v : Twin R q) → run_global M K₂ v.run k (at_entry M K₂ w.opened).global ≡ run_global M K₁ R k (at_entry M K₁ O).global
+  -- the state behind a run on open frames, on both supergraphs
+  both_global : {f : M.Fn} {k : Bool} {p : K₁.Place} {b : Callers M K₁} (O : OpenFrames M K₁ f k b) (R : Run M K₁ f p) {q : K₂.Place} (w : TwinFrames O) (v : Twin M K₁ K₂ H R q) → run_global M K₂ v.run k (at_entry M K₂ w.opened).global ≡ run_global M K₁ R k (at_entry M K₁ O).global
   both_global {k = k} O R w v = v.global k (at_entry M K₂ w.opened).global ∙ ap (run_global M K₁ R k) w.global
 
-  both_map : {f : M.Fn} {k : Bool} {p : K₁.Place} {b : Callers M K₁} (O : OpenFrames M K₁ f k b) (R : Run M K₁ f p) {q : K₂.Place} (w : TwinFrames O) (v : Twin R q) → run_map M K₂ v.run k (at_entry M K₂ w.opened).global (at_entry M K₂ w.opened).here ≡ run_map M K₁ R k (at_entry M K₁ O).global (at_entry M K₁ O).here
+  both_map : {f : M.Fn} {k : Bool} {p : K₁.Place} {b : Callers M K₁} (O : OpenFrames M K₁ f k b) (R : Run M K₁ f p) {q : K₂.Place} (w : TwinFrames O) (v : Twin M K₁ K₂ H R q) → run_map M K₂ v.run k (at_entry M K₂ w.opened).global (at_entry M K₂ w.opened).here ≡ run_map M K₁ R k (at_entry M K₁ O).global (at_entry M K₁ O).here
   both_map {k = k} O R w v = v.map k (at_entry M K₂ w.opened).global (at_entry M K₂ w.opened).here
       ∙ ap (λ g. run_map M K₁ R k g (at_entry M K₂ w.opened).here) w.global
       ∙ ap (run_map M K₁ R k (at_entry M K₁ O).global) w.here
@@ -141,8 +37,8 @@ module _ (M : Model) (K₁ K₂ : Supergraph M) (H : HasTraces M K₁ K₂) wher
   twin_frames (CalledFrame {f = f} {k = k} O R s h t) =
       let w = twin_frames O in
       let x = H.traces f (More (labels_of M K₁ R) (AtCall s h)) (_, WalkCall (walk_of M K₁ R) s h t) in
-      let y = last_jump x.1 refl in
-      let v = twin R y.from y.walk in
+      let y = last_call M K₂ x.1 refl in
+      let v = twin M K₁ K₂ H R y.from y.walk in
       record {
         below = _;
         opened = CalledFrame w.opened v.run s h y.calls;
@@ -150,13 +46,13 @@ module _ (M : Model) (K₁ K₂ : Supergraph M) (H : HasTraces M K₁ K₂) wher
         here = ap (M.entered s) (both_map O R w v);
       }
 
-  -- each report of a path on the first machine is one of a path on the second
+  -- each report of a path on the first supergraph is one of a path on the second
   pub reported_on : (r : M.Report) → Reported M K₁ r → Reported M K₂ r
   reported_on r (ReportOf {f = f} {k = k} P e t o i) =
       let s = split M K₁ P in
       let x = H.traces f (More (labels_of M K₁ s.run) (AtEvent e)) (_, WalkGo (walk_of M K₁ s.run) e t) in
-      let y = last_go x.1 refl in
-      let v = twin s.run y.from y.walk in
+      let y = last_go M K₂ x.1 refl in
+      let v = twin M K₁ K₂ H s.run y.from y.walk in
       let w = twin_frames s.opened in
       let F = flat M K₂ w.opened v.run in
       ReportOf F.path e y.goes o
@@ -167,8 +63,8 @@ module _ (M : Model) (K₁ K₂ : Supergraph M) (H : HasTraces M K₁ K₂) wher
   reported_on r (ReportOfGlobal {f = f} {k = k} P e t i) =
       let s = split M K₁ P in
       let x = H.traces f (More (labels_of M K₁ s.run) (AtEvent e)) (_, WalkGo (walk_of M K₁ s.run) e t) in
-      let y = last_go x.1 refl in
-      let v = twin s.run y.from y.walk in
+      let y = last_go M K₂ x.1 refl in
+      let v = twin M K₁ K₂ H s.run y.from y.walk in
       let w = twin_frames s.opened in
       let F = flat M K₂ w.opened v.run in
       ReportOfGlobal F.path e y.goes
@@ -177,17 +73,17 @@ module _ (M : Model) (K₁ K₂ : Supergraph M) (H : HasTraces M K₁ K₂) wher
       (subst (λ n. M.FiresGlobal e f k n.global r) s.state i)))
 
   module _ (L : Origins M) where
-    tracked_on : {f : M.Fn} {k : Bool} {p : K₁.Place} {b : Callers M K₁} (O : OpenFrames M K₁ f k b) (R : Run M K₁ f p) {q : K₂.Place} (w : TwinFrames O) (v : Twin R q) (t₀ t : Fact M) → IsTracked M K₁ L R k (at_entry M K₁ O).global (at_entry M K₁ O).here t₀ t → IsTracked M K₂ L v.run k (at_entry M K₂ w.opened).global (at_entry M K₂ w.opened).here t₀ t
+    tracked_on : {f : M.Fn} {k : Bool} {p : K₁.Place} {b : Callers M K₁} (O : OpenFrames M K₁ f k b) (R : Run M K₁ f p) {q : K₂.Place} (w : TwinFrames O) (v : Twin M K₁ K₂ H R q) (t₀ t : Fact M) → IsTracked M K₁ L R k (at_entry M K₁ O).global (at_entry M K₁ O).here t₀ t → IsTracked M K₂ L v.run k (at_entry M K₂ w.opened).global (at_entry M K₂ w.opened).here t₀ t
     tracked_on O R w v t₀ NoObject a = a
     tracked_on O R w v t₀ (HasObject o x) a = (
       ap (λ (m : Map M). m o) (both_map O R w v) ∙ a.0,
       a.1 ∙ ap (fact_of (origin M K₁ L R o)) (sym w.here) ∙ ap (λ z. fact_of z (at_entry M K₂ w.opened).here) (sym (v.origins L o)),
     )
 
-    -- what is realised by the traces of the first machine is so at each place of the second to which a walk with the last frame's trace leads
+    -- what is realised by the traces of the first supergraph is so at each place of the second to which a walk with the last frame's trace leads
     pub realised_on : {f : M.Fn} {k : Bool} {g₀ g : M.Global} {t₀ t : Fact M} {p : K₁.Place} {q : K₂.Place} (w : Realised M K₁ L f k g₀ t₀ p g t) → Walk M K₂ f (labels_of M K₁ w.run) q → Realised M K₂ L f k g₀ t₀ q g t
     realised_on {t₀ = t₀} {t = t} {q = q} w W =
-        let v = twin w.run q W in
+        let v = twin M K₁ K₂ H w.run q W in
         let F = twin_frames w.opened in
         record {
           below = F.below;

@@ -1,5 +1,5 @@
 -- What a frame comes to in a context depends on its function and on those that calls reach from it, and not on the rest of the program.
-use Rattle.std.proofs.Common.{◌≡◌, ℕ, Bool, sym, subst}
+use Rattle.std.proofs.Common.{ℕ, Bool, sym, subst}
 use Rattle.path_theory.specs.Model.{Model}
 use Rattle.path_theory.specs.Supergraph.{Supergraph}
 use Rattle.path_theory.specs.Origins.{Origins}

@@ -1,6 +1,6 @@
 -- What happens on a path as one flat list: events, calls and returns, with no place of a program in it.
 -- The state after a list and the errors on it are computed from the list alone, by a fold over whole maps.
-use Rattle.std.specs.Prelude.{Bool, true, false, Option, None, List, [], ◌∷◌, ◌⊎◌}
+use Rattle.std.specs.Prelude.{Bool, true, false, None, List, [], ◌∷◌, ◌⊎◌}
 use Rattle.path_theory.specs.Model.{Model}
 use Rattle.path_theory.specs.Trails.{Trail, Start, More}
 use Rattle.path_theory.specs.Paths.{Map, stepped}

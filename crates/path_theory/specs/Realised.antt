@@ -1,6 +1,6 @@
 -- Which tuples paths realise: some path has its last frame at the place, with this global state and this object's state.
 -- The tuple with which the frame was entered is found by following the object back, through closed calls too; it has no object where that one was made unknown inside the frame.
-use Rattle.std.specs.Prelude.{◌≡◌, Bool, Option}
+use Rattle.std.specs.Prelude.{◌≡◌, Bool}
 use Rattle.path_theory.specs.Model.{Model}
 use Rattle.path_theory.specs.Supergraph.{Supergraph}
 use Rattle.path_theory.specs.Walks.{Walk}

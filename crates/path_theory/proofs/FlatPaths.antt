@@ -1,5 +1,6 @@
--- Paths as lists of actions are the paths.
-use Rattle.std.proofs.Common.{◌≡◌, Bool, List, [], ◌∷◌, inl, inr, refl, sym, ◌∙◌, ap, subst}
+-- A flat list of actions that is a path has the state and the reports of that path, and every prefix of it is a path.
+-- So what is proved of paths by their places holds of the lists, in which no place stands.
+use Rattle.std.proofs.Common.{◌≡◌, ◌↔◌, Bool, List, [], ◌∷◌, inl, inr, refl, sym, ◌∙◌, ap, subst}
 use Rattle.path_theory.specs.Model.{Model}
 use Rattle.path_theory.specs.Supergraph.{Supergraph}
 use Rattle.path_theory.specs.Trails.{Trail, Start, More}
@@ -100,7 +101,8 @@ module _ (M : Model) (K : Supergraph M) where
   errors_taken f (More l (Called s h)) r w e = errors_taken f l r (prefix f l (Called s h) w) e
   errors_taken f (More l (Returned s)) r w e = errors_taken f l r (prefix f l (Returned s) w) e
 
-  pub in_errors : (r : M.Report) → (InErrors M K r → Reported M K r) × (Reported M K r → InErrors M K r)
+  -- the reports among the errors of paths are those that paths take at their last events
+  pub in_errors : (r : M.Report) → InErrors M K r ↔ Reported M K r
   in_errors r = (
     (λ w. of_taken r (errors_taken w.root w.actions r w.path w.errors)),
     (λ w. let v = taken r w in record { root = v.root; actions = More v.actions (Did v.event); path = v.path; errors = inr v.takes }),

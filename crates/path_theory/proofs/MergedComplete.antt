@@ -1,24 +1,16 @@
--- Entries by context alone are those of both kinds of frame.
+-- A set of entries from which nothing else follows has each path edge at the head of a block, in a frame of either kind, and shows its reports.
+-- The end of a called frame is the one event in which the kinds differ; a return takes what stood before it.
 use Rattle.std.proofs.Common.{◌≡◌, Bool, true, false, Option, Some, None, List, [], ◌∷◌, refl, sym, ◌∙◌, ap, subst, inl, inr}
 use Rattle.path_theory.specs.Model.{Model}
-use Rattle.path_theory.specs.Paths.{Reported}
-use Rattle.path_theory.specs.Origins.{Origins, IsLocal}
-use Rattle.path_theory.specs.Runs.{Here}
-use Rattle.path_theory.specs.OpenFrames.{CalledFrame}
-use Rattle.path_theory.specs.Facts.{NoObject, HasObject, Gives, GivesNone, GivesState, Objects, Fact, IsFollowed}
+use Rattle.path_theory.specs.Origins.{Origins}
+use Rattle.path_theory.specs.Facts.{NoObject, HasObject, Gives, GivesNone, GivesState, Objects, Fact}
 use Rattle.path_theory.specs.Flows.{Starts, StartsNone, StartsUnknown, EventFlow, EventNone, EventObject, CallFlow, ReturnFlow, ReturnNone, ReturnObject}
 use Rattle.path_theory.specs.Tabulation.{PathEdge, AtRoot, AlongSkip, AlongEvent, IntoCallee, OverCall, AroundCall, Found, FoundObject, FoundGlobal}
-use Rattle.path_theory.specs.Realised.{Realised}
-use Rattle.path_theory.specs.Relevant.{IsClosed}
 use Rattle.path_theory.specs.FlowGraphs.{FlowGraphs, Point, Head, Before, PointSkips, EntersBlock, LeavesBlock, PointGoes, PassesEvent, PointCalls, MakesCall, PointEnds, EndsFrame, supergraph}
 use Rattle.path_theory.specs.BlockEdges.{Crosses, CrossesNone, CrossesOne, Shows, ShowsObject, ShowsGlobal, ShowsLater}
 use Rattle.path_theory.specs.FrameEnds.{Exits, EachStays, ExitsApart}
-use Rattle.path_theory.specs.Merged.{IsUnknown, Kinds, Leads, IsSaturatedMerged, Shown}
+use Rattle.path_theory.specs.Merged.{IsUnknown, Kinds, IsSaturatedMerged, Shown}
 use Rattle.path_theory.proofs.SmallFacts.{some_is}
-use Rattle.path_theory.proofs.Entries.{realised, path_edge, followed}
-use Rattle.path_theory.proofs.Reports.{reported, found}
-use Rattle.path_theory.proofs.Saturated.{to_end, shown}
-use Rattle.path_theory.proofs.FrameKinds.{other_kind, stayed}
 
 true_false : true ≡ false → ⊥
 true_false d = cc
@@ -39,12 +31,8 @@ head_is d = cc
 two_one : {A : Type 0} {a b c : A} {l : List A} → a ∷ b ∷ l ≡ c ∷ [] → ⊥
 two_one d = cc
 
--- some path has its last frame there, of either kind
-abbrev pub InSome : (M : Model) (L : Origins M) → Objects M → (G : FlowGraphs M) → M.Fn → M.Global → Fact M → G.Block → M.Global → Fact M → Type 0
-InSome M L A G f g₀ t₀ b g t = (k : Bool) × Realised M (supergraph M G) L f k g₀ t₀ (Head b) g t
-
 module _ (M : Model) (L : Origins M) (A : Objects M) (G : FlowGraphs M) (C : Kinds M G) (E : Exits M L) (N : ExitsApart M L E G) where
-  abbrev pub D : M.Fn → Bool → M.Global → Fact M → Point G.Block M.Event → M.Global → Fact M → Type 0
+  abbrev D : M.Fn → Bool → M.Global → Fact M → Point G.Block M.Event → M.Global → Fact M → Type 0
   D = PathEdge M (supergraph M G) L A
 
   -- the root's own frame begins as a root does
@@ -195,84 +183,3 @@ module _ (M : Model) (L : Origins M) (A : Objects M) (G : FlowGraphs M) (C : Kin
         shown_at r t (stands d)
         (λ n es. ShowsGlobal (E.same.fires_global e n f k (C.kind f g₀ t₀) g r i))
         (λ n es. ShowsGlobal (exit_kind k (C.kind f g₀ t₀) (λ y. M.FiresGlobal e f y g r) (of_kind d) (E.quiet.fires_global e n f g r) i))
-
-  -- Each step of an engine leads from what is derivable to what is derivable.
-  abbrev pub Dk : M.Fn → M.Global → Fact M → G.Block → M.Global → Fact M → Type 0
-  Dk f g₀ t₀ b g t = D f (C.kind f g₀ t₀) g₀ t₀ (Head b) g t
-
-  starts_of : {f : M.Fn} (t : Fact M) → IsUnknown M t → IsFollowed M A f t → Starts M L A f t
-  starts_of NoObject u a = StartsNone
-  starts_of (HasObject o None) u a = StartsUnknown o a
-  starts_of (HasObject o (Some x)) u a = absurd u
-
-  pub sound_root : {f : M.Fn} {t : Fact M} → G.IsRoot f → Starts M L A f t → Dk f M.start t (G.first f) M.start t
-  sound_root {f = f} {t = t} r a = subst (λ k. D f k M.start t (Head (G.first f)) M.start t) (sym (C.of_root t r (starts_unknown a))) (AtRoot r a)
-
-  pub sound_next : {f : M.Fn} {g₀ g i : M.Global} {t₀ t u : Fact M} {b c : G.Block} → Dk f g₀ t₀ b g t → Crosses M L A f (C.kind f g₀ t₀) (G.events f b) g t i u → G.Next f b c → Dk f g₀ t₀ c i u
-  sound_next d c n = AlongSkip (to_end M L A G d c) (LeavesBlock n)
-
-  module _ (I : IsLocal M L) (Q : IsClosed M (supergraph M G) L A) where
-    begins : {h : M.Fn} {g : M.Global} {t : Fact M} (k : Bool) → C.kind h g t ≡ k → D h false g t (Head (G.first h)) g t → D h k g t (Head (G.first h)) g t
-    begins false q d = d
-    begins {h = h} {g = g} {t = t} true q d =
-        let w = C.is_root q in
-        subst (λ y. D h true y t (Head (G.first h)) y t) (sym w.1) (AtRoot w.0 (starts_of t w.2 (followed M (supergraph M G) L I A Q d)))
-
-    pub sound_call : {f h : M.Fn} {g₀ g i : M.Global} {t₀ t u v : Fact M} {b c : G.Block} → Dk f g₀ t₀ b g t → Crosses M L A f (C.kind f g₀ t₀) (G.events f b) g t i u → (s : M.Site) → G.Call f b s h c → CallFlow M L A s h u v → Dk h i v (G.first h) i v
-    sound_call {h = h} {i = i} {v = v} d c s j a = begins (C.kind h i v) refl (IntoCallee (to_end M L A G d c) s (MakesCall j) a)
-
-    -- in the called frame, what was derived in the root's own
-    to_called : {h : M.Fn} {k : Bool} {g₀ g : M.Global} {t₀ t : Fact M} {b : G.Block} → D h k g₀ t₀ (Head b) g t → D h false g₀ t₀ (Head (G.first h)) g₀ t₀ → D h false g₀ t₀ (Head b) g t
-    to_called {t = t} d c =
-        let w = realised M (supergraph M G) L I A d in
-        path_edge M (supergraph M G) L I A Q t (other_kind M L E (supergraph M G) I A w (stayed M L E G N w.run) (realised M (supergraph M G) L I A c)) (followed M (supergraph M G) L I A Q d)
-
-    exit_moves : {f h : M.Fn} {s : M.Site} {w y : Fact M} {b c : G.Block} → G.Call f b s h c → (e : M.Event) (g : M.Global) → E.IsExit e → ReturnFlow M L A s f w y → IsFollowed M A h w → EventFlow M L A h false e g w w
-    exit_moves j e g n ReturnNone a = EventNone
-    exit_moves {h = h} {s = s} j e g n (ReturnObject o c x l d) a =
-        subst (λ y. EventFlow M L A h false e g (HasObject c x) (HasObject c y)) (N.kept j e n g o c d x)
-        (EventObject c x tt (subst (λ z. Gives z (HasObject c x) x) (sym (E.quiet.source e n c)) GivesState))
-
-    -- over the end of a called frame
-    to_last : {h : M.Fn} {g₀ g : M.Global} {t₀ t : Fact M} {b : G.Block} → D h false g₀ t₀ (Head b) g t → G.Ends h b → ((e : M.Event) → E.IsExit e → EventFlow M L A h false e g t t) → D h false g₀ t₀ (Before b []) g t
-    to_last {h = h} {g₀ = g₀} {g = g} {t₀ = t₀} {t = t} {b = b} d l m =
-        let n = N.last l in
-        subst (λ i. D h false g₀ t₀ (Before b []) i t) (E.quiet.global n.0 n.1 h g)
-        (AlongEvent (subst (λ es. D h false g₀ t₀ (Before b es) g t) n.2 (AlongSkip d (EntersBlock b))) n.0 (PassesEvent b n.0 []) (m n.0 n.1))
-
-    -- a call begins the callee's frame, whatever is followed in the caller
-    called_bare : {f h : M.Fn} {k : Bool} {g₀ g : M.Global} {t₀ t : Fact M} {p q : Point G.Block M.Event} → D f k g₀ t₀ p g t → (s : M.Site) → PointCalls M G f p s h q → D h false g NoObject (Head (G.first h)) g NoObject
-    called_bare d s j =
-        let w = realised M (supergraph M G) L I A d in
-        path_edge M (supergraph M G) L I A Q NoObject (record { below = _; opened = CalledFrame w.opened w.run s _ j; run = Here; entry = w.global; global = w.global; tracked = refl }) tt
-
-    pub sound_return : {f h : M.Fn} {g₀ g i j : M.Global} {t₀ t u v w y : Fact M} {b c d : G.Block} → Dk f g₀ t₀ b g t → Crosses M L A f (C.kind f g₀ t₀) (G.events f b) g t i u → (s : M.Site) → G.Call f b s h c → CallFlow M L A s h u v → Dk h i v d j w → G.Ends h d → ReturnFlow M L A s f w y → Dk f g₀ t₀ c j y
-    sound_return d c s j a e l b =
-        let x = to_end M L A G d c in
-        let called = to_called e (IntoCallee x s (MakesCall j) a) in
-        OverCall x s (MakesCall j) a (to_last called l (λ n i. exit_moves j n _ i b (followed M (supergraph M G) L I A Q e))) (EndsFrame l) b
-
-    pub sound_saved : {f h : M.Fn} {g₀ g i j : M.Global} {t₀ t : Fact M} {o : M.Obj} {z : Option M.State} {b c d : G.Block} → Dk f g₀ t₀ b g t → Crosses M L A f (C.kind f g₀ t₀) (G.events f b) g t i (HasObject o z) → (s : M.Site) → G.Call f b s h c → Dk h i NoObject d j NoObject → G.Ends h d → L.out s o ≡ None → Dk f g₀ t₀ c j (HasObject o z)
-    sound_saved d c s j e l q =
-        let x = to_end M L A G d c in
-        AroundCall x s (MakesCall j) (to_last (to_called e (called_bare x s (MakesCall j))) l (λ n i. EventNone)) (EndsFrame l) q
-
-    -- what is derivable is closed under the steps
-    pub path_edges_lead : Leads M L A G C Dk Dk
-    path_edges_lead = record { root = sound_root; next = sound_next; call = sound_call; return = sound_return; saved = sound_saved }
-
-    -- The theorem for an engine that keeps entries by context: each is derivable in the kind of its context, and nothing else follows from them.
-    module _ (X : M.Fn → M.Global → Fact M → G.Block → M.Global → Fact M → Type 0) (S : IsSaturatedMerged M L A G C X) (V : (f : M.Fn) (g₀ : M.Global) (t₀ : Fact M) (b : G.Block) (g : M.Global) (t : Fact M) → X f g₀ t₀ b g t → Dk f g₀ t₀ b g t) where
-      -- the entries are what is realised in a frame of some kind
-      pub merged_entries : (f : M.Fn) (g₀ : M.Global) (t₀ : Fact M) (b : G.Block) (g : M.Global) (t : Fact M) → (X f g₀ t₀ b g t → InSome M L A G f g₀ t₀ b g t × IsFollowed M A f t) × (InSome M L A G f g₀ t₀ b g t × IsFollowed M A f t → X f g₀ t₀ b g t)
-      merged_entries f g₀ t₀ b g t = (
-        (λ x. let d = V f g₀ t₀ b g t x in ((C.kind f g₀ t₀, realised M (supergraph M G) L I A d), followed M (supergraph M G) L I A Q d)),
-        (λ w. merged_least X S (path_edge M (supergraph M G) L I A Q t w.0.1 w.1)),
-      )
-
-      -- and the reports are those of all paths
-      pub merged_reports : (r : M.Report) → (Shown M L A G C X r → Reported M (supergraph M G) r) × (Reported M (supergraph M G) r → Shown M L A G C X r)
-      merged_reports r = (
-        (λ w. reported M (supergraph M G) L I A r (shown M L A G r (G.events w.fn w.block) (AlongSkip (V _ _ _ _ _ _ w.entry) (EntersBlock w.block)) w.shows)),
-        (λ w. merged_shown X S r (found M (supergraph M G) L I A Q r w)),
-      )

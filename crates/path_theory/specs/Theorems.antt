@@ -1,0 +1,108 @@
+-- The theorems of this crate as statements about all numbered checkers and programs, which contracts can name.
+-- The lemmas in `proofs/` have them for any model; each contract of `src/theorems.rt` names one.
+use Rattle.std.specs.Prelude.{◌≡◌, ℕ, Bool, IsTrue, Some, List, ◌↔◌}
+use Rattle.std.specs.List.{Contains}
+use Rattle.path_theory.specs.Trails.{More}
+use Rattle.path_theory.specs.Walks.{HasTraces}
+use Rattle.path_theory.specs.Paths.{Map}
+use Rattle.path_theory.specs.Actions.{Action, Actions}
+use Rattle.path_theory.specs.FlatPaths.{IsPath, InErrors}
+use Rattle.path_theory.specs.Runs.{Run, run_map, origin}
+use Rattle.path_theory.specs.Facts.{Fact, IsFollowed}
+use Rattle.path_theory.specs.Tabulation.{PathEdge, Found}
+use Rattle.path_theory.specs.Realised.{Realised, RealisedByTraces}
+use Rattle.path_theory.specs.Relevant.{IsClosed}
+use Rattle.path_theory.specs.FlowGraphs.{Head, supergraph}
+use Rattle.path_theory.specs.FrameEnds.{IgnoresKind, EndsQuietly, ExitsApart}
+use Rattle.path_theory.specs.Merged.{Kinds, Shown}
+use Rattle.path_theory.specs.Entries.{Entry, among, IsLeastLog}
+use Rattle.path_theory.specs.PathLengths.{ReportedIn}
+use Rattle.path_theory.specs.FrameEdges.{FrameEdge, FoundIn}
+use Rattle.path_theory.specs.Unchanged.{Unchanged}
+use Rattle.path_theory.specs.Numbered.{Checker, Program, BlockProgram, model, origins_of, supergraph_of, graphs_of, objects_of, IsMarked, IsUnmarked, exits_of}
+
+-- what a path has done before its last action is a path from the same root
+abbrev pub PrefixesArePaths : Type 0
+PrefixesArePaths = (c : Checker) (p : Program) (root : ℕ) (l : Actions (model c)) (a : Action ℕ ℕ ℕ) → IsPath (model c) (supergraph_of c p) root (More l a) → IsPath (model c) (supergraph_of c p) root l
+
+-- two maps that agree at the origin of an object agree at the object after the run
+abbrev pub ObjectsAreIndependent : Type 0
+ObjectsAreIndependent = (c : Checker) (p : Program) (f place : ℕ) (run : Run (model c) (supergraph_of c p) f place) (is_root : Bool) (global : ℕ) (m n : Map (model c)) (o : ℕ)
+    → ((b : ℕ) → origin (model c) (supergraph_of c p) (origins_of c) run o ≡ Some b → m b ≡ n b)
+    → run_map (model c) (supergraph_of c p) run is_root global m o ≡ run_map (model c) (supergraph_of c p) run is_root global n o
+
+-- the table marks objects that may be followed alone
+abbrev pub IsClosedTable : Checker → Program → (ℕ → ℕ → Bool) → Type 0
+IsClosedTable c p a = IsClosed (model c) (supergraph_of c p) (origins_of c) (objects_of c a)
+
+-- the path edges are exactly the realised tuples of followed objects
+abbrev pub PathEdgesAreRealised : Type 0
+PathEdgesAreRealised = (c : Checker) (p : Program) (a : ℕ → ℕ → Bool) → IsClosedTable c p a
+    → (f : ℕ) (is_root : Bool) (g₀ : ℕ) (t₀ : Fact (model c)) (place g : ℕ) (t : Fact (model c))
+    → PathEdge (model c) (supergraph_of c p) (origins_of c) (objects_of c a) f is_root g₀ t₀ place g t
+    ↔ (Realised (model c) (supergraph_of c p) (origins_of c) f is_root g₀ t₀ place g t × IsFollowed (model c) (objects_of c a) f t)
+
+-- the reports of the path edges are exactly those among the errors of some path
+abbrev pub ReportsAreThoseOfPaths : Type 0
+ReportsAreThoseOfPaths = (c : Checker) (p : Program) (a : ℕ → ℕ → Bool) → IsClosedTable c p a
+    → (r : ℕ) → Found (model c) (supergraph_of c p) (origins_of c) (objects_of c a) r ↔ InErrors (model c) (supergraph_of c p) r
+
+-- with their lengths too
+abbrev pub LengthsAreThoseOfPaths : Type 0
+LengthsAreThoseOfPaths = (c : Checker) (p : Program) (a : ℕ → ℕ → Bool) → IsClosedTable c p a
+    → (r n : ℕ) → FoundIn (model c) (supergraph_of c p) (origins_of c) (objects_of c a) r n ↔ ReportedIn (model c) (supergraph_of c p) r n
+
+-- a checker and a program in blocks that meet the laws under which contexts of both kinds of frame are merged
+pub record Blocks : Type 0 where
+  pub checker : Checker
+  pub program : BlockProgram
+  pub objects : ℕ → ℕ → Bool
+  pub exits : ℕ → Bool
+  pub same : IgnoresKind (model checker) (IsUnmarked exits)
+  pub quiet : EndsQuietly (model checker) (origins_of checker) (IsMarked exits)
+  pub kinds : Kinds (model checker) (graphs_of checker program)
+  pub apart : ExitsApart (model checker) (origins_of checker) (exits_of checker exits same quiet) (graphs_of checker program)
+  pub closed : IsClosed (model checker) (supergraph (model checker) (graphs_of checker program)) (origins_of checker) (objects_of checker objects)
+
+abbrev pub Log : Blocks → Type 0
+Log s = List (Entry (model s.checker) (graphs_of s.checker s.program))
+
+-- the log is the least set of entries
+abbrev pub IsLeast : (s : Blocks) → Log s → Type 0
+IsLeast s log = IsLeastLog (model s.checker) (origins_of s.checker) (objects_of s.checker s.objects) (graphs_of s.checker s.program) s.kinds (Contains log)
+
+-- the reports that its entries show are exactly those among the errors of some path
+abbrev pub LeastLogReports : Type 0
+LeastLogReports = (s : Blocks) (log : Log s) → IsLeast s log
+    → (r : ℕ) → Shown (model s.checker) (origins_of s.checker) (objects_of s.checker s.objects) (graphs_of s.checker s.program) s.kinds (among (model s.checker) (graphs_of s.checker s.program) (Contains log)) r
+    ↔ InErrors (model s.checker) (supergraph (model s.checker) (graphs_of s.checker s.program)) r
+
+-- its entries are exactly the realised tuples of followed objects, in a frame of either kind
+abbrev pub LeastLogIsRealised : Type 0
+LeastLogIsRealised = (s : Blocks) (log : Log s) → IsLeast s log
+    → (f g₀ : ℕ) (t₀ : Fact (model s.checker)) (b g : ℕ) (t : Fact (model s.checker))
+    → among (model s.checker) (graphs_of s.checker s.program) (Contains log) f g₀ t₀ b g t
+    ↔ (((is_root : Bool) × Realised (model s.checker) (supergraph (model s.checker) (graphs_of s.checker s.program)) (origins_of s.checker) f is_root g₀ t₀ (Head b) g t) × IsFollowed (model s.checker) (objects_of s.checker s.objects) f t)
+
+-- two programs have the same roots and traces
+abbrev pub SameTraces : Checker → Program → Program → Type 0
+SameTraces c p q = HasTraces (model c) (supergraph_of c p) (supergraph_of c q) × HasTraces (model c) (supergraph_of c q) (supergraph_of c p)
+
+abbrev pub SameTracesReportTheSame : Type 0
+SameTracesReportTheSame = (c : Checker) (p q : Program) → SameTraces c p q
+    → (r : ℕ) → InErrors (model c) (supergraph_of c p) r ↔ InErrors (model c) (supergraph_of c q) r
+
+-- what the second realises is what the paths of the first realise at the ends of walks in the second
+abbrev pub SameTracesRealiseTheSame : Type 0
+SameTracesRealiseTheSame = (c : Checker) (p q : Program) → SameTraces c p q
+    → (f : ℕ) (is_root : Bool) (g₀ : ℕ) (t₀ : Fact (model c)) (place g : ℕ) (t : Fact (model c))
+    → RealisedByTraces (model c) (supergraph_of c p) (supergraph_of c q) (origins_of c) f is_root g₀ t₀ place g t
+    ↔ Realised (model c) (supergraph_of c q) (origins_of c) f is_root g₀ t₀ place g t
+
+-- what a frame of an unchanged function comes to in one program it comes to in the other
+abbrev pub UnchangedFramesStay : Type 0
+UnchangedFramesStay = (c : Checker) (p q : Program) (a b : ℕ → ℕ → Bool) (u : ℕ → Bool) (at : ℕ → ℕ)
+    → Unchanged (model c) (supergraph_of c p) (supergraph_of c q) (objects_of c a) (objects_of c b) (λ f. IsTrue (u f)) at
+    → (f : ℕ) (is_root : Bool) (g₀ : ℕ) (t₀ : Fact (model c)) (place g : ℕ) (t : Fact (model c)) (n : ℕ) → IsTrue (u f)
+    → FrameEdge (model c) (supergraph_of c p) (origins_of c) (objects_of c a) f is_root g₀ t₀ place g t n
+    → FrameEdge (model c) (supergraph_of c q) (origins_of c) (objects_of c b) f is_root g₀ t₀ (at place) g t n
