@@ -1,15 +1,16 @@
 -- A context that frames of both kinds begin has the same entries in both, up to the end of the frame.
-use Rattle.std.proofs.Common.{◌≡◌, Bool, false, Option, Some, refl, sym, ◌∙◌, ap}
+use Rattle.std.proofs.Common.{◌≡◌, Bool, true, false, Option, Some, None, refl, sym, ◌∙◌, ap}
 use Rattle.std.proofs.Math.Path.{fun_ext}
 use Rattle.path_theory.specs.Model.{Model}
 use Rattle.path_theory.specs.Supergraph.{Supergraph}
-use Rattle.path_theory.specs.Paths.{Map, stepped}
+use Rattle.path_theory.specs.Paths.{NoCaller, Map, stepped}
 use Rattle.path_theory.specs.Origins.{Origins, IsLocal}
 use Rattle.path_theory.specs.Runs.{Run, Here, Skipped, Gone, Closed, run_global, run_map, origin}
-use Rattle.path_theory.specs.OpenFrames.{at_entry}
+use Rattle.path_theory.specs.OpenFrames.{RootFrame, at_entry}
 use Rattle.path_theory.specs.Facts.{NoObject, HasObject, fact_of, Objects, Fact}
 use Rattle.path_theory.specs.Realised.{Realised, IsTracked}
 use Rattle.path_theory.specs.FlowGraphs.{FlowGraphs, Point, Head, Before, PointSkips, EntersBlock, LeavesBlock, PointGoes, PassesEvent, PointCalls, MakesCall, supergraph}
+use Rattle.path_theory.specs.Merged.{IsUnknown}
 use Rattle.path_theory.specs.FrameEnds.{Exits, EachStays, ExitsApart}
 use Rattle.path_theory.proofs.Independence.{independent}
 use Rattle.path_theory.proofs.SmallFacts.{no_object_object, fact_of_same, fact_of_some}
@@ -67,6 +68,15 @@ module _ (M : Model) (L : Origins M) (E : Exits M L) where
             global = ap (run_global M K w.run l) (sym same) ∙ sym (kind_global w.run k l (at_entry M K w.opened).global i) ∙ w.global;
             tracked = tracked_other w.run i k l _ _ _ _ t₀ t same (entry_state v.run l _ _ t₀ u v.tracked) w.tracked;
           }
+
+      unknown_tracked : {f : M.Fn} (t : Fact M) → IsUnknown M t → IsTracked M K L (Here {f = f}) true M.start (λ o. None) t t
+      unknown_tracked NoObject u = refl
+      unknown_tracked (HasObject o None) u = (refl, refl)
+      unknown_tracked (HasObject o (Some x)) u = absurd u
+
+      -- what a called frame of a root that begins with the first global state and nothing known comes to, the root's own frame comes to
+      pub in_own_frame : {f : M.Fn} {g : M.Global} {t₀ t : Fact M} {p : K.Place} (w : Realised M K L f false M.start t₀ p g t) → IsInside w.run → K.IsRoot f → IsUnknown M t₀ → Realised M K L f true M.start t₀ p g t
+      in_own_frame {f = f} {t₀ = t₀} w i r u = other_kind w i (record { below = NoCaller; opened = RootFrame r; run = Here {f = f}; entry = refl; global = refl; tracked = unknown_tracked t₀ u })
 
   module _ (G : FlowGraphs M) (X : ExitsApart M L E G) where
     -- up to the head of a block no event ends the frame

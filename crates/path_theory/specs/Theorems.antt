@@ -4,7 +4,7 @@ use Rattle.std.specs.Prelude.{◌≡◌, ℕ, Bool, IsTrue, Some, List, ◌↔�
 use Rattle.std.specs.List.{Contains}
 use Rattle.path_theory.specs.Trails.{More}
 use Rattle.path_theory.specs.Walks.{HasTraces}
-use Rattle.path_theory.specs.Paths.{Map}
+use Rattle.path_theory.specs.Paths.{Map, Callers, Path, after}
 use Rattle.path_theory.specs.Actions.{Action, Actions}
 use Rattle.path_theory.specs.FlatPaths.{IsPath, InErrors}
 use Rattle.path_theory.specs.Runs.{Run, run_map, origin}
@@ -34,6 +34,13 @@ ObjectsAreIndependent = (c : Checker) (p : Program) (f place : ℕ) (run : Run (
 -- the table marks objects that may be followed alone
 abbrev pub IsClosedTable : Checker → Program → (ℕ → ℕ → Bool) → Type 0
 IsClosedTable c p a = IsClosed (model c) (supergraph_of c p) (origins_of c) (objects_of c a)
+
+-- an object with a known state on a path is followed, and so is one of which an event gives a report
+abbrev pub KnownObjectsAreFollowed : Type 0
+KnownObjectsAreFollowed = (c : Checker) (p : Program) (a : ℕ → ℕ → Bool) → IsClosedTable c p a
+    → (f : ℕ) (is_root : Bool) (place : ℕ) (below : Callers (model c) (supergraph_of c p)) (path : Path (model c) (supergraph_of c p) f is_root place below) (o : ℕ)
+    → ((x : ℕ) → (after (model c) (supergraph_of c p) path).here o ≡ Some x → IsTrue (a f o))
+    × ((e next r : ℕ) → IsTrue (p.goes f place e next) → (model c).Fires e f is_root (after (model c) (supergraph_of c p) path).global o ((model c).moved e (after (model c) (supergraph_of c p) path).here o) r → IsTrue (a f o))
 
 -- the path edges are exactly the realised tuples of followed objects
 abbrev pub PathEdgesAreRealised : Type 0

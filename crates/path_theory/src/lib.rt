@@ -4,7 +4,7 @@
 mod theorems;
 
 pub use theorems::{
-    least_log_is_exact, lengths_are_those_of_paths, objects_are_independent,
-    path_edges_are_realised, prefixes_are_paths, reports_are_those_of_paths,
-    same_traces_are_one_program, unchanged_frames_stay,
+    known_objects_are_followed, least_log_is_exact, lengths_are_those_of_paths,
+    objects_are_independent, path_edges_are_realised, prefixes_are_paths,
+    reports_are_those_of_paths, same_traces_are_one_program, unchanged_frames_stay,
 };

@@ -4,6 +4,7 @@
 ghost use Rattle.path_theory.specs.Theorems.{
   PrefixesArePaths,
   ObjectsAreIndependent,
+  KnownObjectsAreFollowed,
   PathEdgesAreRealised,
   ReportsAreThoseOfPaths,
   LengthsAreThoseOfPaths,
@@ -23,6 +24,11 @@ pub fn prefixes_are_paths()
 /// one object can be followed without the others.
 pub fn objects_are_independent()
     ensures { ObjectsAreIndependent }
+{}
+
+/// On every path the objects with known states are among those that are followed, and so are the objects of its reports.
+pub fn known_objects_are_followed()
+    ensures { KnownObjectsAreFollowed }
 {}
 
 /// The path edges of tabulation are exactly the tuples that paths realise, of the objects that are followed.
