@@ -1,6 +1,6 @@
 -- What the traces of a flow graph meet stands in its blocks: each event is one of a block's, and each followed call is at a block's end.
 -- So a set of objects is closed where it is closed under the events and calls of the blocks.
-use Rattle.std.proofs.Common.{◌≡◌, List, [], ◌∷◌, ◌⊎◌, inl, inr, refl, sym, subst}
+use Rattle.std.proofs.Common.{◌≡◌, List, [], ◌∷◌, ◌⊎◌, inl, inr, refl}
 use Rattle.path_theory.specs.Model.{Model}
 use Rattle.path_theory.specs.Walks.{Labels, Walk, WalkStart, WalkSkip, WalkGo, WalkCall}
 use Rattle.path_theory.specs.Relevant.{EventOf, CallOf}

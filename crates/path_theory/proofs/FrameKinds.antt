@@ -69,14 +69,14 @@ module _ (M : Model) (L : Origins M) (E : Exits M L) where
             tracked = tracked_other w.run i k l _ _ _ _ t₀ t same (entry_state v.run l _ _ t₀ u v.tracked) w.tracked;
           }
 
-      unknown_tracked : {f : M.Fn} (t : Fact M) → IsUnknown M t → IsTracked M K L (Here {f = f}) true M.start (λ o. None) t t
-      unknown_tracked NoObject u = refl
-      unknown_tracked (HasObject o None) u = (refl, refl)
-      unknown_tracked (HasObject o (Some x)) u = absurd u
+      unknown_tracked : (f : M.Fn) (t : Fact M) → IsUnknown M t → IsTracked M K L (Here {f = f}) true M.start (λ o. None) t t
+      unknown_tracked f NoObject u = refl
+      unknown_tracked f (HasObject o None) u = (refl, refl)
+      unknown_tracked f (HasObject o (Some x)) u = absurd u
 
       -- what a called frame of a root that begins with the first global state and nothing known comes to, the root's own frame comes to
       pub in_own_frame : {f : M.Fn} {g : M.Global} {t₀ t : Fact M} {p : K.Place} (w : Realised M K L f false M.start t₀ p g t) → IsInside w.run → K.IsRoot f → IsUnknown M t₀ → Realised M K L f true M.start t₀ p g t
-      in_own_frame {f = f} {t₀ = t₀} w i r u = other_kind w i (record { below = NoCaller; opened = RootFrame r; run = Here {f = f}; entry = refl; global = refl; tracked = unknown_tracked t₀ u })
+      in_own_frame {f = f} {t₀ = t₀} w i r u = other_kind w i (record { below = NoCaller; opened = RootFrame r; run = Here {f = f}; entry = refl; global = refl; tracked = unknown_tracked f t₀ u })
 
   module _ (G : FlowGraphs M) (X : ExitsApart M L E G) where
     -- up to the head of a block no event ends the frame

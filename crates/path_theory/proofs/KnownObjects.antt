@@ -1,16 +1,14 @@
 -- On every path each object with a known state is followed, and so is each that takes a rule with a report at its next event.
 -- So nothing is lost by leaving out the objects that aren't followed.
-use Rattle.std.proofs.Common.{◌≡◌, Bool, Some, refl, sym, ◌∙◌, ap, subst}
+use Rattle.std.proofs.Common.{◌≡◌, Bool, Some, refl, sym, ◌∙◌, ap}
 use Rattle.path_theory.specs.Model.{Model}
 use Rattle.path_theory.specs.Supergraph.{Supergraph}
-use Rattle.path_theory.specs.Paths.{Map, Callers, Path, after}
+use Rattle.path_theory.specs.Paths.{Callers, Path, after}
 use Rattle.path_theory.specs.Origins.{Origins, IsLocal}
-use Rattle.path_theory.specs.Runs.{run_map}
-use Rattle.path_theory.specs.OpenFrames.{at_entry}
 use Rattle.path_theory.specs.Facts.{Objects}
 use Rattle.path_theory.specs.Relevant.{IsClosed}
 use Rattle.path_theory.proofs.Splitting.{split}
-use Rattle.path_theory.proofs.Known.{Known, known_run, taken}
+use Rattle.path_theory.proofs.Known.{known_run, taken}
 use Rattle.path_theory.proofs.FrameComplete.{begun_by}
 
 module _ (M : Model) (K : Supergraph M) (L : Origins M) (I : IsLocal M L) (A : Objects M) (Q : IsClosed M K L A) where

@@ -35,12 +35,12 @@ module _ (M : Model) (L : Origins M) (A : Objects M) (G : FlowGraphs M) (C : Kin
   abbrev D : M.Fn → Bool → M.Global → Fact M → Point G.Block M.Event → M.Global → Fact M → Type 0
   D = PathEdge M (supergraph M G) L A
 
-  -- the root's own frame begins as a root does
   starts_unknown : {f : M.Fn} {t : Fact M} → Starts M L A f t → IsUnknown M t
   starts_unknown StartsNone = tt
   starts_unknown (StartsUnknown o a) = tt
 
-  of_kind : {f : M.Fn} {k : Bool} {g₀ g : M.Global} {t₀ t : Fact M} {p : Point G.Block M.Event} → D f k g₀ t₀ p g t → k ≡ true → C.kind f g₀ t₀ ≡ true
+  -- the root's own frame begins as a root does
+  pub of_kind : {f : M.Fn} {k : Bool} {g₀ g : M.Global} {t₀ t : Fact M} {p : Point G.Block M.Event} → D f k g₀ t₀ p g t → k ≡ true → C.kind f g₀ t₀ ≡ true
   of_kind (AtRoot r a) q = C.of_root _ r (starts_unknown a)
   of_kind (AlongSkip d t) q = of_kind d q
   of_kind (AlongEvent d e t a) q = of_kind d q
