@@ -1,4 +1,5 @@
--- Bodies with the same traces, marks and all, are machines with the same traces under every checker.
+-- Bodies with the same marked traces are supergraphs with the same traces under every checker, whichever calls it follows.
+-- So a flow graph is built once for all checkers.
 use Rattle.std.proofs.Common.{◌≡◌, Option, Some, None, refl, ◌∙◌, ap, subst}
 use Rattle.path_theory.specs.Model.{Model}
 use Rattle.path_theory.specs.Supergraph.{Supergraph}

@@ -1,4 +1,5 @@
--- A context that frames of both kinds begin has the same entries in both, up to the end of the frame.
+-- A context that frames of both kinds begin comes to the same in both, up to the end of the frame.
+-- So a called frame of a root that begins as a root does needs no entries of its own.
 use Rattle.std.proofs.Common.{◌≡◌, Bool, true, false, Option, Some, None, refl, sym, ◌∙◌, ap}
 use Rattle.std.proofs.Math.Path.{fun_ext}
 use Rattle.path_theory.specs.Model.{Model}
@@ -56,7 +57,7 @@ module _ (M : Model) (L : Origins M) (E : Exits M L) where
             w.1 ∙ fact_of_same (origin M K L R o) m n (λ b d. sym (same b d)),
           )
 
-      -- a context that a frame of another kind begins too has the same entries there
+      -- a context that a frame of another kind begins too comes to the same there
       pub other_kind : {f : M.Fn} {k l : Bool} {g₀ g h : M.Global} {t₀ t u : Fact M} {p q : K.Place} (w : Realised M K L f k g₀ t₀ p g t) → IsInside w.run → Realised M K L f l g₀ t₀ q h u → Realised M K L f l g₀ t₀ p g t
       other_kind {k = k} {l = l} {t₀ = t₀} {t = t} {u = u} w i v =
           let same = w.entry ∙ sym v.entry in

@@ -1,4 +1,5 @@
--- The theorem for an engine that keeps its entries by context alone: where each is a path edge and nothing else follows from them, they are exactly the realised tuples, and their reports are those of all paths.
+-- The theorem for an engine that keeps its entries by function and entry tuple alone.
+-- Where each entry is a path edge and nothing else follows from them, they are exactly the realised tuples, and their reports are those of all paths.
 use Rattle.std.proofs.Common.{Bool, ◌↔◌}
 use Rattle.path_theory.specs.Model.{Model}
 use Rattle.path_theory.specs.Paths.{Reported}

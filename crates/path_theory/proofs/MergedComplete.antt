@@ -154,7 +154,7 @@ module _ (M : Model) (L : Origins M) (A : Objects M) (G : FlowGraphs M) (C : Kin
     at_head : {f : M.Fn} {k : Bool} {g₀ g : M.Global} {t₀ t : Fact M} {b : G.Block} → Stands f k g₀ t₀ (Head b) g t → X f g₀ t₀ b g t
     at_head (AtHead x) = x
 
-    -- what is derivable at the head of a block, in a frame of either kind, is an entry
+    -- each path edge at the head of a block, in a frame of either kind, is an entry
     pub merged_least : {f : M.Fn} {k : Bool} {g₀ g : M.Global} {t₀ t : Fact M} {b : G.Block} → D f k g₀ t₀ (Head b) g t → X f g₀ t₀ b g t
     merged_least d = at_head (stands d)
 

@@ -87,6 +87,6 @@ module _ (M : Model) (L : Origins M) (A : Objects M) (G : FlowGraphs M) (C : Kin
         let x = to_end M L A G d c in
         AroundCall x s (MakesCall j) (to_last (to_called e (called_bare x s (MakesCall j))) l (λ n i. EventNone)) (EndsFrame l) q
 
-    -- what is derivable is closed under the steps
+    -- the path edges are closed under the steps
     pub path_edges_lead : Leads M L A G C MergedEdge MergedEdge
     path_edges_lead = record { root = sound_root; next = sound_next; call = sound_call; return = sound_return; saved = sound_saved }

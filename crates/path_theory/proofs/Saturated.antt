@@ -1,4 +1,5 @@
--- Entries at the heads of blocks, of which each is derivable and from which nothing else follows, are all that is derivable there.
+-- A set of entries at the heads of blocks from which nothing else follows has every path edge there, and shows its reports.
+-- Where each entry is a path edge, the set is that of the path edges, and its reports are theirs.
 use Rattle.std.proofs.Common.{◌≡◌, Bool, false, Option, None, List, [], ◌∷◌}
 use Rattle.path_theory.specs.Model.{Model}
 use Rattle.path_theory.specs.Origins.{Origins}
@@ -61,7 +62,7 @@ module _ (M : Model) (L : Origins M) (A : Objects M) (G : FlowGraphs M) where
     at_head : {f : M.Fn} {k : Bool} {g₀ g : M.Global} {t₀ t : Fact M} {b : G.Block} → Stands f k g₀ t₀ (Head b) g t → X f k g₀ t₀ b g t
     at_head (AtHead x) = x
 
-    -- what is derivable at the head of a block is an entry
+    -- each path edge at the head of a block is an entry
     pub least : {f : M.Fn} {k : Bool} {g₀ g : M.Global} {t₀ t : Fact M} {b : G.Block} → D f k g₀ t₀ (Head b) g t → X f k g₀ t₀ b g t
     least d = at_head (stands d)
 
@@ -80,6 +81,6 @@ module _ (M : Model) (L : Origins M) (A : Objects M) (G : FlowGraphs M) where
   shown r (e ∷ es) d (ShowsGlobal i) = FoundGlobal d e (PassesEvent _ e es) i
   shown r (e ∷ es) d (ShowsLater a w) = shown r es (AlongEvent d e (PassesEvent _ e es) a) w
 
-  -- entries of which each is derivable give no other reports
+  -- entries of which each is a path edge show no other reports
   pub found_of : (X : M.Fn → Bool → M.Global → Fact M → G.Block → M.Global → Fact M → Type 0) → ((f : M.Fn) (k : Bool) (g₀ : M.Global) (t₀ : Fact M) (b : G.Block) (g : M.Global) (t : Fact M) → X f k g₀ t₀ b g t → D f k g₀ t₀ (Head b) g t) → (r : M.Report) → ShownInKind M L A G X r → Found M (supergraph M G) L A r
   found_of X h r w = shown r (G.events w.fn w.block) (AlongSkip (h _ _ _ _ _ _ _ w.entry) (EntersBlock w.block)) w.shows

@@ -13,12 +13,12 @@ use Rattle.path_theory.proofs.SmallFacts.{none_some, some_some, no_object_object
 use Rattle.path_theory.proofs.Independence.{independent}
 
 module _ (M : Model) (K : Supergraph M) (L : Origins M) (I : IsLocal M L) (A : Objects M) where
-  -- the state that a tuple gives is that of the map
+  -- the state that a fact gives is that of the map
   pub gives_state : {f : M.Fn} {p : K.Place} (R : Run M K f p) (k : Bool) (g : M.Global) (m : Map M) (t₀ : Fact M) {z : Option M.Obj} {t : Fact M} {x : Option M.State} → Gives z t x → IsTracked M K L R k g m t₀ t → and_then z (run_map M K R k g m) ≡ x
   gives_state R k g m t₀ GivesNone w = refl
   gives_state R k g m t₀ GivesState w = w.0
 
-  -- and it goes back to the same entry tuple
+  -- and it goes back to the same fact at the entry
   gives_entry : {f : M.Fn} {p : K.Place} (R : Run M K f p) (k : Bool) (g : M.Global) (m : Map M) (t₀ : Fact M) {z : Option M.Obj} {t : Fact M} {x : Option M.State} → Gives z t x → IsTracked M K L R k g m t₀ t → t₀ ≡ fact_of (and_then z (origin M K L R)) m
   gives_entry R k g m t₀ GivesNone w = w
   gives_entry R k g m t₀ GivesState w = w.1

@@ -1,4 +1,5 @@
 -- What a frame comes to in a context depends on its function and on those that calls reach from it, and not on the rest of the program.
+-- One induction over frame edges; no path is looked at.
 use Rattle.std.proofs.Common.{ℕ, Bool, sym, subst}
 use Rattle.path_theory.specs.Model.{Model}
 use Rattle.path_theory.specs.Supergraph.{Supergraph}

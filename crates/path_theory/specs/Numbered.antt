@@ -6,6 +6,7 @@ use Rattle.path_theory.specs.Supergraph.{Supergraph}
 use Rattle.path_theory.specs.Origins.{Origins, and_then, handed}
 use Rattle.path_theory.specs.Facts.{Objects}
 use Rattle.path_theory.specs.FlowGraphs.{FlowGraphs}
+use Rattle.path_theory.specs.Marks.{Bodies}
 use Rattle.path_theory.specs.FrameEnds.{IgnoresKind, EndsQuietly, Exits}
 
 pub record Checker : Type 0 where
@@ -34,6 +35,14 @@ pub record BlockProgram : Type 0 where
   pub events : ℕ → ℕ → List ℕ
   pub next : ℕ → ℕ → ℕ → Bool
   pub call : ℕ → ℕ → ℕ → ℕ → ℕ → Bool
+  pub ends : ℕ → ℕ → Bool
+
+-- the bodies of a program with a mark at each call
+pub record BodyTable : Type 0 where
+  pub entry : ℕ → ℕ
+  pub skips : ℕ → ℕ → ℕ → Bool
+  pub goes : ℕ → ℕ → ℕ → ℕ → Bool
+  pub marks : ℕ → ℕ → ℕ → ℕ → Bool
   pub ends : ℕ → ℕ → Bool
 
 abbrev pub model : Checker → Model
@@ -78,6 +87,16 @@ graphs_of c p = record {
   Next = λ f b d. IsTrue (p.next f b d);
   Call = λ f b s h d. IsTrue (p.call f b s h d);
   Ends = λ f b. IsTrue (p.ends f b);
+}
+
+abbrev pub bodies_of : (c : Checker) → BodyTable → Bodies (model c)
+bodies_of c b = record {
+  Place = ℕ;
+  entry = b.entry;
+  Skips = λ f p q. IsTrue (b.skips f p q);
+  Goes = λ f p e q. IsTrue (b.goes f p e q);
+  Marks = λ f p s q. IsTrue (b.marks f p s q);
+  Ends = λ f p. IsTrue (b.ends f p);
 }
 
 -- the objects that a table marks in each function

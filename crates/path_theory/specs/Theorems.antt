@@ -1,6 +1,6 @@
 -- The theorems of this crate as statements about all numbered checkers and programs, which contracts can name.
 -- The lemmas in `proofs/` have them for any model; each contract of `src/theorems.rt` names one.
-use Rattle.std.specs.Prelude.{◌≡◌, ℕ, Bool, IsTrue, Some, List, ◌↔◌}
+use Rattle.std.specs.Prelude.{◌≡◌, ℕ, Bool, true, false, IsTrue, Option, Some, List, ◌↔◌}
 use Rattle.std.specs.List.{Contains}
 use Rattle.path_theory.specs.Trails.{More}
 use Rattle.path_theory.specs.Walks.{HasTraces}
@@ -13,13 +13,15 @@ use Rattle.path_theory.specs.Tabulation.{PathEdge, Found}
 use Rattle.path_theory.specs.Realised.{Realised, RealisedByTraces}
 use Rattle.path_theory.specs.Relevant.{IsClosed}
 use Rattle.path_theory.specs.FlowGraphs.{Head, supergraph}
+use Rattle.path_theory.specs.Saturated.{IsSaturated, ShownInKind}
 use Rattle.path_theory.specs.FrameEnds.{IgnoresKind, EndsQuietly, ExitsApart}
-use Rattle.path_theory.specs.Merged.{Kinds, Shown}
+use Rattle.path_theory.specs.Merged.{IsUnknown, Kinds, Shown}
 use Rattle.path_theory.specs.Entries.{Entry, among, IsLeastLog}
+use Rattle.path_theory.specs.Marks.{HasMarked, under}
 use Rattle.path_theory.specs.PathLengths.{ReportedIn}
 use Rattle.path_theory.specs.FrameEdges.{FrameEdge, FoundIn}
 use Rattle.path_theory.specs.Unchanged.{Unchanged}
-use Rattle.path_theory.specs.Numbered.{Checker, Program, BlockProgram, model, origins_of, supergraph_of, graphs_of, objects_of, IsMarked, IsUnmarked, exits_of}
+use Rattle.path_theory.specs.Numbered.{Checker, Program, BlockProgram, BodyTable, model, origins_of, supergraph_of, graphs_of, bodies_of, objects_of, IsMarked, IsUnmarked, exits_of}
 
 -- what a path has done before its last action is a path from the same root
 abbrev pub PrefixesArePaths : Type 0
@@ -113,3 +115,31 @@ UnchangedFramesStay = (c : Checker) (p q : Program) (a b : ℕ → ℕ → Bool)
     → (f : ℕ) (is_root : Bool) (g₀ : ℕ) (t₀ : Fact (model c)) (place g : ℕ) (t : Fact (model c)) (n : ℕ) → IsTrue (u f)
     → FrameEdge (model c) (supergraph_of c p) (origins_of c) (objects_of c a) f is_root g₀ t₀ place g t n
     → FrameEdge (model c) (supergraph_of c q) (origins_of c) (objects_of c b) f is_root g₀ t₀ (at place) g t n
+
+-- bodies with the same marked traces have the same reports under each checker, whichever calls it follows
+abbrev pub SameMarksReportTheSame : Type 0
+SameMarksReportTheSame = (c : Checker) (is_root : ℕ → Bool) (followed : ℕ → ℕ → Option ℕ) (b d : BodyTable) → HasMarked (model c) (bodies_of c b) (bodies_of c d) → HasMarked (model c) (bodies_of c d) (bodies_of c b)
+    → (r : ℕ) → InErrors (model c) (under (model c) (λ f. IsTrue (is_root f)) followed (bodies_of c b)) r ↔ InErrors (model c) (under (model c) (λ f. IsTrue (is_root f)) followed (bodies_of c d)) r
+
+-- entries at the heads of blocks, with the kind of frame, as a table
+abbrev pub EntryTable : Checker → Type 0
+EntryTable c = ℕ → Bool → ℕ → Fact (model c) → ℕ → ℕ → Fact (model c) → Bool
+
+abbrev pub IsEntry : (c : Checker) (p : BlockProgram) → EntryTable c → ℕ → Bool → ℕ → Fact (model c) → ℕ → ℕ → Fact (model c) → Type 0
+IsEntry c p x f is_root g₀ t₀ b g t = IsTrue (x f is_root g₀ t₀ b g t)
+
+-- each entry is a path edge at the head of its block, and nothing else follows from them
+pub record IsExactTable (c : Checker) (p : BlockProgram) (a : ℕ → ℕ → Bool) (x : EntryTable c) : Type 0 where
+  pub saturated : IsSaturated (model c) (origins_of c) (objects_of c a) (graphs_of c p) (IsEntry c p x)
+  pub edges : (f : ℕ) (is_root : Bool) (g₀ : ℕ) (t₀ : Fact (model c)) (b g : ℕ) (t : Fact (model c)) → IsEntry c p x f is_root g₀ t₀ b g t → PathEdge (model c) (supergraph (model c) (graphs_of c p)) (origins_of c) (objects_of c a) f is_root g₀ t₀ (Head b) g t
+
+-- the reports of such entries are exactly those among the errors of some path
+abbrev pub ExactTableReports : Type 0
+ExactTableReports = (c : Checker) (p : BlockProgram) (a : ℕ → ℕ → Bool) (x : EntryTable c) → IsExactTable c p a x → IsClosed (model c) (supergraph (model c) (graphs_of c p)) (origins_of c) (objects_of c a)
+    → (r : ℕ) → ShownInKind (model c) (origins_of c) (objects_of c a) (graphs_of c p) (IsEntry c p x) r ↔ InErrors (model c) (supergraph (model c) (graphs_of c p)) r
+
+-- what a called frame of a root that begins as a root does comes to, the root's own frame comes to
+abbrev pub OwnFramesStandForCalledOnes : Type 0
+OwnFramesStandForCalledOnes = (s : Blocks) (f : ℕ) (t₀ : Fact (model s.checker)) (b g : ℕ) (t : Fact (model s.checker)) → IsTrue (s.program.is_root f) → IsUnknown (model s.checker) t₀
+    → Realised (model s.checker) (supergraph (model s.checker) (graphs_of s.checker s.program)) (origins_of s.checker) f false s.checker.start t₀ (Head b) g t
+    → Realised (model s.checker) (supergraph (model s.checker) (graphs_of s.checker s.program)) (origins_of s.checker) f true s.checker.start t₀ (Head b) g t

@@ -12,6 +12,9 @@ ghost use Rattle.path_theory.specs.Theorems.{
   LeastLogIsRealised,
   SameTracesReportTheSame,
   SameTracesRealiseTheSame,
+  SameMarksReportTheSame,
+  ExactTableReports,
+  OwnFramesStandForCalledOnes,
   UnchangedFramesStay,
 };
 
@@ -47,6 +50,18 @@ pub fn lengths_are_those_of_paths()
     ensures { LengthsAreThoseOfPaths }
 {}
 
+/// Entries at the heads of blocks, each a path edge, from which nothing else follows show exactly the reports of all paths.
+/// Here the kind of frame is part of an entry's context.
+pub fn saturated_entries_are_exact()
+    ensures { ExactTableReports }
+{}
+
+/// A called frame of a root that begins with the first global state and nothing known comes to nothing that the root's own
+/// frame doesn't come to, so it needs no entries of its own.
+pub fn own_frames_stand_for_called_ones()
+    ensures { OwnFramesStandForCalledOnes }
+{}
+
 /// A log that is the least set of entries at the heads of blocks, kept by function and entry tuple alone, has exactly the
 /// realised tuples and shows exactly the reports of all paths.
 pub fn least_log_is_exact()
@@ -59,6 +74,12 @@ pub fn least_log_is_exact()
 pub fn same_traces_are_one_program()
     ensures reports { SameTracesReportTheSame }
     ensures realised { SameTracesRealiseTheSame }
+{}
+
+/// Bodies with the same traces, with a mark at each call, have the same reports under each checker, whichever calls it
+/// follows: a flow graph is built once for all of them.
+pub fn same_marks_are_one_program()
+    ensures { SameMarksReportTheSame }
 {}
 
 /// What a frame comes to from its entry tuple stays where its function and all that it calls are unchanged.
