@@ -1,4 +1,5 @@
--- Each function's own variables are a set that is closed under the events and calls of the program, so the others may be left out.
+-- Each function's own variables are a set that is closed under the events and calls of the program, so the others may
+-- be left out.
 use Rattle.std.proofs.Common.{◌≡◌, Bool, true, false, Some, None, if◌then◌else◌, [], ◌∷◌, refl, sym, ◌∙◌, subst, inl, inr, ◌↔◌}
 use Rattle.path_examples.specs.declared.checker.Variable.{Variable}
 use Rattle.path_examples.specs.declared.checker.Variable.TheVariants.{WalkFormal, WalkLocal, StartFormal, HelpFormal}
@@ -114,7 +115,8 @@ fits : {f : Function} {e : Event} → EventOf locks program f e → FitsEvent f 
 fits w = let v = event_in_block locks graphs w in block_fits _ v.0 _ v.1
 
 -- what goes into a callee, and what comes out, is followed on both sides
-into_followed : (s : CallSite) (c o : Variable) → into_of s c ≡ Some o → followed (callee_of s) c × followed (caller_of s) o
+into_followed : (s : CallSite) (c o : Variable) → into_of s c ≡ Some o
+    → followed (callee_of s) c × followed (caller_of s) o
 into_followed WalkAgain WalkFormal o d = (tt, subst (followed Walk) (some_is WalkFormal o d) tt)
 into_followed FirstHelp HelpFormal o d = (tt, subst (followed Start) (some_is StartFormal o d) tt)
 into_followed SecondHelp HelpFormal o d = (tt, subst (followed Start) (some_is StartFormal o d) tt)
@@ -128,7 +130,8 @@ into_followed SecondHelp WalkFormal o d = none_known o d
 into_followed SecondHelp WalkLocal o d = none_known o d
 into_followed SecondHelp StartFormal o d = none_known o d
 
-pub out_followed : (s : CallSite) (o c : Variable) → out_of s o ≡ Some c → followed (callee_of s) c × followed (caller_of s) o
+pub out_followed : (s : CallSite) (o c : Variable) → out_of s o ≡ Some c
+    → followed (callee_of s) c × followed (caller_of s) o
 out_followed WalkAgain WalkFormal c d = (subst (followed Walk) (some_is WalkFormal c d) tt, tt)
 out_followed FirstHelp StartFormal c d = (subst (followed Help) (some_is HelpFormal c d) tt, tt)
 out_followed SecondHelp StartFormal c d = (subst (followed Help) (some_is HelpFormal c d) tt, tt)
@@ -142,10 +145,12 @@ out_followed SecondHelp WalkFormal c d = none_known c d
 out_followed SecondHelp WalkLocal c d = none_known c d
 out_followed SecondHelp HelpFormal c d = none_known c d
 
-in_caller : {f h : Function} {s : CallSite} → CallOf locks program f s h → (o : Variable) → followed (caller_of s) o → followed f o
+in_caller : {f h : Function} {s : CallSite} → CallOf locks program f s h → (o : Variable) → followed (caller_of s) o
+    → followed f o
 in_caller w o a = let v = call_in_block locks graphs w in subst (λ g. followed g o) (sym v.2.caller) a
 
-in_callee : {f h : Function} {s : CallSite} → CallOf locks program f s h → (o : Variable) → followed (callee_of s) o → followed h o
+in_callee : {f h : Function} {s : CallSite} → CallOf locks program f s h → (o : Variable) → followed (callee_of s) o
+    → followed h o
 in_callee w o a = let v = call_in_block locks graphs w in subst (λ g. followed g o) (sym v.2.callee) a
 
 pub closed : IsClosed locks program lock_origins followed

@@ -1,4 +1,5 @@
--- The instance meets each law of the theory: locality, closed sets of objects, kinds of frame, and blocks that end frames.
+-- The instance meets each law of the theory: locality, closed sets of objects, kinds of frame, and blocks that end
+-- frames.
 use Rattle.std.proofs.Common.{◌≡◌, Bool, true, false, Option, Some, None, [], ◌∷◌, refl, ◌⊎◌, inl, inr, subst}
 use Rattle.path_examples.specs.declared.checker.Variable.{Variable}
 use Rattle.path_examples.specs.declared.checker.Variable.TheVariants.{WalkFormal, WalkLocal, StartFormal, HelpFormal}
@@ -33,14 +34,16 @@ abbrev pub Stays : Event → Type 0
 Stays Leave = ⊥
 Stays _ = Unit {0}
 
-same_choice : (e : Event) → Stays e → (k l : Bool) (o : Variable) (x : Option LockState) → choice e k o x ≡ choice e l o x
+same_choice : (e : Event) → Stays e → (k l : Bool) (o : Variable) (x : Option LockState)
+    → choice e k o x ≡ choice e l o x
 same_choice (Lock v) a k l o x = refl
 same_choice (Unlock v) a k l o x = refl
 same_choice Copy a k l o x = refl
 same_choice Disable a k l o x = refl
 same_choice Leave a k l o x = absurd a
 
-same_report : (e : Event) → Stays e → (k l : Bool) (o : Variable) (x : Option LockState) → report_of e k o x ≡ report_of e l o x
+same_report : (e : Event) → Stays e → (k l : Bool) (o : Variable) (x : Option LockState)
+    → report_of e k o x ≡ report_of e l o x
 same_report (Lock v) a k l o x = refl
 same_report (Unlock v) a k l o x = refl
 same_report Copy a k l o x = refl
@@ -77,7 +80,8 @@ exit_source (Unlock v) a o = absurd a
 exit_source Copy a o = absurd a
 exit_source Disable a o = absurd a
 
-exit_report : (e : Event) → IsExit e → (o : Variable) (x : Option LockState) (r : Report) → report_of e false o x ≡ Some r → report_of e true o x ≡ Some r
+exit_report : (e : Event) → IsExit e → (o : Variable) (x : Option LockState) (r : Report)
+    → report_of e false o x ≡ Some r → report_of e true o x ≡ Some r
 exit_report Leave a WalkLocal x r i = i
 exit_report Leave a WalkFormal x r i = cc
 exit_report Leave a StartFormal x r i = cc
@@ -87,7 +91,8 @@ exit_report (Unlock v) a o x r i = absurd a
 exit_report Copy a o x r i = absurd a
 exit_report Disable a o x r i = absurd a
 
-exit_global : (e : Event) → IsExit e → (g : Interrupts) (r : Report) → global_report e false g ≡ Some r → global_report e true g ≡ Some r
+exit_global : (e : Event) → IsExit e → (g : Interrupts) (r : Report) → global_report e false g ≡ Some r
+    → global_report e true g ≡ Some r
 exit_global Leave a g r i = cc
 exit_global (Lock v) a g r i = absurd a
 exit_global (Unlock v) a g r i = absurd a
@@ -178,7 +183,8 @@ out_local SecondHelp WalkLocal d = cc
 out_local SecondHelp StartFormal d = cc
 out_local SecondHelp HelpFormal d = cc
 
-kept_at : (e : Event) → IsExit e → (s : CallSite) (o a : Variable) → out_of s o ≡ Some a → (x : Option LockState) → choice e false a x ≡ x
+kept_at : (e : Event) → IsExit e → (s : CallSite) (o a : Variable) → out_of s o ≡ Some a → (x : Option LockState)
+    → choice e false a x ≡ x
 kept_at Leave i s o WalkFormal d x = refl
 kept_at Leave i s o StartFormal d x = refl
 kept_at Leave i s o HelpFormal d x = refl
@@ -200,7 +206,8 @@ own_of_root Start (HasObject o None) r u = refl
 own_of_root Start (HasObject o (Some x)) r u = absurd u
 own_of_root Help t r u = absurd r
 
-pub root_of_own : (f : Function) (g : Interrupts) (t : Fact locks) → is_own f g t ≡ true → IsRoot f × (g ≡ Enabled) × IsUnknown locks t
+pub root_of_own : (f : Function) (g : Interrupts) (t : Fact locks) → is_own f g t ≡ true
+    → IsRoot f × (g ≡ Enabled) × IsUnknown locks t
 root_of_own Walk Enabled NoObject d = (tt, refl, tt)
 root_of_own Walk Enabled (HasObject o None) d = (tt, refl, tt)
 root_of_own Walk Enabled (HasObject o (Some x)) d = cc

@@ -1,4 +1,5 @@
--- The rules of the checker, on whole maps: a lock that is held mustn't be taken again nor be held at the end of a frame, and interrupts mustn't be off at the end of a root.
+-- The rules of the checker, on whole maps: a lock that is held mustn't be taken again nor be held at the end of a
+-- frame, and interrupts mustn't be off at the end of a root.
 -- At the end of a called frame only its local is asked.
 use Rattle.std.specs.Prelude.{◌≡◌, Bool, true, false, Option, Some, None, if◌then◌else◌}
 use Rattle.path_examples.specs.declared.checker.Variable.{Variable}

@@ -1,4 +1,5 @@
--- The least log of entries of the instance, and its reports; and a path of it as a flat list, from whose end a report is computed.
+-- The least log of entries of the instance, and its reports; and a path of it as a flat list, from whose end a report
+-- is computed.
 use Rattle.path_examples.specs.declared.checker.Variable.TheVariants.{WalkFormal, WalkLocal}
 use Rattle.path_examples.specs.declared.checker.Event.TheVariants.{Lock, Unlock, Copy, Disable, Leave}
 use Rattle.path_examples.specs.declared.checker.Report.{Report}
@@ -23,6 +24,10 @@ IsShown kinds r = Shown locks lock_origins followed graphs kinds (among locks gr
 abbrev pub into_second : Actions locks
 into_second = More (More (More Start (Did (Lock WalkFormal))) (Did Copy)) (Called WalkAgain Walk)
 
--- and back from it, where it took the other branch
+-- through the second frame on the other branch
+abbrev pub in_second : Actions locks
+in_second = More (More (More (More into_second (Did (Lock WalkFormal))) (Did Copy)) (Did Disable)) (Did (Unlock WalkLocal))
+
+-- and back from it
 abbrev pub back_from_second : Actions locks
-back_from_second = More (More (More (More (More (More into_second (Did (Lock WalkFormal))) (Did Copy)) (Did Disable)) (Did (Unlock WalkLocal))) (Did Leave)) (Returned WalkAgain)
+back_from_second = More (More in_second (Did Leave)) (Returned WalkAgain)

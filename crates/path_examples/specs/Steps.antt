@@ -24,15 +24,22 @@ Edge = PathEdge locks program lock_origins followed
 
 -- on each path a frame that waits at this call site goes on at the head of this block
 abbrev pub ReturnsTo : CallSite → Block → Type 0
-ReturnsTo s d = (h f : Function) (k l : Bool) (r q : Spot) (b : Callers locks program) → Path locks program h l r (Waiting f k s q b) → q ≡ Head d
+ReturnsTo s d = (h f : Function) (k l : Bool) (r q : Spot) (b : Callers locks program)
+    → Path locks program h l r (Waiting f k s q b) → q ≡ Head d
 
--- a tuple at a call of the site stands, with that tuple, behind it
+-- a tuple at a call of the site stands, as that tuple, behind it
 abbrev pub GoesBehind : CallSite → Interrupts → Fact locks → Interrupts → Fact locks → Type 0
-GoesBehind s g t i u = (f : Function) (k : Bool) (g₀ : Interrupts) (t₀ : Fact locks) (p q : Spot) → Edge f k g₀ t₀ p g t → program.Calls f p s (callee_of s) q → Edge f k g₀ t₀ q i u
+GoesBehind s g t i u = (f : Function) (k : Bool) (g₀ : Interrupts) (t₀ : Fact locks) (p q : Spot)
+    → Edge f k g₀ t₀ p g t → program.Calls f p s (callee_of s) q
+    → Edge f k g₀ t₀ q i u
 
--- a fact at the end of a callee, whatever went in, stands as that fact behind the call
+-- a tuple at the end of a callee, whatever went in, stands as that tuple behind the call
 abbrev pub HandsBack : CallSite → Interrupts → Fact locks → Interrupts → Fact locks → Type 0
-HandsBack s g v i w = (f : Function) (k : Bool) (g₀ h : Interrupts) (t₀ t u : Fact locks) (p q r : Spot) → Edge f k g₀ t₀ p h t → program.Calls f p s (callee_of s) q → CallFlow locks lock_origins followed s (callee_of s) t u → Edge (callee_of s) false h u r g v → program.Ends (callee_of s) r → Edge f k g₀ t₀ q i w
+HandsBack s g v i w = (f : Function) (k : Bool) (g₀ h : Interrupts) (t₀ t u : Fact locks) (p q r : Spot)
+    → Edge f k g₀ t₀ p h t → program.Calls f p s (callee_of s) q
+    → CallFlow locks lock_origins followed s (callee_of s) t u
+    → Edge (callee_of s) false h u r g v → program.Ends (callee_of s) r
+    → Edge f k g₀ t₀ q i w
 
 -- the callee, entered with that global state, ends with this one, if one is given
 abbrev pub EndsWith : CallSite → Interrupts → Option Interrupts → Type 0

@@ -128,25 +128,7 @@ mod tests {
     use crate::log::{log_is_exact, reports_by_computation};
 
     #[test]
-    fn each_step_is_right_at_a_call_of_the_program(rt: HostRuntime) {
-        log_is_exact();
-        reports_by_computation();
-        assert_eq!(rt;
-            block_behind(CallSite::FirstHelp),
-            Block::Between,
-            "behind the first call"
-        );
-
-        let unknown = Tuple {
-            interrupts: Interrupts::Enabled,
-            variable: Variable::WalkLocal,
-            state: None,
-        };
-        assert!(rt;
-            around_call(CallSite::WalkAgain, unknown, None).is_none(),
-            "a call that never returns"
-        );
-
+    fn calls_go_on_where_and_as_the_callee_ends(rt: HostRuntime) {
         let saved = Tuple {
             interrupts: Interrupts::Enabled,
             variable: Variable::WalkLocal,
@@ -154,43 +136,46 @@ mod tests {
         };
         let behind = Tuple {
             interrupts: Interrupts::Disabled,
-            variable: Variable::WalkLocal,
-            state: Some(LockState::Locked),
+            ..saved
         };
+        let formal = Tuple {
+            variable: Variable::HelpFormal,
+            ..behind
+        };
+        let actual = Tuple {
+            variable: Variable::StartFormal,
+            ..behind
+        };
+
+        let never = around_call(CallSite::WalkAgain, saved, None);
+        assert!(rt; never.is_none(), "a call that never returns");
         let around = around_call(CallSite::WalkAgain, saved, Some(Interrupts::Disabled));
         assert_eq!(rt;
             around,
             Some(behind),
             "the callee's global state beside the saved lock"
         );
+        let back = handed_back(CallSite::SecondHelp, formal);
+        assert_eq!(rt; back, Some(actual), "the actual has the formal's state");
+        let place = block_behind(CallSite::FirstHelp);
+        assert_eq!(rt; place, Block::Between, "behind the first call");
+    }
 
-        let locked = Tuple {
-            interrupts: Interrupts::Disabled,
-            variable: Variable::HelpFormal,
-            state: Some(LockState::Locked),
+    #[test]
+    fn kinds_of_frame_are_told_apart(rt: HostRuntime) {
+        log_is_exact();
+        reports_by_computation();
+        let unknown = Tuple {
+            interrupts: Interrupts::Enabled,
+            variable: Variable::WalkLocal,
+            state: None,
         };
-        let back = Tuple {
-            interrupts: Interrupts::Disabled,
-            variable: Variable::StartFormal,
-            state: Some(LockState::Locked),
-        };
-        assert_eq!(rt;
-            handed_back(CallSite::SecondHelp, locked),
-            Some(back),
-            "a formal is handed back"
-        );
-
-        assert!(rt;
-            begins_own_frame(Function::Walk, unknown),
-            "a root that also calls itself"
-        );
-        assert!(rt;
-            still_locked(false, Variable::WalkLocal, Some(LockState::Locked)),
-            "a local in a called frame"
-        );
-        assert!(rt;
-            !still_locked(false, Variable::HelpFormal, Some(LockState::Locked)),
-            "a formal in a called frame"
-        );
+        let own = begins_own_frame(Function::Walk, unknown);
+        assert!(rt; own, "a root that calls itself too");
+        let held = Some(LockState::Locked);
+        let local = still_locked(false, Variable::WalkLocal, held);
+        assert!(rt; local, "a local in a called frame");
+        let formal = still_locked(false, Variable::HelpFormal, held);
+        assert!(rt; !formal, "a formal in a called frame");
     }
 }

@@ -1,4 +1,5 @@
--- What the traces of a flow graph meet stands in its blocks: each event is one of a block's, and each followed call is at a block's end.
+-- What the traces of a flow graph meet stands in its blocks: each event is one of a block's, and each followed call is
+-- at a block's end.
 -- So a set of objects is closed where it is closed under the events and calls of the blocks.
 use Rattle.std.proofs.Common.{◌≡◌, List, [], ◌∷◌, ◌⊎◌, inl, inr, refl}
 use Rattle.path_theory.specs.Model.{Model}
@@ -25,10 +26,12 @@ module _ (M : Model) (G : FlowGraphs M) where
   left_skip _ _ (EntersBlock b) = λ e i. i
   left_skip _ _ (LeavesBlock n) = tt
 
-  left_go : {f : M.Fn} (p : Point G.Block M.Event) (e : M.Event) (q : Point G.Block M.Event) → PointGoes M G f p e q → IsLeft f p → IsLeft f q
+  left_go : {f : M.Fn} (p : Point G.Block M.Event) (e : M.Event) (q : Point G.Block M.Event) → PointGoes M G f p e q
+      → IsLeft f p → IsLeft f q
   left_go _ _ _ (PassesEvent b e es) h = λ d i. h d (inr i)
 
-  left_call : {f h : M.Fn} (p : Point G.Block M.Event) (s : M.Site) (q : Point G.Block M.Event) → PointCalls M G f p s h q → IsLeft f q
+  left_call : {f h : M.Fn} (p : Point G.Block M.Event) (s : M.Site) (q : Point G.Block M.Event)
+      → PointCalls M G f p s h q → IsLeft f q
   left_call _ _ _ (MakesCall j) = tt
 
   left : {f : M.Fn} {l : Labels M} {p : Point G.Block M.Event} → Walk M (supergraph M G) f l p → IsLeft f p
@@ -37,16 +40,20 @@ module _ (M : Model) (G : FlowGraphs M) where
   left (WalkGo W e t) = left_go _ _ _ t (left W)
   left (WalkCall W s h t) = left_call _ _ _ t
 
-  event_here : {f : M.Fn} (p : Point G.Block M.Event) (e : M.Event) (q : Point G.Block M.Event) → PointGoes M G f p e q → IsLeft f p → (b : G.Block) × IsIn e (G.events f b)
+  event_here : {f : M.Fn} (p : Point G.Block M.Event) (e : M.Event) (q : Point G.Block M.Event)
+      → PointGoes M G f p e q → IsLeft f p → (b : G.Block) × IsIn e (G.events f b)
   event_here _ _ _ (PassesEvent b e es) h = (b, h e (inl refl))
 
   -- an event of a trace is an event of a block
-  pub event_in_block : {f : M.Fn} {e : M.Event} → EventOf M (supergraph M G) f e → (b : G.Block) × IsIn e (G.events f b)
+  pub event_in_block : {f : M.Fn} {e : M.Event} → EventOf M (supergraph M G) f e
+      → (b : G.Block) × IsIn e (G.events f b)
   event_in_block w = event_here _ _ _ w.goes (left w.walk)
 
-  call_here : {f h : M.Fn} (p : Point G.Block M.Event) (s : M.Site) (q : Point G.Block M.Event) → PointCalls M G f p s h q → (b : G.Block) × (c : G.Block) × G.Call f b s h c
+  call_here : {f h : M.Fn} (p : Point G.Block M.Event) (s : M.Site) (q : Point G.Block M.Event)
+      → PointCalls M G f p s h q → (b : G.Block) × (c : G.Block) × G.Call f b s h c
   call_here _ _ _ (MakesCall {b = b} {c = c} j) = (b, c, j)
 
   -- a call of a trace is one at the end of a block
-  pub call_in_block : {f h : M.Fn} {s : M.Site} → CallOf M (supergraph M G) f s h → (b : G.Block) × (c : G.Block) × G.Call f b s h c
+  pub call_in_block : {f h : M.Fn} {s : M.Site} → CallOf M (supergraph M G) f s h
+      → (b : G.Block) × (c : G.Block) × G.Call f b s h c
   call_in_block w = call_here _ _ _ w.calls

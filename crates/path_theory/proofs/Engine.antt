@@ -1,4 +1,5 @@
--- An engine whose log is the least set of entries has exactly the reports of all paths, and exactly the realised tuples.
+-- An engine whose log is the least set of entries has exactly the reports of all paths, and exactly the realised
+-- tuples.
 -- Nothing is asked of its log but the three parts of `IsLeastLog`, and no path stands in them.
 use Rattle.std.proofs.Common.{refl, subst, ◌↔◌}
 use Rattle.path_theory.specs.Model.{Model}
@@ -15,7 +16,8 @@ use Rattle.path_theory.proofs.Merged.{InSome, merged_entries, merged_reports}
 
 module _ (M : Model) (L : Origins M) (A : Objects M) (G : FlowGraphs M) (C : Kinds M G) where
   -- a log with the base, from which nothing else follows, is saturated
-  pub leads_among : (X : Entry M G → Type 0) → ((e : Entry M G) → Base M L A G C e → X e) → ((a b c : Entry M G) → X a → X b → Step M L A G C a b c → X c) → Leads M L A G C (among M G X) (among M G X)
+  pub leads_among : (X : Entry M G → Type 0) → ((e : Entry M G) → Base M L A G C e → X e)
+      → ((a b c : Entry M G) → X a → X b → Step M L A G C a b c → X c) → Leads M L A G C (among M G X) (among M G X)
   leads_among X h k = record {
     root = λ r a. h _ (BaseRoot r a);
     next = λ x c n. k _ _ _ x x (StepNext _ _ _ _ _ c n);
@@ -47,12 +49,14 @@ module _ (M : Model) (L : Origins M) (A : Objects M) (G : FlowGraphs M) (C : Kin
     least_fits (OfStep x y s) = step_fits (least_fits x) (least_fits y) s
 
     module _ (X : Entry M G → Type 0) (log : IsLeastLog M L A G C X) where
-      all_fit : (f : M.Fn) (g₀ : M.Global) (t₀ : Fact M) (b : G.Block) (g : M.Global) (t : Fact M) → among M G X f g₀ t₀ b g t → MergedEdge M L A G C f g₀ t₀ b g t
+      all_fit : (f : M.Fn) (g₀ : M.Global) (t₀ : Fact M) (b : G.Block) (g : M.Global) (t : Fact M)
+          → among M G X f g₀ t₀ b g t → MergedEdge M L A G C f g₀ t₀ b g t
       unfolding Fits
       all_fit f g₀ t₀ b g t x = least_fits (log.only _ x)
 
       -- the log has the tuples that are realised, in a frame of either kind
-      pub engine_entries : (f : M.Fn) (g₀ : M.Global) (t₀ : Fact M) (b : G.Block) (g : M.Global) (t : Fact M) → among M G X f g₀ t₀ b g t ↔ (InSome M L G f g₀ t₀ b g t × IsFollowed M A f t)
+      pub engine_entries : (f : M.Fn) (g₀ : M.Global) (t₀ : Fact M) (b : G.Block) (g : M.Global) (t : Fact M)
+          → among M G X f g₀ t₀ b g t ↔ (InSome M L G f g₀ t₀ b g t × IsFollowed M A f t)
       engine_entries = merged_entries M L A G C E N I Q (among M G X) (leads_among X log.base log.closed) all_fit
 
       -- and its reports are those of all paths

@@ -19,24 +19,28 @@ use Rattle.path_theory.proofs.Assembly.{parts, assembled}
 
 module _ (M : Model) (K : Supergraph M) (L : Origins M) (I : IsLocal M L) (A : Objects M) where
   -- each path edge is on a path
-  pub realised : {f : M.Fn} {k : Bool} {g₀ g : M.Global} {t₀ t : Fact M} {p : K.Place} → PathEdge M K L A f k g₀ t₀ p g t → Realised M K L f k g₀ t₀ p g t
+  pub realised : {f : M.Fn} {k : Bool} {g₀ g : M.Global} {t₀ t : Fact M} {p : K.Place}
+      → PathEdge M K L A f k g₀ t₀ p g t → Realised M K L f k g₀ t₀ p g t
   realised {k = k} D =
       let w = parts M K L A D in
       let b = begun M K L I A w.begins in
       let v = fits M K L I A w.edge in
       record { below = b.below; opened = b.opened; run = v.run; entry = b.global; global = ap (run_global M K v.run k) b.global ∙ v.global; tracked = at_frame M K L I A b v }
 
-  moved_to : {f : M.Fn} {k : Bool} {g h i j : M.Global} {t u v w : Fact M} {p : K.Place} → PathEdge M K L A f k g t p i v → g ≡ h → t ≡ u → i ≡ j → v ≡ w → PathEdge M K L A f k h u p j w
+  moved_to : {f : M.Fn} {k : Bool} {g h i j : M.Global} {t u v w : Fact M} {p : K.Place}
+      → PathEdge M K L A f k g t p i v → g ≡ h → t ≡ u → i ≡ j → v ≡ w → PathEdge M K L A f k h u p j w
   moved_to {f = f} {k = k} {g = g} {h = h} {i = i} {j = j} {t = t} {u = u} {v = v} {w = w} {p = p} D a b c d =
       subst (λ y. PathEdge M K L A f k h u p j y) d (subst (λ y. PathEdge M K L A f k h u p y v) c (subst (λ y. PathEdge M K L A f k h y p i v) b (subst (λ y. PathEdge M K L A f k y t p i v) a D)))
 
   module _ (Q : IsClosed M K L A) where
     -- an object to which a followed one leads is followed
-    followed_gives : {f : M.Fn} {e : M.Event} (o : M.Obj) (z : Option M.Obj) {t : Fact M} {x : Option M.State} → EventOf M K f e → L.source e o ≡ z → Gives z t x → IfNoObject t (A f o) → IsFollowed M A f t → A f o
+    followed_gives : {f : M.Fn} {e : M.Event} (o : M.Obj) (z : Option M.Obj) {t : Fact M} {x : Option M.State}
+        → EventOf M K f e → L.source e o ≡ z → Gives z t x → IfNoObject t (A f o) → IsFollowed M A f t → A f o
     followed_gives o _ v d GivesNone a i = a
     followed_gives o _ v d (GivesState {o = b}) a i = Q.source_on o b v d i
 
-    followed_move : {f : M.Fn} {k : Bool} {e : M.Event} {g : M.Global} {t u : Fact M} → EventOf M K f e → EventFlow M L A f k e g t u → IsFollowed M A f t → IsFollowed M A f u
+    followed_move : {f : M.Fn} {k : Bool} {e : M.Event} {g : M.Global} {t u : Fact M} → EventOf M K f e
+        → EventFlow M L A f k e g t u → IsFollowed M A f t → IsFollowed M A f u
     followed_move v EventNone i = tt
     followed_move {e = e} v (EventObject o x a w) i = followed_gives o (L.source e o) v refl w a i
 
@@ -44,7 +48,8 @@ module _ (M : Model) (K : Supergraph M) (L : Origins M) (I : IsLocal M L) (A : O
     followed_return ReturnNone = tt
     followed_return (ReturnObject o c x a d) = a
 
-    followed_edge : {f : M.Fn} {k : Bool} {g₀ g : M.Global} {t₀ t : Fact M} {p : K.Place} {n : ℕ} → FrameEdge M K L A f k g₀ t₀ p g t n → IsFollowed M A f t
+    followed_edge : {f : M.Fn} {k : Bool} {g₀ g : M.Global} {t₀ t : Fact M} {p : K.Place} {n : ℕ}
+        → FrameEdge M K L A f k g₀ t₀ p g t n → IsFollowed M A f t
     followed_edge (AtEntryIn a) = a
     followed_edge (AlongSkipIn D t) = followed_edge D
     followed_edge (AlongEventIn D e t a) = followed_move (event_of M K (fits M K L I A D).run e t) a (followed_edge D)
@@ -52,11 +57,13 @@ module _ (M : Model) (K : Supergraph M) (L : Origins M) (I : IsLocal M L) (A : O
     followed_edge (AroundCallIn D s t C e d) = followed_edge D
 
     -- the object of a path edge is followed
-    pub followed : {f : M.Fn} {k : Bool} {g₀ g : M.Global} {t₀ t : Fact M} {p : K.Place} → PathEdge M K L A f k g₀ t₀ p g t → IsFollowed M A f t
+    pub followed : {f : M.Fn} {k : Bool} {g₀ g : M.Global} {t₀ t : Fact M} {p : K.Place}
+        → PathEdge M K L A f k g₀ t₀ p g t → IsFollowed M A f t
     followed D = followed_edge (parts M K L A D).edge
 
     -- each tuple on a path is that of a path edge
-    pub path_edge : {f : M.Fn} {k : Bool} {g₀ g : M.Global} {t₀ : Fact M} (t : Fact M) {p : K.Place} → Realised M K L f k g₀ t₀ p g t → IsFollowed M A f t → PathEdge M K L A f k g₀ t₀ p g t
+    pub path_edge : {f : M.Fn} {k : Bool} {g₀ g : M.Global} {t₀ : Fact M} (t : Fact M) {p : K.Place}
+        → Realised M K L f k g₀ t₀ p g t → IsFollowed M A f t → PathEdge M K L A f k g₀ t₀ p g t
     path_edge NoObject w a =
         moved_to (assembled M K L A (begun_by M K L I A Q w.opened).bare (costed M K L I A Q w.run _ _ (at_entry M K w.opened).here).bare) w.entry (sym w.tracked) w.global refl
     path_edge (HasObject o x) w a =
@@ -64,5 +71,6 @@ module _ (M : Model) (K : Supergraph M) (L : Origins M) (I : IsLocal M L) (A : O
         moved_to (assembled M K L A (begins_fact M K L I A Q w.opened b _ (λ z d. origin_in M K L I A Q w.run o z d a)) ((costed M K L I A Q w.run _ _ (at_entry M K w.opened).here).object o a)) w.entry (sym w.tracked.1) w.global (ap (HasObject o) w.tracked.0)
 
     -- the path edges are exactly what is realised, of the objects that are followed
-    pub entries : (f : M.Fn) (k : Bool) (g₀ : M.Global) (t₀ : Fact M) (p : K.Place) (g : M.Global) (t : Fact M) → PathEdge M K L A f k g₀ t₀ p g t ↔ (Realised M K L f k g₀ t₀ p g t × IsFollowed M A f t)
+    pub entries : (f : M.Fn) (k : Bool) (g₀ : M.Global) (t₀ : Fact M) (p : K.Place) (g : M.Global) (t : Fact M)
+        → PathEdge M K L A f k g₀ t₀ p g t ↔ (Realised M K L f k g₀ t₀ p g t × IsFollowed M A f t)
     entries f k g₀ t₀ p g t = ((λ D. (realised D, followed D)), (λ w. path_edge t w.0 w.1))

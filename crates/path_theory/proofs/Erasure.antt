@@ -1,4 +1,5 @@
--- Bodies with the same marked traces are supergraphs with the same traces under every checker, whichever calls it follows.
+-- Bodies with the same marked traces are supergraphs with the same traces under every checker, whichever calls it
+-- follows.
 -- So a flow graph is built once for all checkers.
 use Rattle.std.proofs.Common.{◌≡◌, Option, Some, None, refl, ◌∙◌, ap, subst}
 use Rattle.path_theory.specs.Model.{Model}
@@ -11,11 +12,13 @@ module _ (M : Model) (IsRoot : M.Fn → Type 0) (followed : M.Fn → M.Site → 
   abbrev N : Bodies M → Supergraph M
   N = under M IsRoot followed
 
-  call_walk : (B : Bodies M) {f : M.Fn} {l : Labels M} {p q : B.Place} (s : M.Site) (z : Option M.Fn) → followed f s ≡ z → B.Marks f p s q → Walk M (N B) f l p → Walk M (N B) f (with_mark M IsRoot followed z s l) q
+  call_walk : (B : Bodies M) {f : M.Fn} {l : Labels M} {p q : B.Place} (s : M.Site) (z : Option M.Fn)
+      → followed f s ≡ z → B.Marks f p s q → Walk M (N B) f l p → Walk M (N B) f (with_mark M IsRoot followed z s l) q
   call_walk B s None d t W = WalkSkip W (PassesCall s t d)
   call_walk B s (Some h) d t W = WalkCall W s h (t, d)
 
-  erased : (B : Bodies M) {f : M.Fn} {m : Marked M} {q : B.Place} → MarkedWalk M B f m q → Walk M (N B) f (erase M IsRoot followed f m) q
+  erased : (B : Bodies M) {f : M.Fn} {m : Marked M} {q : B.Place} → MarkedWalk M B f m q
+      → Walk M (N B) f (erase M IsRoot followed f m) q
   erased B MarkedStart = WalkStart
   erased B (MarkedSkip W t) = WalkSkip (erased B W) (PassesSkip t)
   erased B (MarkedGo W e t) = WalkGo (erased B W) e t
@@ -26,7 +29,8 @@ module _ (M : Model) (IsRoot : M.Fn → Type 0) (followed : M.Fn → M.Site → 
     walk : MarkedWalk M B f marked q
     same : erase M IsRoot followed f marked ≡ l
 
-  un_skip : (B : Bodies M) {f : M.Fn} {l : Labels M} {p q : B.Place} → Passes M IsRoot followed B f p q → Unerased B f l p → Unerased B f l q
+  un_skip : (B : Bodies M) {f : M.Fn} {l : Labels M} {p q : B.Place} → Passes M IsRoot followed B f p q
+      → Unerased B f l p → Unerased B f l q
   un_skip B (PassesSkip t) w = record { marked = w.marked; walk = MarkedSkip w.walk t; same = w.same }
   un_skip B {f = f} (PassesCall s t d) w = record { marked = More w.marked (CallMark s); walk = MarkedCall w.walk s t; same = ap (λ z. with_mark M IsRoot followed z s (erase M IsRoot followed f w.marked)) d ∙ w.same }
 

@@ -12,10 +12,12 @@ use Rattle.path_theory.proofs.SmallFacts.{start_more, more_init}
 more_did : {E S F : Type 0} {l m : Trail (Action E S F)} {a b : E} → More l (Did a) ≡ More m (Did b) → a ≡ b
 more_did d = cc
 
-called_did : {E S F B : Type 0} {l m : Trail (Action E S F)} {a : E} {s : S} {f : F} → More l (Called s f) ≡ More m (Did a) → B
+called_did : {E S F B : Type 0} {l m : Trail (Action E S F)} {a : E} {s : S} {f : F}
+    → More l (Called s f) ≡ More m (Did a) → B
 called_did d = cc
 
-returned_did : {E S F B : Type 0} {l m : Trail (Action E S F)} {a : E} {s : S} → More l (Returned s) ≡ More m (Did a) → B
+returned_did : {E S F B : Type 0} {l m : Trail (Action E S F)} {a : E} {s : S} → More l (Returned s) ≡ More m (Did a)
+    → B
 returned_did d = cc
 
 module _ (M : Model) (K : Supergraph M) where
@@ -27,7 +29,8 @@ module _ (M : Model) (K : Supergraph M) where
   state_of {b = b} f k n = record { global = n.global; top = record { fn = f; is_root = k; map = n.here }; below = frames b n.below }
 
   -- the state after a path is that of its list
-  pub folded : {f : M.Fn} {k : Bool} {p : K.Place} {b : Callers M K} (P : Path M K f k p b) → fold M (root_of M K P) (actions_of M K P) ≡ state_of f k (after M K P)
+  pub folded : {f : M.Fn} {k : Bool} {p : K.Place} {b : Callers M K} (P : Path M K f k p b)
+      → fold M (root_of M K P) (actions_of M K P) ≡ state_of f k (after M K P)
   folded (Begin r) = refl
   folded (Skip P t) = folded P
   folded (Go P e t) = ap (go M e) (folded P)
@@ -35,7 +38,9 @@ module _ (M : Model) (K : Supergraph M) where
   folded (Return s P t) = ap (λ n. back_to M s n.global n.top n.below) (folded P)
 
   -- Every prefix of a path is a path.
-  prefix_of : {f : M.Fn} {k : Bool} {p : K.Place} {b : Callers M K} (P : Path M K f k p b) {l : Actions M} {a : Action M.Event M.Site M.Fn} → actions_of M K P ≡ More l a → IsPath M K (root_of M K P) l
+  prefix_of : {f : M.Fn} {k : Bool} {p : K.Place} {b : Callers M K} (P : Path M K f k p b) {l : Actions M}
+      {a : Action M.Event M.Site M.Fn}
+      → actions_of M K P ≡ More l a → IsPath M K (root_of M K P) l
   prefix_of (Begin r) d = start_more d
   prefix_of (Skip P t) d = prefix_of P d
   prefix_of (Go P e t) d = record { fn = _; kind = _; place = _; below = _; path = P; root_is = refl; actions_are = more_init d }
@@ -57,7 +62,8 @@ module _ (M : Model) (K : Supergraph M) where
     root_is : root_of M K path ≡ root
     actions_are : actions_of M K path ≡ l
 
-  last_event : {f : M.Fn} {k : Bool} {p : K.Place} {b : Callers M K} (P : Path M K f k p b) {l : Actions M} {e : M.Event} → actions_of M K P ≡ More l (Did e) → LastEvent (root_of M K P) l e
+  last_event : {f : M.Fn} {k : Bool} {p : K.Place} {b : Callers M K} (P : Path M K f k p b) {l : Actions M} {e : M.Event}
+      → actions_of M K P ≡ More l (Did e) → LastEvent (root_of M K P) l e
   last_event (Begin r) d = start_more d
   last_event (Skip P t) d = last_event P d
   last_event (Go {f = f} {p = p} {q = q} P i t) d = record { fn = f; kind = _; place = p; to = q; below = _; path = P; goes = subst (λ y. K.Goes f p y q) (more_did d) t; root_is = refl; actions_are = more_init d }

@@ -1,4 +1,5 @@
--- Each frame edge is a run of its length, which fits wherever the frame begins with its entry tuple; and each beginning is that of open frames.
+-- Each frame edge is a run of its length, which fits wherever the frame begins with its entry tuple; and each
+-- beginning is that of open frames.
 use Rattle.std.proofs.Common.{◌≡◌, ℕ, suc, ◌+◌, arith, Bool, false, None, refl, sym, ◌∙◌, ap, subst}
 use Rattle.path_theory.specs.Model.{Model}
 use Rattle.path_theory.specs.Supergraph.{Supergraph}
@@ -25,25 +26,31 @@ module _ (M : Model) (K : Supergraph M) (L : Origins M) (I : IsLocal M L) (A : O
   Matches NoObject m = Unit {0}
   Matches (HasObject o x) m = m o ≡ x
 
-  here_match : (f : M.Fn) (g : M.Global) (m : Map M) (u : Fact M) → IsTracked M K L (Here {f = f}) false g m u u → Matches u m
+  here_match : (f : M.Fn) (g : M.Global) (m : Map M) (u : Fact M) → IsTracked M K L (Here {f = f}) false g m u u
+      → Matches u m
   here_match f g m NoObject w = tt
   here_match f g m (HasObject o x) w = w.0
 
-  here_tracked : (f : M.Fn) (k : Bool) (g : M.Global) (m : Map M) (t : Fact M) → Matches t m → IsTracked M K L (Here {f = f}) k g m t t
+  here_tracked : (f : M.Fn) (k : Bool) (g : M.Global) (m : Map M) (t : Fact M) → Matches t m
+      → IsTracked M K L (Here {f = f}) k g m t t
   here_tracked f k g m NoObject w = refl
   here_tracked f k g m (HasObject o x) w = (w, ap (HasObject o) (sym w))
 
   -- a run of this length, which fits wherever the frame begins
-  pub record Fits (f : M.Fn) (k : Bool) (g₀ : M.Global) (t₀ : Fact M) (p : K.Place) (g : M.Global) (t : Fact M) (n : ℕ) : Type 0 where
+  pub record Fits (f : M.Fn) (k : Bool) (g₀ : M.Global) (t₀ : Fact M) (p : K.Place) (g : M.Global) (t : Fact M)
+      (n : ℕ) : Type 0 where
     pub run : Run M K f p
     pub length : run_length M K run ≡ n
     pub global : run_global M K run k g₀ ≡ g
     pub tracked : (m : Map M) → Matches t₀ m → IsTracked M K L run k g₀ m t₀ t
 
-  flow_match : {f h : M.Fn} {p : K.Place} (R : Run M K f p) (s : M.Site) (k : Bool) (g : M.Global) (m : Map M) (t₀ : Fact M) {t : Fact M} (u : Fact M) → CallFlow M L A s h t u → IsTracked M K L R k g m t₀ t → Matches u (M.entered s (run_map M K R k g m))
+  flow_match : {f h : M.Fn} {p : K.Place} (R : Run M K f p) (s : M.Site) (k : Bool) (g : M.Global) (m : Map M)
+      (t₀ : Fact M) {t : Fact M} (u : Fact M)
+      → CallFlow M L A s h t u → IsTracked M K L R k g m t₀ t → Matches u (M.entered s (run_map M K R k g m))
   flow_match {h = h} R s k g m t₀ u a w = here_match h g (M.entered s (run_map M K R k g m)) u (tracked_call M K L I A R s k g g m t₀ a w)
 
-  pub fits : {f : M.Fn} {k : Bool} {g₀ g : M.Global} {t₀ t : Fact M} {p : K.Place} {n : ℕ} → FrameEdge M K L A f k g₀ t₀ p g t n → Fits f k g₀ t₀ p g t n
+  pub fits : {f : M.Fn} {k : Bool} {g₀ g : M.Global} {t₀ t : Fact M} {p : K.Place} {n : ℕ}
+      → FrameEdge M K L A f k g₀ t₀ p g t n → Fits f k g₀ t₀ p g t n
   fits (AtEntryIn {f = f} {k = k} {g = g} {t = t} a) = record { run = Here; length = refl; global = refl; tracked = λ m w. here_tracked f k g m t w }
   fits (AlongSkipIn D t) = let w = fits D in record { run = Skipped w.run t; length = w.length; global = w.global; tracked = λ m a. tracked_skip M K L I A w.run t _ _ m _ _ (w.tracked m a) }
   fits (AlongEventIn {f = f} {k = k} {g₀ = g₀} {g = g} {t₀ = t₀} D e t a) =
@@ -81,10 +88,13 @@ module _ (M : Model) (K : Supergraph M) (L : Origins M) (I : IsLocal M L) (A : O
   root_match (StartsUnknown o a) = refl
 
   -- the run's facts at the frame's own global state
-  pub at_frame : {f : M.Fn} {k : Bool} {g₀ g : M.Global} {t₀ t : Fact M} {p : K.Place} {m n : ℕ} (b : IsBegun f k g₀ t₀ m) (w : Fits f k g₀ t₀ p g t n) → IsTracked M K L w.run k (at_entry M K b.opened).global (at_entry M K b.opened).here t₀ t
+  pub at_frame : {f : M.Fn} {k : Bool} {g₀ g : M.Global} {t₀ t : Fact M} {p : K.Place} {m n : ℕ}
+      (b : IsBegun f k g₀ t₀ m) (w : Fits f k g₀ t₀ p g t n)
+      → IsTracked M K L w.run k (at_entry M K b.opened).global (at_entry M K b.opened).here t₀ t
   at_frame {k = k} {t₀ = t₀} {t = t} b w = subst (λ y. IsTracked M K L w.run k y (at_entry M K b.opened).here t₀ t) (sym b.global) (w.tracked (at_entry M K b.opened).here b.matches)
 
-  pub begun : {f : M.Fn} {k : Bool} {g₀ : M.Global} {t₀ : Fact M} {n : ℕ} → Begins M K L A f k g₀ t₀ n → IsBegun f k g₀ t₀ n
+  pub begun : {f : M.Fn} {k : Bool} {g₀ : M.Global} {t₀ : Fact M} {n : ℕ} → Begins M K L A f k g₀ t₀ n
+      → IsBegun f k g₀ t₀ n
   begun (BeginsRoot r a) = record { below = NoCaller; opened = RootFrame r; length = refl; global = refl; matches = root_match a }
   begun (BeginsCall {h = h} {k = k} {t₀ = t₀} {u = u} B C s t a) =
       let b = begun B in

@@ -10,7 +10,8 @@ use Rattle.path_theory.proofs.SmallFacts.{then_same, handed_same}
 
 module _ (M : Model) (K : Supergraph M) (L : Origins M) (I : IsLocal M L) where
   -- the state of an object after a run depends on that of its origin alone
-  pub independent : {f : M.Fn} {p : K.Place} (R : Run M K f p) (k : Bool) (g : M.Global) (m n : Map M) (o : M.Obj) → ((b : M.Obj) → origin M K L R o ≡ Some b → m b ≡ n b) → run_map M K R k g m o ≡ run_map M K R k g n o
+  pub independent : {f : M.Fn} {p : K.Place} (R : Run M K f p) (k : Bool) (g : M.Global) (m n : Map M) (o : M.Obj)
+      → ((b : M.Obj) → origin M K L R o ≡ Some b → m b ≡ n b) → run_map M K R k g m o ≡ run_map M K R k g n o
   independent Here k g m n o h = h o refl
   independent (Skipped R t) k g m n o h = independent R k g m n o h
   independent (Gone {f = f} R e t) k g m n o h =

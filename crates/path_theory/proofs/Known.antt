@@ -1,4 +1,5 @@
--- Each object that has a known state on a path, or takes a rule there, is among those that are followed; and so is each from which such an object has its state.
+-- Each object that has a known state on a path, or takes a rule there, is among those that are followed; and so is
+-- each from which such an object has its state.
 use Rattle.std.proofs.Common.{◌≡◌, Bool, false, Option, Some, None, refl, sym, ◌∙◌, subst, inl, inr}
 use Rattle.path_theory.specs.Model.{Model}
 use Rattle.path_theory.specs.Supergraph.{Supergraph}
@@ -25,7 +26,9 @@ module _ (M : Model) (K : Supergraph M) where
   call_of R s t = record { labels = labels_of M K R; from = _; to = _; walk = walk_of R; calls = t }
 
   -- the map of the callee at its end
-  abbrev pub in_callee : {f h : M.Fn} {p r : K.Place} (R : Run M K f p) (s : M.Site) (C : Run M K h r) (k : Bool) (g : M.Global) (m : Map M) → Map M
+  abbrev pub in_callee : {f h : M.Fn} {p r : K.Place} (R : Run M K f p) (s : M.Site) (C : Run M K h r) (k : Bool)
+      (g : M.Global) (m : Map M)
+      → Map M
   in_callee R s C k g m = run_map M K C false (run_global M K R k g) (M.entered s (run_map M K R k g m))
 
 module _ (M : Model) (K : Supergraph M) (L : Origins M) (I : IsLocal M L) (A : Objects M) (Q : IsClosed M K L A) where
@@ -50,19 +53,24 @@ module _ (M : Model) (K : Supergraph M) (L : Origins M) (I : IsLocal M L) (A : O
   abbrev pub Known : M.Fn → Map M → Type 0
   Known f m = (o : M.Obj) (x : M.State) → m o ≡ Some x → A f o
 
-  chosen_in : {f : M.Fn} {p q : K.Place} (R : Run M K f p) (e : M.Event) (t : K.Goes f p e q) (k : Bool) (g : M.Global) (m : Map M) → Known f m → (o : M.Obj) (x : M.State) (y : Option M.State) → M.moved e m o ≡ y → M.choose e f k g o y ≡ Some x → A f o
+  chosen_in : {f : M.Fn} {p q : K.Place} (R : Run M K f p) (e : M.Event) (t : K.Goes f p e q) (k : Bool)
+      (g : M.Global) (m : Map M)
+      → Known f m → (o : M.Obj) (x : M.State) (y : Option M.State) → M.moved e m o ≡ y → M.choose e f k g o y ≡ Some x
+      → A f o
   chosen_in R e t k g m h o x None d i = Q.binds k g o x (event_of M K R e t) i
   chosen_in R e t k g m h o x (Some y) d i =
       let w = then_known (L.source e o) m y (sym (I.moved e m o) ∙ d) in
       Q.source_on o w.0 (event_of M K R e t) w.1 (h w.0 y w.2)
 
-  pub known_entered : {f h : M.Fn} {p q : K.Place} (R : Run M K f p) (s : M.Site) (t : K.Calls f p s h q) (m : Map M) → Known f m → Known h (M.entered s m)
+  pub known_entered : {f h : M.Fn} {p q : K.Place} (R : Run M K f p) (s : M.Site) (t : K.Calls f p s h q) (m : Map M)
+      → Known f m → Known h (M.entered s m)
   known_entered R s t m a o x d =
       let w = then_known (L.into s o) m x (sym (I.entered s m o) ∙ d) in
       Q.into_on o w.0 (call_of M K R s t) w.1 (a w.0 x w.2)
 
   -- each object that has a known state behind a run is followed
-  pub known_run : {f : M.Fn} {p : K.Place} (R : Run M K f p) (k : Bool) (g : M.Global) (m : Map M) → Known f m → Known f (run_map M K R k g m)
+  pub known_run : {f : M.Fn} {p : K.Place} (R : Run M K f p) (k : Bool) (g : M.Global) (m : Map M) → Known f m
+      → Known f (run_map M K R k g m)
   known_run Here k g m h o x d = h o x d
   known_run (Skipped R t) k g m h o x d = known_run R k g m h o x d
   known_run (Gone R e t) k g m h o x d = chosen_in R e t k (run_global M K R k g) (run_map M K R k g m) (known_run R k g m h) o x (M.moved e (run_map M K R k g m) o) refl d
@@ -73,7 +81,10 @@ module _ (M : Model) (K : Supergraph M) (L : Origins M) (I : IsLocal M L) (A : O
       ]
 
   -- an object that takes a rule is followed
-  pub taken : {f : M.Fn} {p q : K.Place} (R : Run M K f p) (e : M.Event) (t : K.Goes f p e q) (k : Bool) (g : M.Global) (m : Map M) → Known f m → (o : M.Obj) (y : Option M.State) → M.moved e m o ≡ y → (r : M.Report) → M.Fires e f k g o y r → A f o
+  pub taken : {f : M.Fn} {p q : K.Place} (R : Run M K f p) (e : M.Event) (t : K.Goes f p e q) (k : Bool)
+      (g : M.Global) (m : Map M)
+      → Known f m → (o : M.Obj) (y : Option M.State) → M.moved e m o ≡ y → (r : M.Report) → M.Fires e f k g o y r
+      → A f o
   taken R e t k g m h o None d r i = Q.fires k g o r (event_of M K R e t) i
   taken R e t k g m h o (Some y) d r i =
       let w = then_known (L.source e o) m y (sym (I.moved e m o) ∙ d) in

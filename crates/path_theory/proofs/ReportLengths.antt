@@ -1,4 +1,5 @@
--- The reports of path edges with lengths are those of paths of these lengths: so a shortest path is a least sum of lengths.
+-- The reports of path edges with lengths are those of paths of these lengths: so a shortest path is a least sum of
+-- lengths.
 use Rattle.std.proofs.Common.{◌≡◌, ℕ, suc, ◌+◌, arith, Some, refl, sym, ◌∙◌, ap, subst, ◌↔◌}
 use Rattle.path_theory.specs.Model.{Model}
 use Rattle.path_theory.specs.Supergraph.{Supergraph}

@@ -17,20 +17,24 @@ pub none_known : {S B : Type 0} (x : S) → None ≡ Some x → B
 none_known x e = cc
 
 -- two maps that agree at an object, where there is one
-pub then_same : {A B : Type 0} (z : Option A) (m n : A → Option B) → ((a : A) → z ≡ Some a → m a ≡ n a) → and_then z m ≡ and_then z n
+pub then_same : {A B : Type 0} (z : Option A) (m n : A → Option B) → ((a : A) → z ≡ Some a → m a ≡ n a)
+    → and_then z m ≡ and_then z n
 then_same None m n h = refl
 then_same (Some a) m n h = h a refl
 
-pub handed_same : {A B : Type 0} (z : Option A) (m n : A → Option B) (a b : Option B) → ((c : A) → z ≡ Some c → m c ≡ n c) → (z ≡ None → a ≡ b) → handed z m a ≡ handed z n b
+pub handed_same : {A B : Type 0} (z : Option A) (m n : A → Option B) (a b : Option B)
+    → ((c : A) → z ≡ Some c → m c ≡ n c) → (z ≡ None → a ≡ b) → handed z m a ≡ handed z n b
 handed_same None m n a b h i = i refl
 handed_same (Some c) m n a b h i = h c refl
 
 -- a known state behind a choice of object
-pub then_known : {O S : Type 0} (z : Option O) (m : O → Option S) (x : S) → and_then z m ≡ Some x → (o : O) × (z ≡ Some o) × (m o ≡ Some x)
+pub then_known : {O S : Type 0} (z : Option O) (m : O → Option S) (x : S) → and_then z m ≡ Some x
+    → (o : O) × (z ≡ Some o) × (m o ≡ Some x)
 then_known None m x e = cc
 then_known (Some o) m x e = (o, refl, e)
 
-pub handed_known : {O S : Type 0} (z : Option O) (m : O → Option S) (y : Option S) (x : S) → handed z m y ≡ Some x → ((o : O) × (z ≡ Some o) × (m o ≡ Some x)) ⊎ (y ≡ Some x)
+pub handed_known : {O S : Type 0} (z : Option O) (m : O → Option S) (y : Option S) (x : S) → handed z m y ≡ Some x
+    → ((o : O) × (z ≡ Some o) × (m o ≡ Some x)) ⊎ (y ≡ Some x)
 handed_known None m y x e = inr e
 handed_known (Some o) m y x e = inl (o, refl, e)
 
@@ -38,7 +42,8 @@ pub no_object_object : {O S B : Type 0} (o : O) (x : Option S) → HasObject o x
 no_object_object o x e = cc
 
 -- the object whose fact it is
-pub fact_of_some : {O S : Type 0} (z : Option O) (m : O → Option S) (o : O) (x : Option S) → HasObject o x ≡ fact_of z m → (z ≡ Some o) × (x ≡ m o)
+pub fact_of_some : {O S : Type 0} (z : Option O) (m : O → Option S) (o : O) (x : Option S)
+    → HasObject o x ≡ fact_of z m → (z ≡ Some o) × (x ≡ m o)
 fact_of_some None m o x e = cc
 fact_of_some (Some a) m o x e = let d : o ≡ a = cc in (ap Some (sym d), (let v : x ≡ m a = cc in v ∙ ap m (sym d)))
 
@@ -46,7 +51,8 @@ pub fact_of_none : {O S : Type 0} (z : Option O) (m : O → Option S) → NoObje
 fact_of_none None m e = refl
 fact_of_none (Some a) m e = cc
 
-pub fact_of_same : {O S : Type 0} (z : Option O) (m n : O → Option S) → ((b : O) → z ≡ Some b → m b ≡ n b) → fact_of z m ≡ fact_of z n
+pub fact_of_same : {O S : Type 0} (z : Option O) (m n : O → Option S) → ((b : O) → z ≡ Some b → m b ≡ n b)
+    → fact_of z m ≡ fact_of z n
 fact_of_same None m n h = refl
 fact_of_same (Some o) m n h = ap (HasObject o) (h o refl)
 

@@ -1,4 +1,5 @@
--- A flat path is the run of its last frame, closed calls among its steps, on the frames below; and each run on open frames is a path.
+-- A flat path is the run of its last frame, closed calls among its steps, on the frames below; and each run on open
+-- frames is a path.
 -- Both ways the state and the length stay. The case of a return closes the callee's run into one step of the caller's.
 use Rattle.std.proofs.Common.{◌≡◌, ℕ, suc, ◌+◌, arith, Bool, false, refl, ◌∙◌, ap}
 use Rattle.path_theory.specs.Model.{Model}
@@ -34,13 +35,16 @@ module _ (M : Model) (K : Supergraph M) where
     pub length : path_length M K P ≡ frames_length M K opened + run_length M K run
 
   -- the frame that a return comes to
-  record Back {f h : M.Fn} {k l : Bool} {q r : K.Place} {b : Callers M K} {s : M.Site} (O : OpenFrames M K h l (Waiting f k s q b)) (C : Run M K h r) : Type 0 where
+  record Back {f h : M.Fn} {k l : Bool} {q r : K.Place} {b : Callers M K} {s : M.Site}
+      (O : OpenFrames M K h l (Waiting f k s q b)) (C : Run M K h r) : Type 0 where
     opened : OpenFrames M K f k b
     run : Run M K f q
     state : after_return M K s (now_after M K C l (at_entry M K O)) ≡ now_after M K run k (at_entry M K opened)
     length : suc (frames_length M K O + run_length M K C) ≡ frames_length M K opened + run_length M K run
 
-  back : {f h : M.Fn} {k l : Bool} {q r : K.Place} {b : Callers M K} {s : M.Site} (O : OpenFrames M K h l (Waiting f k s q b)) (C : Run M K h r) → K.Ends h r → Back O C
+  back : {f h : M.Fn} {k l : Bool} {q r : K.Place} {b : Callers M K} {s : M.Site}
+      (O : OpenFrames M K h l (Waiting f k s q b)) (C : Run M K h r)
+      → K.Ends h r → Back O C
   back (CalledFrame O R s h t) C e = record { opened = O; run = Closed R s t C e; state = refl; length = sums (frames_length M K O) (run_length M K R) (run_length M K C) }
 
   -- each path splits
@@ -61,7 +65,8 @@ module _ (M : Model) (K : Supergraph M) where
     pub length : path_length M K path ≡ l
 
   -- a run behind a path
-  run_on : {f : M.Fn} {k : Bool} {p : K.Place} {b : Callers M K} (P : Path M K f k (K.entry f) b) (R : Run M K f p) → Flat f k p (now_after M K R k (after M K P)) (path_length M K P + run_length M K R)
+  run_on : {f : M.Fn} {k : Bool} {p : K.Place} {b : Callers M K} (P : Path M K f k (K.entry f) b) (R : Run M K f p)
+      → Flat f k p (now_after M K R k (after M K P)) (path_length M K P + run_length M K R)
   run_on P Here = record { path = P; state = refl; length = plus_zero (path_length M K P) }
   run_on P (Skipped R t) = let w = run_on P R in record { path = Skip w.path t; state = w.state; length = w.length }
   run_on {f = f} {k = k} P (Gone R e t) = let w = run_on P R in record { path = Go w.path e t; state = ap (after_go M K e f k) w.state; length = ap suc w.length ∙ plus_suc (path_length M K P) (run_length M K R) }
@@ -74,7 +79,8 @@ module _ (M : Model) (K : Supergraph M) where
         length = ap suc v.length ∙ closing (path_length M K P) (run_length M K R) (run_length M K C) w.length;
       }
 
-  to_entry : {f : M.Fn} {k : Bool} {b : Callers M K} (O : OpenFrames M K f k b) → Flat f k (K.entry f) (at_entry M K O) (frames_length M K O)
+  to_entry : {f : M.Fn} {k : Bool} {b : Callers M K} (O : OpenFrames M K f k b)
+      → Flat f k (K.entry f) (at_entry M K O) (frames_length M K O)
   to_entry (RootFrame r) = record { path = Begin r; state = refl; length = refl }
   to_entry (CalledFrame {f = f} {k = k} {q = q} O R s h t) =
       let w = to_entry O in
@@ -82,7 +88,8 @@ module _ (M : Model) (K : Supergraph M) where
       record { path = Call v.path s h t; state = ap (after_call M K f k q s) (v.state ∙ ap (now_after M K R k) w.state); length = ap suc (v.length ∙ ap (λ n. n + run_length M K R) w.length) }
 
   -- open frames and a run of the last one make a path
-  pub flat : {f : M.Fn} {k : Bool} {p : K.Place} {b : Callers M K} (O : OpenFrames M K f k b) (R : Run M K f p) → Flat f k p (now_after M K R k (at_entry M K O)) (frames_length M K O + run_length M K R)
+  pub flat : {f : M.Fn} {k : Bool} {p : K.Place} {b : Callers M K} (O : OpenFrames M K f k b) (R : Run M K f p)
+      → Flat f k p (now_after M K R k (at_entry M K O)) (frames_length M K O + run_length M K R)
   flat {k = k} O R =
       let w = to_entry O in
       let v = run_on w.path R in

@@ -24,10 +24,14 @@ module _ (M : Model) (K₁ K₂ : Supergraph M) (H : HasTraces M K₁ K₂) wher
     pub here : (at_entry M K₂ opened).here ≡ (at_entry M K₁ O).here
 
   -- the state behind a run on open frames, on both supergraphs
-  both_global : {f : M.Fn} {k : Bool} {p : K₁.Place} {b : Callers M K₁} (O : OpenFrames M K₁ f k b) (R : Run M K₁ f p) {q : K₂.Place} (w : TwinFrames O) (v : Twin M K₁ K₂ H R q) → run_global M K₂ v.run k (at_entry M K₂ w.opened).global ≡ run_global M K₁ R k (at_entry M K₁ O).global
+  both_global : {f : M.Fn} {k : Bool} {p : K₁.Place} {b : Callers M K₁} (O : OpenFrames M K₁ f k b) (R : Run M K₁ f p)
+      {q : K₂.Place} (w : TwinFrames O) (v : Twin M K₁ K₂ H R q)
+      → run_global M K₂ v.run k (at_entry M K₂ w.opened).global ≡ run_global M K₁ R k (at_entry M K₁ O).global
   both_global {k = k} O R w v = v.global k (at_entry M K₂ w.opened).global ∙ ap (run_global M K₁ R k) w.global
 
-  both_map : {f : M.Fn} {k : Bool} {p : K₁.Place} {b : Callers M K₁} (O : OpenFrames M K₁ f k b) (R : Run M K₁ f p) {q : K₂.Place} (w : TwinFrames O) (v : Twin M K₁ K₂ H R q) → run_map M K₂ v.run k (at_entry M K₂ w.opened).global (at_entry M K₂ w.opened).here ≡ run_map M K₁ R k (at_entry M K₁ O).global (at_entry M K₁ O).here
+  both_map : {f : M.Fn} {k : Bool} {p : K₁.Place} {b : Callers M K₁} (O : OpenFrames M K₁ f k b) (R : Run M K₁ f p)
+      {q : K₂.Place} (w : TwinFrames O) (v : Twin M K₁ K₂ H R q)
+      → run_map M K₂ v.run k (at_entry M K₂ w.opened).global (at_entry M K₂ w.opened).here ≡ run_map M K₁ R k (at_entry M K₁ O).global (at_entry M K₁ O).here
   both_map {k = k} O R w v = v.map k (at_entry M K₂ w.opened).global (at_entry M K₂ w.opened).here
       ∙ ap (λ g. run_map M K₁ R k g (at_entry M K₂ w.opened).here) w.global
       ∙ ap (run_map M K₁ R k (at_entry M K₁ O).global) w.here
@@ -73,15 +77,21 @@ module _ (M : Model) (K₁ K₂ : Supergraph M) (H : HasTraces M K₁ K₂) wher
       (subst (λ n. M.FiresGlobal e f k n.global r) s.state i)))
 
   module _ (L : Origins M) where
-    tracked_on : {f : M.Fn} {k : Bool} {p : K₁.Place} {b : Callers M K₁} (O : OpenFrames M K₁ f k b) (R : Run M K₁ f p) {q : K₂.Place} (w : TwinFrames O) (v : Twin M K₁ K₂ H R q) (t₀ t : Fact M) → IsTracked M K₁ L R k (at_entry M K₁ O).global (at_entry M K₁ O).here t₀ t → IsTracked M K₂ L v.run k (at_entry M K₂ w.opened).global (at_entry M K₂ w.opened).here t₀ t
+    tracked_on : {f : M.Fn} {k : Bool} {p : K₁.Place} {b : Callers M K₁} (O : OpenFrames M K₁ f k b)
+        (R : Run M K₁ f p) {q : K₂.Place} (w : TwinFrames O) (v : Twin M K₁ K₂ H R q) (t₀ t : Fact M)
+        → IsTracked M K₁ L R k (at_entry M K₁ O).global (at_entry M K₁ O).here t₀ t
+        → IsTracked M K₂ L v.run k (at_entry M K₂ w.opened).global (at_entry M K₂ w.opened).here t₀ t
     tracked_on O R w v t₀ NoObject a = a
     tracked_on O R w v t₀ (HasObject o x) a = (
       ap (λ (m : Map M). m o) (both_map O R w v) ∙ a.0,
       a.1 ∙ ap (fact_of (origin M K₁ L R o)) (sym w.here) ∙ ap (λ z. fact_of z (at_entry M K₂ w.opened).here) (sym (v.origins L o)),
     )
 
-    -- what is realised by the traces of the first supergraph is so at each place of the second to which a walk with the last frame's trace leads
-    pub realised_on : {f : M.Fn} {k : Bool} {g₀ g : M.Global} {t₀ t : Fact M} {p : K₁.Place} {q : K₂.Place} (w : Realised M K₁ L f k g₀ t₀ p g t) → Walk M K₂ f (labels_of M K₁ w.run) q → Realised M K₂ L f k g₀ t₀ q g t
+    -- what is realised by the traces of the first supergraph is so at each place of the second to which a walk with
+    -- the last frame's trace leads
+    pub realised_on : {f : M.Fn} {k : Bool} {g₀ g : M.Global} {t₀ t : Fact M} {p : K₁.Place} {q : K₂.Place}
+        (w : Realised M K₁ L f k g₀ t₀ p g t)
+        → Walk M K₂ f (labels_of M K₁ w.run) q → Realised M K₂ L f k g₀ t₀ q g t
     realised_on {t₀ = t₀} {t = t} {q = q} w W =
         let v = twin M K₁ K₂ H w.run q W in
         let F = twin_frames w.opened in
@@ -95,12 +105,14 @@ module _ (M : Model) (K₁ K₂ : Supergraph M) (H : HasTraces M K₁ K₂) wher
         }
 
     -- by a path of the first and a walk on the second
-    pub by_traces : {f : M.Fn} {k : Bool} {g₀ g : M.Global} {t₀ t : Fact M} {q : K₂.Place} → RealisedByTraces M K₁ K₂ L f k g₀ t₀ q g t → Realised M K₂ L f k g₀ t₀ q g t
+    pub by_traces : {f : M.Fn} {k : Bool} {g₀ g : M.Global} {t₀ t : Fact M} {q : K₂.Place}
+        → RealisedByTraces M K₁ K₂ L f k g₀ t₀ q g t → Realised M K₂ L f k g₀ t₀ q g t
     by_traces w = realised_on w.realised w.walk
 
 -- and the other way round
 module _ (M : Model) (K₁ K₂ : Supergraph M) (H : HasTraces M K₁ K₂) (J : HasTraces M K₂ K₁) (L : Origins M) where
-  pub to_traces : {f : M.Fn} {k : Bool} {g₀ g : M.Global} {t₀ t : Fact M} {q : K₂.Place} → Realised M K₂ L f k g₀ t₀ q g t → RealisedByTraces M K₁ K₂ L f k g₀ t₀ q g t
+  pub to_traces : {f : M.Fn} {k : Bool} {g₀ g : M.Global} {t₀ t : Fact M} {q : K₂.Place}
+      → Realised M K₂ L f k g₀ t₀ q g t → RealisedByTraces M K₁ K₂ L f k g₀ t₀ q g t
   unfolding realised_on
   to_traces {f = f} {q = q} w =
       let W = walk_of M K₂ w.run in

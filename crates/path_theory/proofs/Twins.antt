@@ -1,4 +1,5 @@
--- The run of a frame on a second supergraph that has the traces of the first: the same run for each walk with its trace.
+-- The run of a frame on a second supergraph that has the traces of the first: the same run for each walk with its
+-- trace.
 -- Closed calls are found again by the whole traces of their callees.
 use Rattle.std.proofs.Common.{◌≡◌, Bool, false, refl, sym, ◌∙◌, ap, subst}
 use Rattle.path_theory.specs.Model.{Model}
@@ -14,13 +15,16 @@ use Rattle.path_theory.proofs.SmallFacts.{start_more, more_init, then_same, hand
 more_does : {E S F : Type 0} {l m : Trail (Label E S F)} {a b : E} → More l (AtEvent a) ≡ More m (AtEvent b) → a ≡ b
 more_does d = cc
 
-more_site : {E S F : Type 0} {l m : Trail (Label E S F)} {a b : S} {f g : F} → More l (AtCall a f) ≡ More m (AtCall b g) → a ≡ b
+more_site : {E S F : Type 0} {l m : Trail (Label E S F)} {a b : S} {f g : F}
+    → More l (AtCall a f) ≡ More m (AtCall b g) → a ≡ b
 more_site d = cc
 
-more_callee : {E S F : Type 0} {l m : Trail (Label E S F)} {a b : S} {f g : F} → More l (AtCall a f) ≡ More m (AtCall b g) → f ≡ g
+more_callee : {E S F : Type 0} {l m : Trail (Label E S F)} {a b : S} {f g : F}
+    → More l (AtCall a f) ≡ More m (AtCall b g) → f ≡ g
 more_callee d = cc
 
-does_calls : {E S F B : Type 0} {l m : Trail (Label E S F)} {a : E} {b : S} {f : F} → More l (AtEvent a) ≡ More m (AtCall b f) → B
+does_calls : {E S F B : Type 0} {l m : Trail (Label E S F)} {a : E} {b : S} {f : F}
+    → More l (AtEvent a) ≡ More m (AtCall b f) → B
 does_calls d = cc
 
 module _ (M : Model) (K₁ K₂ : Supergraph M) (H : HasTraces M K₁ K₂) where
@@ -41,7 +45,9 @@ module _ (M : Model) (K₁ K₂ : Supergraph M) (H : HasTraces M K₁ K₂) wher
   twin_here (WalkGo W e t) d = start_more (sym d)
   twin_here (WalkCall W s h t) d = start_more (sym d)
 
-  twin_go : {f : M.Fn} {p r : K₁.Place} (R : Run M K₁ f p) (e : M.Event) (t : K₁.Goes f p e r) → ((q : K₂.Place) → Walk M K₂ f (labels_of M K₁ R) q → Twin R q) → {l : Labels M} {q : K₂.Place} → Walk M K₂ f l q → l ≡ More (labels_of M K₁ R) (AtEvent e) → Twin (Gone R e t) q
+  twin_go : {f : M.Fn} {p r : K₁.Place} (R : Run M K₁ f p) (e : M.Event) (t : K₁.Goes f p e r)
+      → ((q : K₂.Place) → Walk M K₂ f (labels_of M K₁ R) q → Twin R q) → {l : Labels M} {q : K₂.Place} → Walk M K₂ f l q
+      → l ≡ More (labels_of M K₁ R) (AtEvent e) → Twin (Gone R e t) q
   twin_go R e t h WalkStart d = start_more d
   twin_go R e t h (WalkSkip W j) d = twin_skip (twin_go R e t h W d) j
   twin_go {f = f} R e t h (WalkGo {p = p} {q = q} W i j) d =
@@ -61,7 +67,10 @@ module _ (M : Model) (K₁ K₂ : Supergraph M) (H : HasTraces M K₁ K₂) wher
     pub twin : Twin C place
     pub ends : K₂.Ends h place
 
-  twin_closed : {f h : M.Fn} {p q r : K₁.Place} (R : Run M K₁ f p) (s : M.Site) (t : K₁.Calls f p s h q) (C : Run M K₁ h r) (e : K₁.Ends h r) → ((q : K₂.Place) → Walk M K₂ f (labels_of M K₁ R) q → Twin R q) → TwinCall C → {l : Labels M} {q : K₂.Place} → Walk M K₂ f l q → l ≡ More (labels_of M K₁ R) (AtCall s h) → Twin (Closed R s t C e) q
+  twin_closed : {f h : M.Fn} {p q r : K₁.Place} (R : Run M K₁ f p) (s : M.Site) (t : K₁.Calls f p s h q)
+      (C : Run M K₁ h r) (e : K₁.Ends h r)
+      → ((q : K₂.Place) → Walk M K₂ f (labels_of M K₁ R) q → Twin R q) → TwinCall C → {l : Labels M} {q : K₂.Place}
+      → Walk M K₂ f l q → l ≡ More (labels_of M K₁ R) (AtCall s h) → Twin (Closed R s t C e) q
   twin_closed R s t C e i c WalkStart d = start_more d
   twin_closed R s t C e i c (WalkSkip W j) d = twin_skip (twin_closed R s t C e i c W d) j
   twin_closed R s t C e i c (WalkGo W a j) d = does_calls d
@@ -99,7 +108,8 @@ module _ (M : Model) (K₂ : Supergraph M) where
     pub walk : Walk M K₂ f l from
     pub goes : K₂.Goes f from e to
 
-  pub last_go : {f : M.Fn} {l m : Labels M} {e : M.Event} {q : K₂.Place} → Walk M K₂ f l q → l ≡ More m (AtEvent e) → LastGo f m e
+  pub last_go : {f : M.Fn} {l m : Labels M} {e : M.Event} {q : K₂.Place} → Walk M K₂ f l q → l ≡ More m (AtEvent e)
+      → LastGo f m e
   last_go WalkStart d = start_more d
   last_go (WalkSkip W t) d = last_go W d
   last_go {f = f} (WalkGo {p = p} {q = q} W e t) d = record { from = p; to = q; walk = subst (λ l. Walk M K₂ f l p) (more_init d) W; goes = subst (λ e. K₂.Goes f p e q) (more_does d) t }
@@ -111,7 +121,8 @@ module _ (M : Model) (K₂ : Supergraph M) where
     pub walk : Walk M K₂ f l from
     pub calls : K₂.Calls f from s h to
 
-  pub last_call : {f h : M.Fn} {l m : Labels M} {s : M.Site} {q : K₂.Place} → Walk M K₂ f l q → l ≡ More m (AtCall s h) → LastCall f m s h
+  pub last_call : {f h : M.Fn} {l m : Labels M} {s : M.Site} {q : K₂.Place} → Walk M K₂ f l q
+      → l ≡ More m (AtCall s h) → LastCall f m s h
   last_call WalkStart d = start_more d
   last_call (WalkSkip W t) d = last_call W d
   last_call (WalkGo W e t) d = does_calls d

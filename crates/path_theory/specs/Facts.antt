@@ -1,4 +1,5 @@
--- The facts of the exploded supergraph: no object, or one object with its state. Beside a global state a fact is a state tuple.
+-- The facts of the exploded supergraph: no object, or one object with its state. Beside a global state a fact is a
+-- state tuple.
 -- Two things are kept apart: no object at all, and an object whose state is unknown.
 use Rattle.std.specs.Prelude.{Option, Some, None}
 use Rattle.path_theory.specs.Model.{Model}

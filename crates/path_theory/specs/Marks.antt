@@ -1,4 +1,5 @@
--- The bodies of functions with a mark at each call, whichever calls a checker follows, and the supergraph of a checker that follows some.
+-- The bodies of functions with a mark at each call, whichever calls a checker follows, and the supergraph of a checker
+-- that follows some.
 -- Bodies with the same marked traces are the same program for every checker.
 use Rattle.std.specs.Prelude.{◌≡◌, Option, Some, None}
 use Rattle.path_theory.specs.Model.{Model}
@@ -25,13 +26,16 @@ module _ (M : Model) where
   pub data MarkedWalk (B : Bodies M) : M.Fn → Marked → B.Place → Type 0 where
     MarkedStart : {f : M.Fn} → MarkedWalk B f Start (B.entry f)
     MarkedSkip : {f : M.Fn} {l : Marked} {p q : B.Place} → MarkedWalk B f l p → B.Skips f p q → MarkedWalk B f l q
-    MarkedGo : {f : M.Fn} {l : Marked} {p q : B.Place} → MarkedWalk B f l p → (e : M.Event) → B.Goes f p e q → MarkedWalk B f (More l (EventMark e)) q
-    MarkedCall : {f : M.Fn} {l : Marked} {p q : B.Place} → MarkedWalk B f l p → (s : M.Site) → B.Marks f p s q → MarkedWalk B f (More l (CallMark s)) q
+    MarkedGo : {f : M.Fn} {l : Marked} {p q : B.Place} → MarkedWalk B f l p → (e : M.Event) → B.Goes f p e q
+        → MarkedWalk B f (More l (EventMark e)) q
+    MarkedCall : {f : M.Fn} {l : Marked} {p q : B.Place} → MarkedWalk B f l p → (s : M.Site) → B.Marks f p s q
+        → MarkedWalk B f (More l (CallMark s)) q
 
   -- the second bodies have the traces of the first
   pub record HasMarked (B₁ B₂ : Bodies M) : Type 0 where
     pub traces : (f : M.Fn) (l : Marked) (p : B₁.Place) → MarkedWalk B₁ f l p → (q : B₂.Place) × MarkedWalk B₂ f l q
-    pub whole : (f : M.Fn) (l : Marked) (p : B₁.Place) → MarkedWalk B₁ f l p → B₁.Ends f p → (q : B₂.Place) × MarkedWalk B₂ f l q × B₂.Ends f q
+    pub whole : (f : M.Fn) (l : Marked) (p : B₁.Place) → MarkedWalk B₁ f l p → B₁.Ends f p
+        → (q : B₂.Place) × MarkedWalk B₂ f l q × B₂.Ends f q
 
   module _ (IsRoot : M.Fn → Type 0) (followed : M.Fn → M.Site → Option M.Fn) where
     pub data Passes (B : Bodies M) (f : M.Fn) : B.Place → B.Place → Type 0 where

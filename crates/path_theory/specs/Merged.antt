@@ -1,4 +1,5 @@
--- Entries by function and entry tuple alone: a context that a root begins is followed in the root's own frame, and a called frame with the same entry tuple isn't followed apart.
+-- Entries by function and entry tuple alone: a context that a root begins is followed in the root's own frame, and a
+-- called frame with the same entry tuple isn't followed apart.
 -- So a return reads what stands at the head of the block that ends the frame, where both kinds of frame still agree.
 use Rattle.std.specs.Prelude.{◌≡◌, Bool, true, Option, Some, None}
 use Rattle.path_theory.specs.Model.{Model}
@@ -18,16 +19,24 @@ IsUnknown M (HasObject o (Some x)) = ⊥
 pub record Kinds (M : Model) (G : FlowGraphs M) : Type 0 where
   pub kind : M.Fn → M.Global → Fact M → Bool
   pub of_root : {f : M.Fn} (t : Fact M) → G.IsRoot f → IsUnknown M t → kind f M.start t ≡ true
-  pub is_root : {f : M.Fn} {g : M.Global} {t : Fact M} → kind f g t ≡ true → G.IsRoot f × (g ≡ M.start) × IsUnknown M t
+  pub is_root : {f : M.Fn} {g : M.Global} {t : Fact M} → kind f g t ≡ true
+      → G.IsRoot f × (g ≡ M.start) × IsUnknown M t
 
 module _ (M : Model) (L : Origins M) (A : Objects M) (G : FlowGraphs M) (C : Kinds M G) where
   -- what follows in one step from the entries Y is among the entries X
   pub record Leads (Y X : M.Fn → M.Global → Fact M → G.Block → M.Global → Fact M → Type 0) : Type 0 where
     pub root : {f : M.Fn} {t : Fact M} → G.IsRoot f → Starts M L A f t → X f M.start t (G.first f) M.start t
-    pub next : {f : M.Fn} {g₀ g i : M.Global} {t₀ t u : Fact M} {b c : G.Block} → Y f g₀ t₀ b g t → Crosses M L A f (C.kind f g₀ t₀) (G.events f b) g t i u → G.Next f b c → X f g₀ t₀ c i u
-    pub call : {f h : M.Fn} {g₀ g i : M.Global} {t₀ t u v : Fact M} {b c : G.Block} → Y f g₀ t₀ b g t → Crosses M L A f (C.kind f g₀ t₀) (G.events f b) g t i u → (s : M.Site) → G.Call f b s h c → CallFlow M L A s h u v → X h i v (G.first h) i v
-    pub return : {f h : M.Fn} {g₀ g i j : M.Global} {t₀ t u v w y : Fact M} {b c d : G.Block} → Y f g₀ t₀ b g t → Crosses M L A f (C.kind f g₀ t₀) (G.events f b) g t i u → (s : M.Site) → G.Call f b s h c → CallFlow M L A s h u v → Y h i v d j w → G.Ends h d → ReturnFlow M L A s f w y → X f g₀ t₀ c j y
-    pub saved : {f h : M.Fn} {g₀ g i j : M.Global} {t₀ t : Fact M} {o : M.Obj} {z : Option M.State} {b c d : G.Block} → Y f g₀ t₀ b g t → Crosses M L A f (C.kind f g₀ t₀) (G.events f b) g t i (HasObject o z) → (s : M.Site) → G.Call f b s h c → Y h i NoObject d j NoObject → G.Ends h d → L.out s o ≡ None → X f g₀ t₀ c j (HasObject o z)
+    pub next : {f : M.Fn} {g₀ g i : M.Global} {t₀ t u : Fact M} {b c : G.Block} → Y f g₀ t₀ b g t
+        → Crosses M L A f (C.kind f g₀ t₀) (G.events f b) g t i u → G.Next f b c → X f g₀ t₀ c i u
+    pub call : {f h : M.Fn} {g₀ g i : M.Global} {t₀ t u v : Fact M} {b c : G.Block} → Y f g₀ t₀ b g t
+        → Crosses M L A f (C.kind f g₀ t₀) (G.events f b) g t i u → (s : M.Site) → G.Call f b s h c
+        → CallFlow M L A s h u v → X h i v (G.first h) i v
+    pub return : {f h : M.Fn} {g₀ g i j : M.Global} {t₀ t u v w y : Fact M} {b c d : G.Block} → Y f g₀ t₀ b g t
+        → Crosses M L A f (C.kind f g₀ t₀) (G.events f b) g t i u → (s : M.Site) → G.Call f b s h c
+        → CallFlow M L A s h u v → Y h i v d j w → G.Ends h d → ReturnFlow M L A s f w y → X f g₀ t₀ c j y
+    pub saved : {f h : M.Fn} {g₀ g i j : M.Global} {t₀ t : Fact M} {o : M.Obj} {z : Option M.State} {b c d : G.Block}
+        → Y f g₀ t₀ b g t → Crosses M L A f (C.kind f g₀ t₀) (G.events f b) g t i (HasObject o z) → (s : M.Site)
+        → G.Call f b s h c → Y h i NoObject d j NoObject → G.Ends h d → L.out s o ≡ None → X f g₀ t₀ c j (HasObject o z)
 
   -- nothing follows from the entries that isn't among them
   abbrev pub IsSaturatedMerged : (M.Fn → M.Global → Fact M → G.Block → M.Global → Fact M → Type 0) → Type 0

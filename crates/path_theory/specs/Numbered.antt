@@ -1,11 +1,13 @@
--- Checkers and programs in which everything is named by numbers, each given by functions on them: a family of models over plain values.
--- A contract can speak of all of its members, so the theorems that are stated of these in the contracts hold of any tables.
+-- Checkers and programs in which everything is named by numbers, each given by functions on them: a family of models
+-- over plain values.
+-- A contract can speak of all of its members, so the theorems that are stated of these in the contracts hold of any
+-- tables.
 use Rattle.std.specs.Prelude.{◌≡◌, ℕ, Bool, false, IsTrue, Option, List}
 use Rattle.path_theory.specs.Model.{Model}
 use Rattle.path_theory.specs.Supergraph.{Supergraph}
 use Rattle.path_theory.specs.Origins.{Origins, and_then, handed}
 use Rattle.path_theory.specs.Facts.{Objects}
-use Rattle.path_theory.specs.FlowGraphs.{FlowGraphs}
+use Rattle.path_theory.specs.FlowGraphs.{FlowGraphs, supergraph}
 use Rattle.path_theory.specs.Marks.{Bodies}
 use Rattle.path_theory.specs.FrameEnds.{IgnoresKind, EndsQuietly, Exits}
 
@@ -89,6 +91,9 @@ graphs_of c p = record {
   Ends = λ f b. IsTrue (p.ends f b);
 }
 
+abbrev pub block_supergraph_of : (c : Checker) → BlockProgram → Supergraph (model c)
+block_supergraph_of c p = supergraph (model c) (graphs_of c p)
+
 abbrev pub bodies_of : (c : Checker) → BodyTable → Bodies (model c)
 bodies_of c b = record {
   Place = ℕ;
@@ -110,5 +115,6 @@ IsMarked x e = IsTrue (x e)
 abbrev pub IsUnmarked : (ℕ → Bool) → ℕ → Type 0
 IsUnmarked x e = x e ≡ false
 
-abbrev pub exits_of : (c : Checker) (x : ℕ → Bool) → IgnoresKind (model c) (IsUnmarked x) → EndsQuietly (model c) (origins_of c) (IsMarked x) → Exits (model c) (origins_of c)
+abbrev pub exits_of : (c : Checker) (x : ℕ → Bool) → IgnoresKind (model c) (IsUnmarked x)
+    → EndsQuietly (model c) (origins_of c) (IsMarked x) → Exits (model c) (origins_of c)
 exits_of c x same quiet = record { IsExit = IsMarked x; Stays = IsUnmarked x; same = same; quiet = quiet }

@@ -25,4 +25,5 @@ pub record Origins (M : Model) : Type 0 where
 pub record IsLocal (M : Model) (L : Origins M) : Type 0 where
   pub moved : (e : M.Event) (m : M.Obj → Option M.State) (o : M.Obj) → M.moved e m o ≡ and_then (L.source e o) m
   pub entered : (s : M.Site) (m : M.Obj → Option M.State) (o : M.Obj) → M.entered s m o ≡ and_then (L.into s o) m
-  pub returned : (s : M.Site) (c m : M.Obj → Option M.State) (o : M.Obj) → M.returned s c m o ≡ handed (L.out s o) c (m o)
+  pub returned : (s : M.Site) (c m : M.Obj → Option M.State) (o : M.Obj)
+      → M.returned s c m o ≡ handed (L.out s o) c (m o)

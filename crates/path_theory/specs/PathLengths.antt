@@ -29,5 +29,8 @@ module _ (M : Model) (K : Supergraph M) where
 
   -- a path of this length takes the report at its last event
   pub data ReportedIn (r : M.Report) : ℕ → Type 0 where
-    ReportOfIn : {f : M.Fn} {k : Bool} {p q : K.Place} {b : Callers M K} (P : Path M K f k p b) (e : M.Event) → K.Goes f p e q → (o : M.Obj) → M.Fires e f k (after M K P).global o (M.moved e (after M K P).here o) r → ReportedIn r (suc (path_length P))
-    ReportOfGlobalIn : {f : M.Fn} {k : Bool} {p q : K.Place} {b : Callers M K} (P : Path M K f k p b) (e : M.Event) → K.Goes f p e q → M.FiresGlobal e f k (after M K P).global r → ReportedIn r (suc (path_length P))
+    ReportOfIn : {f : M.Fn} {k : Bool} {p q : K.Place} {b : Callers M K} (P : Path M K f k p b) (e : M.Event)
+        → K.Goes f p e q → (o : M.Obj) → M.Fires e f k (after M K P).global o (M.moved e (after M K P).here o) r
+        → ReportedIn r (suc (path_length P))
+    ReportOfGlobalIn : {f : M.Fn} {k : Bool} {p q : K.Place} {b : Callers M K} (P : Path M K f k p b) (e : M.Event)
+        → K.Goes f p e q → M.FiresGlobal e f k (after M K P).global r → ReportedIn r (suc (path_length P))

@@ -1,5 +1,7 @@
--- Paths through a program from a root on, with matching calls and returns, and the state that a checker has at their ends.
--- The call sites that wait stand in the type of a path, so that a return can only come to the site that made the call. The fold keeps one whole map a frame.
+-- Paths through a program from a root on, with matching calls and returns, and the state that a checker has at their
+-- ends.
+-- The call sites that wait stand in the type of a path, so that a return can only come to the site that made the call.
+-- The fold keeps one whole map a frame.
 use Rattle.std.specs.Prelude.{Bool, true, false, Option, None}
 use Rattle.path_theory.specs.Model.{Model}
 use Rattle.path_theory.specs.Supergraph.{Supergraph}
@@ -22,9 +24,12 @@ module _ (M : Model) (K : Supergraph M) where
   pub data Path : M.Fn → Bool → K.Place → Callers → Type 0 where
     Begin : {f : M.Fn} → K.IsRoot f → Path f true (K.entry f) NoCaller
     Skip : {f : M.Fn} {k : Bool} {p q : K.Place} {b : Callers} → Path f k p b → K.Skips f p q → Path f k q b
-    Go : {f : M.Fn} {k : Bool} {p q : K.Place} {b : Callers} → Path f k p b → (e : M.Event) → K.Goes f p e q → Path f k q b
-    Call : {f : M.Fn} {k : Bool} {p q : K.Place} {b : Callers} → Path f k p b → (s : M.Site) → (h : M.Fn) → K.Calls f p s h q → Path h false (K.entry h) (Waiting f k s q b)
-    Return : {f h : M.Fn} {k l : Bool} {q r : K.Place} {b : Callers} (s : M.Site) → Path h l r (Waiting f k s q b) → K.Ends h r → Path f k q b
+    Go : {f : M.Fn} {k : Bool} {p q : K.Place} {b : Callers} → Path f k p b → (e : M.Event) → K.Goes f p e q
+        → Path f k q b
+    Call : {f : M.Fn} {k : Bool} {p q : K.Place} {b : Callers} → Path f k p b → (s : M.Site) → (h : M.Fn)
+        → K.Calls f p s h q → Path h false (K.entry h) (Waiting f k s q b)
+    Return : {f h : M.Fn} {k l : Bool} {q r : K.Place} {b : Callers} (s : M.Site) → Path h l r (Waiting f k s q b)
+        → K.Ends h r → Path f k q b
 
   -- a map for each frame below
   abbrev pub Maps : Callers → Type 0
@@ -40,10 +45,12 @@ module _ (M : Model) (K : Supergraph M) where
   abbrev pub after_go : {b : Callers} → M.Event → M.Fn → Bool → Now b → Now b
   after_go e f k n = record { global = M.next_global e f k n.global; here = stepped M e f k n.global n.here; below = n.below }
 
-  abbrev pub after_call : {b : Callers} (f : M.Fn) (k : Bool) (q : K.Place) (s : M.Site) → Now b → Now (Waiting f k s q b)
+  abbrev pub after_call : {b : Callers} (f : M.Fn) (k : Bool) (q : K.Place) (s : M.Site) → Now b
+      → Now (Waiting f k s q b)
   after_call f k q s n = record { global = n.global; here = M.entered s n.here; below = (n.here, n.below) }
 
-  abbrev pub after_return : {b : Callers} {f : M.Fn} {k : Bool} {q : K.Place} (s : M.Site) → Now (Waiting f k s q b) → Now b
+  abbrev pub after_return : {b : Callers} {f : M.Fn} {k : Bool} {q : K.Place} (s : M.Site) → Now (Waiting f k s q b)
+      → Now b
   after_return s n = record { global = n.global; here = M.returned s n.here n.below.0; below = n.below.1 }
 
   -- the state after a path
@@ -56,5 +63,7 @@ module _ (M : Model) (K : Supergraph M) where
 
   -- some path takes the report at its last event
   pub data Reported (r : M.Report) : Type 0 where
-    ReportOf : {f : M.Fn} {k : Bool} {p q : K.Place} {b : Callers} (P : Path f k p b) (e : M.Event) → K.Goes f p e q → (o : M.Obj) → M.Fires e f k (after P).global o (M.moved e (after P).here o) r → Reported r
-    ReportOfGlobal : {f : M.Fn} {k : Bool} {p q : K.Place} {b : Callers} (P : Path f k p b) (e : M.Event) → K.Goes f p e q → M.FiresGlobal e f k (after P).global r → Reported r
+    ReportOf : {f : M.Fn} {k : Bool} {p q : K.Place} {b : Callers} (P : Path f k p b) (e : M.Event) → K.Goes f p e q
+        → (o : M.Obj) → M.Fires e f k (after P).global o (M.moved e (after P).here o) r → Reported r
+    ReportOfGlobal : {f : M.Fn} {k : Bool} {p q : K.Place} {b : Callers} (P : Path f k p b) (e : M.Event)
+        → K.Goes f p e q → M.FiresGlobal e f k (after P).global r → Reported r

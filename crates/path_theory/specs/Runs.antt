@@ -1,5 +1,6 @@
 -- The run of one frame, in which a call that has returned is one step: a same-level path, as the literature says.
--- It says what a run does to the global state and to a map, and from which object at the frame's entry an object has its state.
+-- It says what a run does to the global state and to a map, and from which object at the frame's entry an object has
+-- its state.
 use Rattle.std.specs.Prelude.{Bool, false, Option, Some}
 use Rattle.path_theory.specs.Model.{Model}
 use Rattle.path_theory.specs.Supergraph.{Supergraph}
@@ -13,7 +14,8 @@ module _ (M : Model) (K : Supergraph M) where
     Here : {f : M.Fn} → Run f (K.entry f)
     Skipped : {f : M.Fn} {p q : K.Place} → Run f p → K.Skips f p q → Run f q
     Gone : {f : M.Fn} {p q : K.Place} → Run f p → (e : M.Event) → K.Goes f p e q → Run f q
-    Closed : {f h : M.Fn} {p q r : K.Place} → Run f p → (s : M.Site) → K.Calls f p s h q → Run h r → K.Ends h r → Run f q
+    Closed : {f h : M.Fn} {p q r : K.Place} → Run f p → (s : M.Site) → K.Calls f p s h q → Run h r → K.Ends h r
+        → Run f q
 
   -- the global state after it, by that before it
   abbrev pub run_global : {f : M.Fn} {p : K.Place} → Run f p → Bool → M.Global → M.Global
@@ -29,7 +31,8 @@ module _ (M : Model) (K : Supergraph M) where
   run_map (Gone {f = f} R e t) k g m = stepped M e f k (run_global R k g) (run_map R k g m)
   run_map (Closed R s t C e) k g m = M.returned s (run_map C false (run_global R k g) (M.entered s (run_map R k g m))) (run_map R k g m)
 
-  -- the object at the frame's entry from which an object has its state, none where it was made unknown in between by a move or a call; a choice cuts nothing
+  -- the object at the frame's entry from which an object has its state, none where it was made unknown in between by a
+  -- move or a call; a choice cuts nothing
   abbrev pub origin : Origins M → {f : M.Fn} {p : K.Place} → Run f p → M.Obj → Option M.Obj
   origin L Here o = Some o
   origin L (Skipped R t) o = origin L R o

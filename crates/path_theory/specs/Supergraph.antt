@@ -1,5 +1,7 @@
--- What one program does under a checker: its roots, and an interprocedural flow graph, which the literature calls a supergraph.
--- Its places need be neither finite nor blocks: the semantics of a program has continuations there, and a flow graph the points of its blocks.
+-- What one program does under a checker: its roots, and an interprocedural flow graph, which the literature calls a
+-- supergraph.
+-- Its places need be neither finite nor blocks: the semantics of a program has continuations there, and a flow graph
+-- the points of its blocks.
 use Rattle.path_theory.specs.Model.{Model}
 
 pub record Supergraph (M : Model) : Type 1 where

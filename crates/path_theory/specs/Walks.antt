@@ -1,5 +1,6 @@
 -- The traces of a function: what a walk from its entry meets, going over each call whether or not its callee ends.
--- Two supergraphs with the same traces are one program cut in two ways, as continuations and a flow graph built from them.
+-- Two supergraphs with the same traces are one program cut in two ways, as continuations and a flow graph built from
+-- them.
 use Rattle.path_theory.specs.Model.{Model}
 use Rattle.path_theory.specs.Supergraph.{Supergraph}
 use Rattle.path_theory.specs.Trails.{Trail, Start, More}
@@ -17,8 +18,10 @@ module _ (M : Model) where
     pub data Walk : M.Fn → Labels → K.Place → Type 0 where
       WalkStart : {f : M.Fn} → Walk f Start (K.entry f)
       WalkSkip : {f : M.Fn} {l : Labels} {p q : K.Place} → Walk f l p → K.Skips f p q → Walk f l q
-      WalkGo : {f : M.Fn} {l : Labels} {p q : K.Place} → Walk f l p → (e : M.Event) → K.Goes f p e q → Walk f (More l (AtEvent e)) q
-      WalkCall : {f : M.Fn} {l : Labels} {p q : K.Place} → Walk f l p → (s : M.Site) → (h : M.Fn) → K.Calls f p s h q → Walk f (More l (AtCall s h)) q
+      WalkGo : {f : M.Fn} {l : Labels} {p q : K.Place} → Walk f l p → (e : M.Event) → K.Goes f p e q
+          → Walk f (More l (AtEvent e)) q
+      WalkCall : {f : M.Fn} {l : Labels} {p q : K.Place} → Walk f l p → (s : M.Site) → (h : M.Fn) → K.Calls f p s h q
+          → Walk f (More l (AtCall s h)) q
 
     abbrev pub Trace : M.Fn → Labels → Type 0
     Trace f l = (p : K.Place) × Walk f l p

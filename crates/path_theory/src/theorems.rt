@@ -15,6 +15,7 @@ ghost use Rattle.path_theory.specs.Theorems.{
   SameMarksReportTheSame,
   ExactTableReports,
   OwnFramesStandForCalledOnes,
+  ContextsAreApart,
   UnchangedFramesStay,
 };
 
@@ -82,7 +83,9 @@ pub fn same_marks_are_one_program()
     ensures { SameMarksReportTheSame }
 {}
 
-/// What a frame comes to from its entry tuple stays where its function and all that it calls are unchanged.
+/// The path edges of a context are a matter of its frame alone, once some path begins it; and what a frame comes to from its
+/// entry tuple stays where its function and all that it calls are unchanged.
 pub fn unchanged_frames_stay()
-    ensures { UnchangedFramesStay }
+    ensures contexts { ContextsAreApart }
+    ensures frames { UnchangedFramesStay }
 {}

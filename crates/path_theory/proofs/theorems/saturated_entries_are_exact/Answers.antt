@@ -11,6 +11,6 @@ pub returns : goal.returns
 returns k c p a x exact closed r =
     let found = reports (model c) (supergraph (model c) (graphs_of c p)) (origins_of c) (numbered_local c) (objects_of c a) closed r in
     let errors = in_errors (model c) (supergraph (model c) (graphs_of c p)) r in (
-      (λ w. errors.1 (found.0 (found_of (model c) (origins_of c) (objects_of c a) (graphs_of c p) (IsEntry c p x) exact.edges r w))),
-      (λ w. given (model c) (origins_of c) (objects_of c a) (graphs_of c p) (IsEntry c p x) exact.saturated r (found.1 (errors.0 w))),
+      (λ w. errors.1 (found.0 (found_of (model c) (origins_of c) (objects_of c a) (graphs_of c p) (IsEntry c x) exact.edges r w))),
+      (λ w. given (model c) (origins_of c) (objects_of c a) (graphs_of c p) (IsEntry c x) exact.saturated r (found.1 (errors.0 w))),
     )
