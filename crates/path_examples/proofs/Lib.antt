@@ -1,0 +1,4 @@
+pub mod Laws
+pub mod Followed
+pub mod EngineSteps
+pub mod Computed

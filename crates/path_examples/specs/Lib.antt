@@ -1,0 +1,4 @@
+pub mod Checker
+pub mod Program
+pub mod Steps
+pub mod Log
