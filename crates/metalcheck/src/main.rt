@@ -11,8 +11,8 @@ mod program;
 mod refusal;
 mod small;
 mod status;
-
-
+#[cfg(test)]
+mod tests;
 mod words;
 mod write_out;
 

@@ -1,4 +1,4 @@
-use Rattle.std.proofs.Common.{◌≡◌, ◌∙◌, ap, subst, refl, List, [], ◌∷◌, ◌++◌, ℕ}
+use Rattle.std.proofs.Common.{◌≡◌, ◌-◌, ◌∙◌, ap, subst, refl, List, [], ◌∷◌, ◌++◌, ℕ}
 use Rattle.mx_io.specs.Reads.{Stands}
 use Rattle.metalcheck.specs.Stages.{IsChecked}
 use Rattle.metalcheck.proofs.Judging.{first_failed, first_faulty, second_failed, second_faulty, both_sound, judged}
@@ -12,7 +12,10 @@ returns-in-Err-NotRead-clause-ok g c =
 pub returns-in-Err-Faulty-clause-ok : goal.returns-in-Err-Faulty-clause-ok
 returns-in-Err-Faulty-clause-ok g c =
     let a = rw c.in-Err-Faulty.field-0-is at c.in-Err-Faulty.ensures.stopped in
-    (first_faulty (g.F.Files.contents c.args.files.now) c.args.checker.now c.args.source.now [] [] c.in-Err-Faulty.fault a.0 a.1 a.2, rw c.in-Err-Faulty.field-0-is at c.in-Err-Faulty.ensures.failed)
+    rw c.in-Err-Faulty.fault-is (
+      first_faulty (g.F.Files.contents c.args.files.now) c.args.checker.now c.args.source.now [] [] c.in-Err-Faulty.fault a.0 a.1 a.2,
+      rw c.in-Err-Faulty.field-0-is at c.in-Err-Faulty.ensures.failed,
+    )
 
 pub returns-in-Err-NotRead-check_source-clause-ok : goal.returns-in-Err-NotRead-check_source-clause-ok
 returns-in-Err-NotRead-check_source-clause-ok g c =
@@ -29,7 +32,7 @@ returns-in-Err-Faulty-check_source-clause-ok g c =
 pub returns-in-Ok-check_source-clause-ok : goal.returns-in-Ok-check_source-clause-ok
 returns-in-Ok-check_source-clause-ok g c =
     let told = g.F.Files.contents c.args.files.now in
-    let k = subst (λ t. IsChecked (t c.args.source.now) _ c.check_source.new.names c.args.source.now c.in-Ok.loaded.machine c.in-Ok-check_source.reports.items) c.load_checker.ensures.same c.in-Ok-check_source.ensures.ok in
+    let k = subst (λ t. IsChecked (t c.args.source.now) (33554432 - c.in-Ok.loaded.size) c.check_source.new.names c.args.source.now c.in-Ok.loaded.machine c.in-Ok-check_source.reports.items) c.load_checker.ensures.same c.in-Ok-check_source.ensures.ok in
     (
       c.in-Ok.ensures.ok.bytes ∷ k.bytes ∷ [],
       both_sound told c.args.checker.now c.args.source.now [] [] c.load_checker.new.names c.in-Ok.loaded.size c.in-Ok.loaded.machine c.in-Ok.ensures.ok c.check_source.new.names _ c.in-Ok-check_source.reports.items refl k,
