@@ -16,5 +16,6 @@ pub mod SmallSections
 pub mod SmallShapes
 pub mod SmallTrees
 pub mod Statements
+pub mod Statuses
 pub mod Taken
 pub mod Writing

@@ -1,9 +1,11 @@
 -- What a run does: it stops for want of memory before the first write, or carries out what it is due.
-use Rattle.std.specs.Prelude.{◌≡◌, ℕ, ◌⊎◌, List, Option}
+use Rattle.std.specs.Prelude.{◌≡◌, ℕ, ◌⊎◌, List, [], Option}
+use Rattle.path_model.specs.declared.report.Report.{Report}
+use Rattle.path_model.specs.Reports.{text_of}
 use Rattle.metalcheck.specs.declared.status.Status.{Status}
 use Rattle.metalcheck.specs.declared.status.Status.TheVariants.{NoMemory}
-use Rattle.metalcheck.specs.Due.{IsDue, FailedInTurn}
-use Rattle.metalcheck.specs.Written.{SinkStep, Written}
+use Rattle.metalcheck.specs.Due.{IsDue, FailedInTurn, IsAccepted, IsRefused, IsLacking}
+use Rattle.metalcheck.specs.Written.{SinkStep, Written, Took}
 
 abbrev pub sink_step : Option (List ℕ) → Option (List ℕ) → ℕ → ℕ → SinkStep
 sink_step before after faults_before faults_after = record { before = before; after = after; faults_before = faults_before; faults_after = faults_after }
@@ -29,3 +31,26 @@ pub record CarriesOut (told : List ℕ → Option (List ℕ)) (names old new : L
 
 abbrev pub Ran : (List ℕ → Option (List ℕ)) → List (List ℕ) → List (List ℕ) → List (List ℕ) → Status → SinkStep → SinkStep → Type 0
 Ran told names old new result out errs = Stops told names old new result out errs ⊎ CarriesOut told names old new result out errs
+
+-- the reports of the files, of the kind that is asked, were printed, and nothing else
+pub record Prints (told : List ℕ → Option (List ℕ)) (names old new : List (List ℕ)) (out errs : SinkStep) (IsAsked : List Report → Type 0) : Type 0 where
+  pub texts : List (List ℕ)
+  pub reports : List Report
+  pub accepted : IsAccepted told names old new texts reports
+  pub asked : IsAsked reports
+  pub printed : Took out (text_of reports)
+  pub nothing : Took errs []
+
+-- the line of a refusal was printed, and nothing else
+pub record Refuses (told : List ℕ → Option (List ℕ)) (names old new : List (List ℕ)) (out errs : SinkStep) : Type 0 where
+  pub line : List ℕ
+  pub cause : IsRefused told names old new [] line
+  pub nothing : Took out []
+  pub printed : Took errs line
+
+-- the line on a file that wasn't read was printed, and nothing else
+pub record Misses (told : List ℕ → Option (List ℕ)) (names old new : List (List ℕ)) (out errs : SinkStep) : Type 0 where
+  pub line : List ℕ
+  pub cause : IsLacking told names old new [] line
+  pub nothing : Took out []
+  pub printed : Took errs line
