@@ -3,7 +3,9 @@
 mod checker;
 mod machine;
 mod names;
+mod source;
 mod text;
 
 pub use machine::read_small_checker;
-pub use text::SmallFault;
+pub use source::read_source;
+pub use text::{SmallFault, read_text};

@@ -1,9 +1,26 @@
 -- Names that are kept as values of some type, by a function f to their texts.
-use Rattle.std.proofs.Common.{◌≡◌, ℕ, ◌+◌, ◌≤◌, Bool, true, false, cond, not, ltb, List, [], ◌∷◌, ◌++◌, length, map, if◌then◌else◌, Some, None, ◌||◌, refl, ap, sym, ◌∙◌, length-append, arith}
+use Rattle.std.proofs.Common.{◌≡◌, ℕ, ◌+◌, ◌<◌, ◌≤◌, Bool, true, false, cond, not, ltb, List, [], ◌∷◌, ◌++◌, length, map, if◌then◌else◌, Some, None, ◌||◌, refl, ap, sym, ◌∙◌, length-append, arith}
 use Rattle.std.specs.List.{list_any, position, position_or_len, IsDistinct, AllByRecursion}
 use Rattle.std.specs.Str.{bytes_eq}
 use Rattle.std.proofs.lemmas.Bool.{false≢true}
 use Rattle.mx_base.specs.Names.{number_of, names_after, HasNoRepeats}
+
+-- the first place is below the length where some element passes, and is the length where none does
+pub some_passes : {X : Type 0} (p : X → Bool) (xs : List X) → list_any p xs ≡ true → position_or_len p xs < length xs
+some_passes p [] h = absurd (false≢true h)
+some_passes p (x ∷ xs) h = by (p x) refl h (λ k. some_passes p xs k)
+  where
+    by : (b : Bool) → p x ≡ b → (b || list_any p xs) ≡ true → (list_any p xs ≡ true → position_or_len p xs < length xs) → position_or_len p (x ∷ xs) < length (x ∷ xs)
+    by true e k rest = rw e (omega arith)
+    by false e k rest = rw e (omega (arith, rest k))
+
+pub none_passes : {X : Type 0} (p : X → Bool) (xs : List X) → list_any p xs ≡ false → position_or_len p xs ≡ length xs
+none_passes p [] _ = refl
+none_passes p (x ∷ xs) h = by (p x) refl h (λ k. none_passes p xs k)
+  where
+    by : (b : Bool) → p x ≡ b → (b || list_any p xs) ≡ false → (list_any p xs ≡ false → position_or_len p xs ≡ length xs) → position_or_len p (x ∷ xs) ≡ length (x ∷ xs)
+    by true e k rest = absurd (false≢true (sym k))
+    by false e k rest = rw e (omega (arith, rest k))
 
 module _ {X : Type 0} (f : X → List ℕ) where
   number_of-map : (t : List ℕ) (xs : List X) → position_or_len (λ x. bytes_eq t (f x)) xs ≡ number_of (map f xs) t
@@ -32,15 +49,7 @@ module _ {X : Type 0} (f : X → List ℕ) where
 
   -- where there is none, the number is the next one
   pub number_next : (t : List ℕ) (xs : List X) → list_any (λ x. bytes_eq t (f x)) xs ≡ false → length xs ≡ number_of (map f xs) t
-  number_next t xs none = sym (past xs none) ∙ number_of-map t xs
-    where
-      past : (ys : List X) → list_any (λ x. bytes_eq t (f x)) ys ≡ false → position_or_len (λ x. bytes_eq t (f x)) ys ≡ length ys
-      past [] _ = refl
-      past (y ∷ ys) h = by (bytes_eq t (f y)) refl h (λ k. past ys k)
-        where
-          by : (b : Bool) → bytes_eq t (f y) ≡ b → (b || list_any (λ x. bytes_eq t (f x)) ys) ≡ false → (list_any (λ x. bytes_eq t (f x)) ys ≡ false → position_or_len (λ x. bytes_eq t (f x)) ys ≡ length ys) → position_or_len (λ x. bytes_eq t (f x)) (y ∷ ys) ≡ length (y ∷ ys)
-          by true e k rest = absurd (false≢true (sym k))
-          by false e k rest = rw e (omega (arith, rest k))
+  number_next t xs none = sym (none_passes (λ x. bytes_eq t (f x)) xs none) ∙ number_of-map t xs
 
   -- what an insert leaves
   pub after_insert : (t : List ℕ) (xs : List X) (v : X) → f v ≡ t → map f (if list_any (λ x. bytes_eq (f v) (f x)) xs then xs else (xs ++ v ∷ [])) ≡ names_after (map f xs) t

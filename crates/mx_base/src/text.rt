@@ -30,6 +30,14 @@ impl Text {
         }
     }
 
+    /// The text of these bytes, in memory of its own.
+    pub fn from_bytes(alloc: Global, bytes: &[u8]) -> Result<Text, AllocError>
+        ensures { IfOk result (λ text. text ≡ bytes.now) }
+    {
+        let bytes = Vec::from_slice(alloc, bytes)?;
+        Ok(Text { bytes })
+    }
+
     /// Puts bytes at the end. An error leaves the text as it was.
     pub fn push_all(&mut self, bytes: &[u8]) -> Result<(), AllocError>
         ensures ok { OnOk result (self.new ≡ self.old ++ bytes.now) }
@@ -43,8 +51,7 @@ impl Text {
     pub fn copy(&self) -> Result<Text, AllocError>
         ensures { IfOk result (λ copied. copied ≡ self.now) }
     {
-        let bytes = Vec::from_slice(*self.bytes.allocator(), self.bytes.as_slice())?;
-        Ok(Text { bytes })
+        Text::from_bytes(*self.bytes.allocator(), self.bytes.as_slice())
     }
 
     /// The bytes, in order.
@@ -66,5 +73,27 @@ impl Text {
         ensures { IsTrue result ↔ (self.now ≡ []) }
     {
         self.bytes.is_empty()
+    }
+}
+
+#[cfg(test)]
+mod tests {
+    use super::*;
+    use std::test::Fail;
+
+    #[test]
+    fn a_copy_has_the_bytes_that_were_pushed(rt: HostRuntime) -> Result<(), Fail> {
+        let mut text = Text::new(rt.alloc());
+        assert!(rt; text.is_empty());
+        text.push_all(b"ab")?;
+        let copied = text.copy()?;
+        text.push_all(b"c")?;
+        assert_eq!(rt; copied.as_bytes(), b"ab".as_slice());
+        assert_eq!(rt;
+            text.as_bytes(),
+            Text::from_bytes(rt.alloc(), b"abc")?.as_bytes()
+        );
+        assert_eq!(rt; text.len(), 3);
+        Ok(())
     }
 }

@@ -1,22 +1,24 @@
--- Files in memory.
-use Rattle.std.specs.Prelude.{◌≡◌, ℕ, Bool, true, false, ◌||◌, ◌+◌, ◌-◌, ◌^◌, min, List, [], ◌∷◌, Option, Some, None, not, is_some, if◌then◌else◌, Result, Ok, Err, Vec}
+-- Files in memory: which file a name means, when a read fails, and what it leaves.
+use Rattle.std.specs.Prelude.{◌≡◌, ℕ, Bool, true, false, ◌||◌, List, [], ◌∷◌, Option, Some, None, not, is_some, if◌then◌else◌, Result, Ok, Err, Vec}
 use Rattle.std.specs.Str.{bytes_eq}
 use Rattle.mx_io.specs.declared.files.FileFault.{FileFault}
 use Rattle.mx_io.specs.declared.files.FileFault.TheVariants.{Failed, TooLarge, NoMemory}
-use Rattle.mx_io.specs.MemSink.{is_due}
+use Rattle.mx_io.specs.Calls.{raised, is_due}
 use Rattle.mx_io.specs.Reads.{failed_after}
 
--- files by name, the numbers of the reads that are to fail, the number of the next read, and the names whose reads failed
+-- the files as names and bytes, the numbers of the reads that are to fail, the number of the next read,
+-- and the names whose reads failed
 pub record FilesView : Type 0 where
   pub files : List (List ℕ × List ℕ)
   pub fails : List ℕ
   pub reads : ℕ
   pub failed : List (List ℕ)
 
+-- no file, and no read so far
 abbrev pub no_files : List ℕ → FilesView
 no_files fails = record { files = []; fails = fails; reads = 0; failed = [] }
 
--- the bytes of the first file of a name
+-- the bytes of the first file with a name
 abbrev pub first_of : List (List ℕ × List ℕ) → List ℕ → Option (List ℕ)
 first_of [] name = None
 first_of (f ∷ fs) name = if bytes_eq f.0 name then Some f.1 else first_of fs name
@@ -34,4 +36,4 @@ AnswersFrom f name (Err NoMemory) = Unit {0}
 
 -- what a read leaves
 abbrev pub after_read : {A : Type 0} → FilesView → List ℕ → Result (Vec ℕ A) FileFault → FilesView
-after_read f name result = record f { reads = min (f.reads + 1) (2 ^ 64 - 1); failed = failed_after f.failed name result }
+after_read f name result = record f { reads = raised f.reads; failed = failed_after f.failed name result }

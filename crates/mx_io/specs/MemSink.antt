@@ -1,8 +1,9 @@
--- A sink in memory.
-use Rattle.std.specs.Prelude.{ℕ, Bool, ◌||◌, ◌+◌, ◌-◌, ◌^◌, ◌==◌, min, List, [], ◌++◌, length, take, if◌then◌else◌}
-use Rattle.std.specs.List.{list_any}
+-- A sink in memory: when a write fails, how many bytes it takes otherwise, and what it leaves.
+use Rattle.std.specs.Prelude.{ℕ, Bool, ◌||◌, ◌-◌, ◌==◌, min, List, [], ◌++◌, length, take, if◌then◌else◌}
+use Rattle.mx_io.specs.Calls.{raised, is_due}
 
--- how many bytes a call takes at most, the numbers of the calls that are to fail, the bytes that still fit, the number of the next call, the bytes taken, and the faults
+-- the most bytes of one write, the numbers of the writes that are to fail, the bytes that still fit,
+-- the number of the next write, the bytes taken, and how many writes failed
 pub record SinkView : Type 0 where
   pub most : ℕ
   pub fails : List ℕ
@@ -15,11 +16,7 @@ pub record SinkView : Type 0 where
 abbrev pub empty_sink : ℕ → List ℕ → ℕ → SinkView
 empty_sink most fails room = record { most = most; fails = fails; room = room; calls = 0; taken = []; faults = 0 }
 
--- whether the number is one of those that are to fail
-abbrev pub is_due : List ℕ → ℕ → Bool
-is_due fails number = list_any (λ n. n == number) fails
-
--- whether the next call fails
+-- whether the next write fails
 abbrev pub fails_now : SinkView → Bool
 fails_now s = (s.room == 0) || is_due s.fails s.calls
 
@@ -27,8 +24,12 @@ fails_now s = (s.room == 0) || is_due s.fails s.calls
 abbrev pub count_now : SinkView → List ℕ → ℕ
 count_now s piece = min (min (length piece) s.most) s.room
 
--- what a call leaves
+-- what a write leaves
 abbrev pub after_write : SinkView → List ℕ → SinkView
 after_write s piece = if fails_now s
-    then record s { calls = min (s.calls + 1) (2 ^ 64 - 1); faults = min (s.faults + 1) (2 ^ 64 - 1) }
-    else record s { calls = min (s.calls + 1) (2 ^ 64 - 1); room = s.room - count_now s piece; taken = s.taken ++ take (count_now s piece) piece }
+    then record s { calls = raised s.calls; faults = raised s.faults }
+    else record s {
+      calls = raised s.calls;
+      room = s.room - count_now s piece;
+      taken = s.taken ++ take (count_now s piece) piece;
+    }

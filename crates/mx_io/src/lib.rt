@@ -1,4 +1,5 @@
-//! The outside of the program: files that are read whole and sinks that take bytes, each as a trait, in memory and of the system.
+//! The outside of the program: files that are read whole and sinks that take bytes, each as a trait,
+//! in memory and of the system.
 #![tactic(auto)]
 
 mod files;
@@ -7,6 +8,8 @@ mod mem_sink;
 mod os_files;
 mod os_sink;
 mod sink;
+#[cfg(test)]
+mod tests;
 
 pub use files::{FileFault, Files};
 pub use mem_files::MemFiles;

@@ -1,5 +1,7 @@
 use Rattle.std.proofs.Common.{map, Vec, Global, ◌+◌, ◌^◌, ◌≤◌, ℕ, length, arith, sym, ◌∙◌, ap}
+use Rattle.std.proofs.lemmas.Option.{slice_get_within}
 use Rattle.mx_base.proofs.NameFacts.{no_repeats, number_at, number_next, after_insert, known_text, length_after, length-names}
+use Rattle.mx_base.proofs.NameLaws.{number_stands}
 use Rattle.mx_base.proofs.names.Names.intern.Goals as goal
 
 pub returns-in-Some-clause-number : goal.returns-in-Some-clause-number
@@ -9,6 +11,9 @@ returns-in-Some-clause-number c =
 pub returns-in-Some-clause-names : goal.returns-in-Some-clause-names
 returns-in-Some-clause-names c =
     rw (← c.self.view_is) (known_text (λ v. v.items) c.args.text.now c.self.inside.texts.keys (sym c.in-Some.ensures.found))
+
+pub returns-in-Some-clause-own : goal.returns-in-Some-clause-own
+returns-in-Some-clause-own c = number_stands _ _ _ _ (returns-in-Some-clause-number c) (returns-in-Some-clause-names c) (rw (← c.self.view_is) c.self.invariant.1)
 
 pub invariant_of-self-2 : goal.invariant_of-self-2
 invariant_of-self-2 c =
@@ -27,3 +32,9 @@ returns-clause-names c =
 
 pub returns-clause-distinct : goal.returns-clause-distinct
 returns-clause-distinct c = no_repeats (λ v. v.items) _ c.in_ok-insert.ensures.unique
+
+pub returns-clause-own : goal.returns-clause-own
+returns-clause-own c = number_stands _ _ _ _ (returns-clause-number c) (returns-clause-names c) (returns-clause-distinct c)
+
+pub returns-clause-within : goal.returns-clause-within
+returns-clause-within c = slice_get_within _ _ _ (returns-clause-own c).here

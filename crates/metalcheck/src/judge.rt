@@ -1,0 +1,173 @@
+//! The files of a request, read and judged one after the other.
+
+ghost use Rattle.std.specs.Prelude.{◌≡◌, ◌≤◌, ◌<◌, ◌^◌, [], length, map, string_bytes, IfOk, OnErr, IfErr, true};
+ghost use Rattle.mx_base.specs.Names.{HasNoRepeats};
+ghost use Rattle.metalcheck.specs.Due.{FailedInTurn};
+ghost use Rattle.metalcheck.specs.Stages.{AnswersStopped, failed_after_stop, IsLoaded, IsChecked, CameTo, HasReports, IsUnread};
+ghost use Rattle.metalcheck.specs.Extension.{IsExtension};
+ghost use Rattle.metalcheck.specs.Words.{is_request_of};
+
+use crate::analysis::analyse;
+use crate::fault::Fault;
+use crate::file::{Missing, TOTAL_LIMIT, read_file};
+use crate::small::{SmallFault, read_small_checker, read_source, read_text};
+use bumpalo::Bump;
+use mx_base::Names;
+use mx_io::Files;
+use path_model::{Machine, Report};
+use std::alloc::{AllocError, Global};
+
+/// What the files of a request came to.
+#[derive(Drop)]
+pub enum Outcome {
+    /// The file at this position was not read.
+    NotRead(usize),
+    /// The file at this position has a fault.
+    Faulty(usize, Fault),
+    /// All were read, and none has a fault. These are the reports.
+    Judged(Vec<Report>),
+}
+
+/// Why a file gave nothing.
+#[derive(Clone, Copy, Debug, PartialEq, Eq)]
+pub enum Stopped {
+    NotRead,
+    Faulty(Fault),
+    NoMemory,
+}
+
+/// A checker, and the bytes of its file.
+#[derive(Drop)]
+struct Loaded {
+    machine: Machine,
+    size: u64,
+}
+
+/// Reads and judges the checker.
+fn load_checker<F: Files>(
+    alloc: Global,
+    files: &mut F,
+    word: &str,
+    names: &mut Names,
+) -> Result<Loaded, Stopped>
+    requires { names.old ≡ [] }
+    ensures ok { IfOk result (λ l. IsLoaded (F.contents files.old word.now) names.new l.size l.machine) }
+    ensures room { length names.new ≤ 2 ^ 25 }
+    ensures stopped { IfErr result (λ e. AnswersStopped (F.contents files.old word.now) 0 33554432 e) }
+    ensures none_failed { IfOk result (λ l. F.failed files.new ≡ F.failed files.old) }
+    ensures failed { IfErr result (λ e. F.failed files.new ≡ failed_after_stop (F.failed files.old) word.now e) }
+    ensures same { F.contents files.new ≡ F.contents files.old }
+{
+    let bytes = match read_file(files, word, TOTAL_LIMIT) {
+        Ok(bytes) => bytes,
+        Err(Missing::NotRead) => return Err(Stopped::NotRead),
+        Err(Missing::TooLarge) => return Err(Stopped::Faulty(Fault::TooLarge)),
+        Err(Missing::NoMemory) => return Err(Stopped::NoMemory),
+    };
+    match read_small_checker(alloc, &bytes, word.as_bytes(), names) {
+        Ok(machine) => Ok(Loaded {
+            machine,
+            size: bytes.len() as u64,
+        }),
+        Err(SmallFault::NotSmall) => Err(Stopped::Faulty(Fault::NotYet)),
+        Err(SmallFault::NoMemory) => Err(Stopped::NoMemory),
+    }
+}
+
+/// Reads the C file, of which at most `left` bytes may come, and finds the reports of the checker over it.
+fn check_source<F: Files>(
+    alloc: Global,
+    files: &mut F,
+    word: &str,
+    left: u64,
+    machine: &Machine,
+    names: &mut Names,
+) -> Result<Vec<Report>, Stopped>
+    requires room { length names.old ≤ 2 ^ 25 }
+    requires left { left ≤ 33554432 }
+    requires named { machine.now.name < length names.old }
+    ensures ok { IfOk result (λ reports. IsChecked (F.contents files.old word.now) left names.new word.now machine.now reports.items) }
+    ensures kept { IsExtension names.old names.new }
+    ensures distinct { HasNoRepeats names.new }
+    ensures stopped { IfErr result (λ e. AnswersStopped (F.contents files.old word.now) 1 left e) }
+    ensures none_failed { IfOk result (λ l. F.failed files.new ≡ F.failed files.old) }
+    ensures failed { IfErr result (λ e. F.failed files.new ≡ failed_after_stop (F.failed files.old) word.now e) }
+    ensures same { F.contents files.new ≡ F.contents files.old }
+{
+    let bytes = match read_file(files, word, left) {
+        Ok(bytes) => bytes,
+        Err(Missing::NotRead) => return Err(Stopped::NotRead),
+        Err(Missing::TooLarge) => return Err(Stopped::Faulty(Fault::TooLarge)),
+        Err(Missing::NoMemory) => return Err(Stopped::NoMemory),
+    };
+    check_bytes(alloc, &bytes, word.as_bytes(), machine, names)
+}
+
+/// The reports of the checker over the bytes of a C file.
+fn check_bytes(
+    alloc: Global,
+    bytes: &[u8],
+    word: &[u8],
+    machine: &Machine,
+    names: &mut Names,
+) -> Result<Vec<Report>, Stopped>
+    requires room { length names.old ≤ 2 ^ 25 }
+    requires size { length bytes.now ≤ 16777216 }
+    requires named { machine.now.name < length names.old }
+    ensures ok { IfOk result (λ reports. HasReports names.new word.now bytes.now machine.now reports.items) }
+    ensures kept { IsExtension names.old names.new }
+    ensures distinct { HasNoRepeats names.new }
+    ensures stopped { IfErr result (λ e. IsUnread bytes.now e) }
+{
+    let tokens = match read_text(alloc, bytes, 0, word, names) {
+        Ok(tokens) => tokens,
+        Err(SmallFault::NotSmall) => return Err(Stopped::Faulty(Fault::NotYet)),
+        Err(SmallFault::NoMemory) => return Err(Stopped::NoMemory),
+    };
+    let arena = Bump::new(alloc);
+    let function = match read_source(&arena, &tokens, names) {
+        Ok(function) => function,
+        Err(SmallFault::NotSmall) => return Err(Stopped::Faulty(Fault::NotYet)),
+        Err(SmallFault::NoMemory) => return Err(Stopped::NoMemory),
+    };
+    match analyse(alloc, machine, &function, names) {
+        Ok(reports) => Ok(reports),
+        Err(_) => Err(Stopped::NoMemory),
+    }
+}
+
+/// Reads and judges the files of a request in order, each before the next is read.
+pub fn judge<F: Files>(
+    alloc: Global,
+    words: &[String],
+    files: &mut F,
+) -> Result<Outcome, AllocError>
+    requires { is_request_of (map string_bytes words.now) ≡ true }
+    ensures ok { IfOk result (λ o. CameTo (F.contents files.old) (map string_bytes words.now) (F.failed files.old) (F.failed files.new) o) }
+    ensures err { OnErr result (FailedInTurn (F.contents files.old) (map string_bytes words.now) (F.failed files.old) (F.failed files.new)) }
+{
+    let [checker, source] = words else {
+        return Err(AllocError);
+    };
+    let mut names = Names::new(alloc);
+    let loaded = match load_checker(alloc, files, checker.as_str(), &mut names) {
+        Ok(loaded) => loaded,
+        Err(Stopped::NotRead) => return Ok(Outcome::NotRead(0)),
+        Err(Stopped::Faulty(fault)) => return Ok(Outcome::Faulty(0, fault)),
+        Err(Stopped::NoMemory) => return Err(AllocError),
+    };
+    let left = TOTAL_LIMIT - loaded.size;
+    match check_source(
+        alloc,
+        files,
+        source.as_str(),
+        left,
+        &loaded.machine,
+        &mut names,
+    ) {
+        Ok(reports) => Ok(Outcome::Judged(reports)),
+        Err(Stopped::NotRead) => Ok(Outcome::NotRead(1)),
+        Err(Stopped::Faulty(fault)) => Ok(Outcome::Faulty(1, fault)),
+        Err(Stopped::NoMemory) => Err(AllocError),
+    }
+}

@@ -1,0 +1,1 @@
+void f(char *p){ kfree(p); *p; }
