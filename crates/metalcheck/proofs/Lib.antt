@@ -14,6 +14,7 @@ pub mod SmallOptions
 pub mod SmallParts
 pub mod SmallSections
 pub mod SmallShapes
+pub mod SmallSources
 pub mod SmallTrees
 pub mod Statements
 pub mod Statuses

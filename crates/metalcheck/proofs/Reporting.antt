@@ -1,7 +1,6 @@
 -- What simple statements report: the list that goes over the statements with the state of the parameter alone has exactly the
 -- reports of all paths, in order and each once.
 use Rattle.std.proofs.Common.{◌≡◌, ◌⊎◌, inl, inr, ℕ, suc, ◌+◌, ◌<◌, ◌≤◌, Bool, true, false, cond, List, [], ◌∷◌, ◌++◌, length, get_or, slice_get, Option, Some, None, refl, sym, ap, ◌∙◌, subst, append_assoc, append-nil, arith}
-
 use Rattle.std.proofs.lemmas.Option.{get_or_from_slice_get}
 use Rattle.std.proofs.lemmas.List.Elements.{All-contains_itself}
 use Rattle.std.proofs.lemmas.List.Kept.{AllPairs-cons}
@@ -146,10 +145,13 @@ module _ (names : List (List ℕ)) (machine : Machine) (body : Body) where
     where
       self : same_object (parameter_of body) (parameter_of body) ≡ true
       self = same_object-self body.parameter
+
       known : m (parameter_of body) ≡ state
       known = h (parameter_of body) ∙ ap (λ b. cond b state None) self
+
       takes : taken machine body n (parameter_of body) (m (parameter_of body)) ≡ Some s.rule
       takes = ap (λ x. taken machine body n (parameter_of body) x) known ∙ taken-simple machine body n (parameter_of body) state simple ∙ ap (λ b. cond b (found machine n state) None) self ∙ s.finds
+
       by : (x : Option Message) → s.rule.message ≡ x → report_with_message names machine body.parameter (get_or body.tokens (first_of n).token body.parameter) s.rule x ≡ Some r → Fires m n r
       by None e k = cc
       by (Some message) e k =
@@ -217,6 +219,7 @@ module _ (names : List (List ℕ)) (machine : Machine) (body : Body) where
           → Says state n r ⊎ Contains (reports_from names machine body (chosen (found machine n state) state) ns) r → Happens m (value_then n (values_then ns [])) r
       real r b next (inl s) = b.now r (fires-says size floor state b.here n r a.0 a.1 b.only s)
       real r b next (inr c) = b.later r (next.real r c)
+
       whole : (r : Report) (b : Behind state m n (values_then ns [])) → Agrees (chosen (found machine n state) state) (stepped machine body (Evaluated n) b.here) ns
           → Fires b.here n r ⊎ Happens (stepped machine body (Evaluated n) b.here) (values_then ns []) r → Contains (reports_from names machine body state (more n ns)) r
       whole r b next (inl f) = listed-now state n (reports_from names machine body (chosen (found machine n state) state) ns) r (says-fires size floor state b.here n r a.0 a.1 b.only f)
@@ -237,10 +240,24 @@ module _ (names : List (List ℕ)) (machine : Machine) (body : Body) where
       }
 
   happens-reported : (r : Report) → Happens nothing_known (events_of body) r → IsReported names machine body r
-  happens-reported r h = (events_of body, ([], append-nil (events_of body)), record {
-      before = h.before; at = h.at; behind = h.behind; split = h.split; object = h.fires.object; rule = h.fires.rule; takes = h.fires.takes;
-      message = h.fires.message; says = h.fires.says; token = h.fires.token; stands = h.fires.stands; report = h.fires.report;
-    })
+  happens-reported r h = (
+    events_of body,
+    ([], append-nil (events_of body)),
+    record {
+      before = h.before;
+      at = h.at;
+      behind = h.behind;
+      split = h.split;
+      object = h.fires.object;
+      rule = h.fires.rule;
+      takes = h.fires.takes;
+      message = h.fires.message;
+      says = h.fires.says;
+      token = h.fires.token;
+      stands = h.fires.stands;
+      report = h.fires.report;
+    },
+  )
 
   -- where the reports from a statement on stand
   pub record Above (floor : ℕ) (r : Report) : Type 0 where
@@ -289,6 +306,7 @@ module _ (names : List (List ℕ)) (machine : Machine) (body : Body) where
           let c = All-contains_itself (reports_from names machine body (chosen (found machine n state) state) ns) k d h in
           let there = above size ((first_of n).token + 1) ns (chosen (found machine n state) state) (get_or (reports_from names machine body (chosen (found machine n state) state) ns) k d) a.2 c in
           less r (get_or (reports_from names machine body (chosen (found machine n state) state) ns) k d) (ap (λ p. p.file) place ∙ a.1.filed ∙ sym there.file) (omega (arith, ap (λ p. p.token) place, there.token))
+
       by : AllPairs (λ x y. report_cmp x y ≡ Less) (reports_from names machine body (chosen (found machine n state) state) ns)
           → (o : Option Rule) → found machine n state ≡ o → AllPairs (λ x y. report_cmp x y ≡ Less) (reported_then names machine body n o (reports_from names machine body (chosen (found machine n state) state) ns))
       by next None e = next

@@ -130,14 +130,14 @@ module _ (names : List (List ℕ)) (word bytes : List ℕ) (s : Source) (body : 
       let named = spelled_at k c.callee (Word g) c.callee_at (ap (slice_get (source_lexemes s)) (sym (add-zero k)) ∙ slice_get-drop k 0 (source_lexemes s) ∙ ap (λ l. slice_get l 0) d) in
       let argued = spelled_at (k + 2) c.argument (Word s.parameter) c.argument_at (slice_get-drop k 2 (source_lexemes s) ∙ ap (λ l. slice_get l 2) d) in
       with_first k n ns c.callee c.callee_at (ap first_of c.is) 4
-        (subst (IsSimple body.parameter) (sym c.is) (simple.IsCall (other_name c.callee g named well.2) (same_name c.argument argued)))
-        (simple_from (k + 5) ss ns (drop-further k 5 (source_lexemes s) ∙ ap (drop 5) d) (λ i x h. w (suc i) x (omega (arith, h))) a.1)
+      (subst (IsSimple body.parameter) (sym c.is) (simple.IsCall (other_name c.callee g named well.2) (same_name c.argument argued)))
+      (simple_from (k + 5) ss ns (drop-further k 5 (source_lexemes s) ∙ ap (drop 5) d) (λ i x h. w (suc i) x (omega (arith, h))) a.1)
   simple_from k (source.Dereference ∷ ss) (more n ns) d w a =
       let c = a.0 in
       let named = spelled_at (k + 1) c.operand (Word s.parameter) c.operand_at (slice_get-drop k 1 (source_lexemes s) ∙ ap (λ l. slice_get l 1) d) in
       with_first k n ns c.star c.star_at (ap first_of c.is) 2
-        (subst (IsSimple body.parameter) (sym c.is) (simple.IsDereference (same_name c.operand named)))
-        (simple_from (k + 3) ss ns (drop-further k 3 (source_lexemes s) ∙ ap (drop 3) d) (λ i x h. w (suc i) x (omega (arith, h))) a.1)
+      (subst (IsSimple body.parameter) (sym c.is) (simple.IsDereference (same_name c.operand named)))
+      (simple_from (k + 3) ss ns (drop-further k 3 (source_lexemes s) ∙ ap (drop 3) d) (λ i x h. w (suc i) x (omega (arith, h))) a.1)
 
   pub parameter_named : body.parameter.name < length names
   parameter_named = slice_get_within names body.parameter.name s.parameter parameter

@@ -11,7 +11,8 @@ use Rattle.metalcheck.specs.declared.small.text.Part.{Part}
 use Rattle.metalcheck.specs.declared.small.text.Part.TheVariants as parts
 use Rattle.metalcheck.specs.SmallText.{Piece, Space, LineFeed, Spelled, Spot, first_spot, bytes_of, is_piece, is_word, is_word_piece, is_letter, ends_apart, are_apart, spot_behind, AreTokens, IsTokenized}
 use Rattle.metalcheck.specs.SmallFront.{IsFront, piece_of, starts_word}
-use Rattle.metalcheck.specs.SmallTokens.{IsExtension, ArePushed, spot_of}
+use Rattle.metalcheck.specs.Extension.{IsExtension}
+use Rattle.metalcheck.specs.SmallTokens.{ArePushed, spot_of}
 use Rattle.metalcheck.proofs.SmallGrowth.{AreTokens-extended, named_still}
 
 abbrev pub spot_after : Spot → List Piece → Spot

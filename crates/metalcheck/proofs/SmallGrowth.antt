@@ -7,7 +7,7 @@ use Rattle.mx_base.specs.Names.{number_of, names_after}
 use Rattle.c_tree.specs.declared.token.Token.{Token}
 use Rattle.metalcheck.specs.SmallText.{Piece, Space, LineFeed, Spelled, Spot, bytes_of, spot_behind, AreTokens}
 use Rattle.metalcheck.specs.SmallFront.{kind_of_piece}
-use Rattle.metalcheck.specs.SmallTokens.{IsExtension}
+use Rattle.metalcheck.specs.Extension.{IsExtension}
 
 slice_get-append : {X : Type 0} (xs ys : List X) (i : ℕ) (x : X) → slice_get xs i ≡ Some x → slice_get (xs ++ ys) i ≡ Some x
 slice_get-append [] ys i x h = cc
@@ -15,20 +15,17 @@ slice_get-append (y ∷ xs) ys zero x h = h
 slice_get-append (y ∷ xs) ys (suc i) x h = slice_get-append xs ys i x h
 
 pub named_still : (old new : List (List ℕ)) (i : ℕ) (x : List ℕ) → IsExtension old new → slice_get old i ≡ Some x → slice_get new i ≡ Some x
-named_still old new i x e h = subst (λ l. slice_get l i ≡ Some x) (sym e.joined) (slice_get-append old e.more i x h)
+named_still old new i x e h = subst (λ l. slice_get l i ≡ Some x) (sym e.1) (slice_get-append old e.0 i x h)
 
 pub extended_twice : (a b c : List (List ℕ)) → IsExtension a b → IsExtension b c → IsExtension a c
-extended_twice a b c e f = record {
-  more = e.more ++ f.more;
-  joined = f.joined ∙ ap (λ l. l ++ f.more) e.joined ∙ append_assoc a e.more f.more;
-}
+extended_twice a b c e f = (e.0 ++ f.0, f.1 ∙ ap (λ l. l ++ f.0) e.1 ∙ append_assoc a e.0 f.0)
 
 pub after_extends : (names : List (List ℕ)) (text : List ℕ) → IsExtension names (names_after names text)
 after_extends names text = by (list_any (bytes_eq text) names)
   where
     by : (b : Bool) → IsExtension names (cond b names (names ++ text ∷ []))
-    by true = record { more = []; joined = sym (append-nil names) }
-    by false = record { more = text ∷ []; joined = refl }
+    by true = ([], sym (append-nil names))
+    by false = (text ∷ [], refl)
 
 -- at most one name more
 pub length-names_after : (names : List (List ℕ)) (text : List ℕ) → length (names_after names text) ≤ length names + 1

@@ -1,4 +1,5 @@
 pub mod Due
+pub mod Extension
 pub mod Judged
 pub mod Ran
 pub mod Reading
@@ -9,6 +10,7 @@ pub mod SmallFront
 pub mod SmallNames
 pub mod SmallReading
 pub mod SmallSource
+pub mod SmallStatements
 pub mod SmallText
 pub mod SmallTokens
 pub mod SmallViews

@@ -4,11 +4,6 @@ use Rattle.c_tree.specs.declared.token.Token.{Token}
 use Rattle.metalcheck.specs.declared.small.text.Cursor.{Cursor}
 use Rattle.metalcheck.specs.SmallText.{Piece, Spot, AreTokens}
 
--- names that were there keep their numbers
-pub record IsExtension (old new : List (List ℕ)) : Type 0 where
-  pub more : List (List ℕ)
-  pub joined : new ≡ old ++ more
-
 abbrev pub spot_of : Cursor → Spot
 spot_of c = record { line = c.line; col = c.col; token = c.token }
 

@@ -37,9 +37,13 @@ fn matches_at(pattern: Pattern, node: &Tree) -> bool
 {
     match pattern {
         Pattern::Call(name) => match &node.kind {
-            Kind::Postfix(Postfix::Call {
-                callee, arguments, ..
-            }) => is_name(callee, name) && is_one(arguments),
+            Kind::Postfix(
+                Postfix::Call {
+                    callee,
+                    arguments,
+                    ..
+                },
+            ) => is_name(callee, name) && is_one(arguments),
             _ => false,
         },
         Pattern::Dereference => match &node.kind {
@@ -199,7 +203,15 @@ fn add_statement(
         return Ok(state);
     };
     let token = &function.tokens[statement.first.token as usize];
-    add_report(alloc, names, machine, rule, &function.parameter, token, reports)?;
+    add_report(
+        alloc,
+        names,
+        machine,
+        rule,
+        &function.parameter,
+        token,
+        reports,
+    )?;
     Ok(state_behind(rule.target))
 }
 
@@ -218,7 +230,15 @@ pub fn analyse(
     let mut reports = Vec::new(alloc);
     let mut state = None;
     for statement in function.statements.all {
-        state = add_statement(alloc, names, machine, function, statement, state, &mut reports)?;
+        state = add_statement(
+            alloc,
+            names,
+            machine,
+            function,
+            statement,
+            state,
+            &mut reports,
+        )?;
     }
     Ok(reports)
 }

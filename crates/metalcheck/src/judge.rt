@@ -3,7 +3,7 @@
 ghost use Rattle.std.specs.Prelude.{◌≡◌, ◌≤◌, ◌<◌, ◌^◌, [], ◌∷◌, length, map, string_bytes, IfOk, OnOk, OnErr, IfErr};
 ghost use Rattle.mx_base.specs.Names.{HasNoRepeats};
 ghost use Rattle.metalcheck.specs.Stages.{AnswersStopped, failed_after_stop, IsLoaded, IsChecked, CameTo, HasReports, IsUnread};
-ghost use Rattle.metalcheck.specs.SmallTokens.{IsExtension};
+ghost use Rattle.metalcheck.specs.Extension.{IsExtension};
 
 use crate::analysis::analyse;
 use crate::fault::Fault;

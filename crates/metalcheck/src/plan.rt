@@ -20,35 +20,51 @@ pub struct Plan {
 }
 
 /// Reads and judges the files, and makes all that is to be written.
-pub fn decide<F: Files>(
-    alloc: Global,
-    words: &[String],
-    files: &mut F,
-) -> Result<Plan, AllocError>
+pub fn decide<F: Files>(alloc: Global, words: &[String], files: &mut F) -> Result<Plan, AllocError>
     ensures ok { IfOk result (λ plan. IsDue (F.contents files.old) (map string_bytes words.now) (F.failed files.old) (F.failed files.new) plan.status plan.text.items plan.line.items) }
     ensures err { OnErr result (FailedInTurn (F.contents files.old) (map string_bytes words.now) (F.failed files.old) (F.failed files.new)) }
 {
     let text = Vec::new(alloc);
     if !is_request(words) {
         let line = usage(alloc)?;
-        return Ok(Plan { status: Status::Usage, text, line });
+        return Ok(Plan {
+            status: Status::Usage,
+            text,
+            line,
+        });
     }
     match judge(alloc, words, files)? {
         Outcome::NotRead(position) => {
             let line = not_read(alloc, words[position].as_str())?;
-            Ok(Plan { status: Status::ReadFault, text, line })
+            Ok(Plan {
+                status: Status::ReadFault,
+                text,
+                line,
+            })
         }
         Outcome::Faulty(position, fault) => {
             let line = refused(alloc, words[position].as_str(), fault)?;
-            Ok(Plan { status: Status::Refused, text, line })
+            Ok(Plan {
+                status: Status::Refused,
+                text,
+                line,
+            })
         }
         Outcome::Judged(reports) => {
             let line = Vec::new(alloc);
             if reports.is_empty() {
-                return Ok(Plan { status: Status::Clean, text, line });
+                return Ok(Plan {
+                    status: Status::Clean,
+                    text,
+                    line,
+                });
             }
             let text = write_lines(alloc, &reports)?;
-            Ok(Plan { status: Status::Reports, text, line })
+            Ok(Plan {
+                status: Status::Reports,
+                text,
+                line,
+            })
         }
     }
 }

@@ -70,7 +70,7 @@ pub fn after<'t>(names: &Names, tokens: &'t [Token], spelling: &[u8]) -> Option<
 }
 
 /// A name in front.
-fn name_first<'t>(names: &Names, tokens: &'t [Token]) -> Option<(u32, &'t [Token])>
+pub fn name_first<'t>(names: &Names, tokens: &'t [Token]) -> Option<(u32, &'t [Token])>
     ensures { option_map (λ r. and_rest (text_at names.now) names.now r) result ≡ name_first (spellings names.now tokens.now) }
 {
     match tokens {

@@ -5,7 +5,7 @@ ghost use Rattle.std.specs.Option.{option_map};
 ghost use Rattle.metalcheck.specs.SmallChecker.{AreRules, Checker, IsMachine, IsMessage, IsRule, IsSmallChecker, IsTarget};
 ghost use Rattle.metalcheck.specs.SmallNames.{is_name};
 ghost use Rattle.metalcheck.specs.SmallReading.{spellings, text_at};
-ghost use Rattle.metalcheck.specs.SmallTokens.{IsExtension};
+ghost use Rattle.metalcheck.specs.Extension.{IsExtension};
 ghost use Rattle.metalcheck.specs.SmallViews.{IsCheckerOf, IsWellRule, rule_of, rules_in, texts_of};
 
 use super::checker::{Literal, ReadRule, read_head, read_sections, text};
@@ -114,8 +114,8 @@ pub fn read_small_checker(
     word: &[u8],
     names: &mut Names,
 ) -> Result<Machine, SmallFault>
-    requires short { length bytes.now ≤ 16777216 }
-    requires room { length names.old + length bytes.now + 1 < 2 ^ 31 }
+    requires size { length bytes.now ≤ 16777216 }
+    requires names { length names.old + length bytes.now + 1 < 2 ^ 31 }
     ensures ok { IfOk result (λ machine. (checker : Checker) × IsSmallChecker bytes.now checker × IsMachine names.new checker machine) }
     ensures kept { IsExtension names.old names.new }
     ensures room { length names.new ≤ length names.old + length bytes.now + 1 }

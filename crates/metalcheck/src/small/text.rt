@@ -5,7 +5,8 @@ ghost use Rattle.std.specs.List.{take_while};
 ghost use Rattle.metalcheck.specs.SmallText.{is_letter, is_plain, is_word_byte, sign_bytes, word_kind};
 ghost use Rattle.metalcheck.specs.SmallFront.{IsFront, kind_of_piece, piece_of};
 ghost use Rattle.metalcheck.specs.SmallText.{IsTokenized, bytes_of, spot_behind};
-ghost use Rattle.metalcheck.specs.SmallTokens.{ArePushed, HasRoom, IsExtension, IsMoved, spot_of};
+ghost use Rattle.metalcheck.specs.Extension.{IsExtension};
+ghost use Rattle.metalcheck.specs.SmallTokens.{ArePushed, HasRoom, IsMoved, spot_of};
 
 use c_tree::{Keyword, Mark, Place, Punctuator, Token, TokenKind};
 use mx_base::Names;
@@ -260,8 +261,8 @@ pub fn read_text(
     word: &[u8],
     names: &mut Names,
 ) -> Result<Vec<Token>, SmallFault>
-    requires short { length bytes.now ≤ 16777216 }
-    requires room { length names.old + length bytes.now + 1 < 2 ^ 31 }
+    requires size { length bytes.now ≤ 16777216 }
+    requires names { length names.old + length bytes.now + 1 < 2 ^ 31 }
     ensures ok { IfOk result (λ tokens. IsTokenized names.new file word.now bytes.now tokens.items) }
     ensures kept { IsExtension names.old names.new }
     ensures room { length names.new ≤ length names.old + length bytes.now + 1 }

@@ -14,4 +14,4 @@ add_report-requires-clause-presumed c = presumed_there c.args.function.now.token
 pub returns-clause-reports : goal.returns-clause-reports
 returns-clause-reports c = λ rs.
     adds-rule c.args.names.now c.args.machine.now (body_of c.args.function.now) (node_of c.args.statement.now) c.args.reports.now.items c.add_report.new.reports.items rs _ c.in-Some.rule.now _
-        (sym c.in-Some.ensures) (same_there c.args.function.now.tokens.now c.args.statement.now.first.token c.args.function.now.parameter _ c.requires.placed.1.token c.requires.placed.1.stands) c.in_ok-add_report.ensures
+    (sym c.in-Some.ensures) (same_there c.args.function.now.tokens.now c.args.statement.now.first.token c.args.function.now.parameter _ c.requires.placed.1.token c.requires.placed.1.stands) c.in_ok-add_report.ensures

@@ -30,5 +30,5 @@ loop-statement-preserved c = record {
 pub returns : goal.returns
 returns c = subst (AreReports c.args.names.now c.args.machine.now (body_of c.args.function.now))
     (sym (reports-end c.args.names.now c.args.machine.now (body_of c.args.function.now) (out-Trees c.args.function.now.statements).all.now c.loop-statement.statement-index c.loop-statement.state c.loop-statement.reports.items
-        (reports_from c.args.names.now c.args.machine.now (body_of c.args.function.now) None (nodes_of c.args.function.now.statements)) c.loop-statement-test.false c.loop-statement.invariant.same))
+    (reports_from c.args.names.now c.args.machine.now (body_of c.args.function.now) None (nodes_of c.args.function.now.statements)) c.loop-statement-test.false c.loop-statement.invariant.same))
     (are_reports c.args.names.now c.args.machine.now (body_of c.args.function.now) (length c.args.names.now) c.requires.simple)

@@ -7,9 +7,9 @@ use Rattle.metalcheck.proofs.judge.check_bytes.Goals as goal
 pub analyse-requires-clause-parameter_named : goal.analyse-requires-clause-parameter_named
 analyse-requires-clause-parameter_named c =
     let read = c.in-Ok-read_source.ensures.ok c.args.word.now c.args.bytes.now (subst (IsTokenized c.read_text.new.names 0 c.args.word.now c.args.bytes.now) (sym c.deref.ensures.value) c.in-Ok.ensures.ok) in
-    parameter_named c.read_text.new.names c.args.word.now c.args.bytes.now read.0 (body_of c.in-Ok-read_source.function) c.len-count.ensures.distinct read.1
+    parameter_named c.read_text.new.names c.args.word.now c.args.bytes.now read.0 (body_of c.in-Ok-read_source.function) c.len-count.ensures.distinct read.2
 
 pub analyse-requires-clause-simple : goal.analyse-requires-clause-simple
 analyse-requires-clause-simple c =
     let read = c.in-Ok-read_source.ensures.ok c.args.word.now c.args.bytes.now (subst (IsTokenized c.read_text.new.names 0 c.args.word.now c.args.bytes.now) (sym c.deref.ensures.value) c.in-Ok.ensures.ok) in
-    are_simple c.read_text.new.names c.args.word.now c.args.bytes.now read.0 (body_of c.in-Ok-read_source.function) c.len-count.ensures.distinct read.1
+    are_simple c.read_text.new.names c.args.word.now c.args.bytes.now read.0 (body_of c.in-Ok-read_source.function) c.len-count.ensures.distinct read.2

@@ -2,7 +2,8 @@ use Rattle.std.proofs.Common.{◌≡◌, length, refl, sym, ◌∙◌, ap, subst
 use Rattle.std.specs.List.{slice_get}
 use Rattle.metalcheck.specs.SmallText.{bytes_of, spot_behind}
 use Rattle.metalcheck.specs.SmallFront.{piece_of, IsFront}
-use Rattle.metalcheck.specs.SmallTokens.{IsExtension, ArePushed, spot_of}
+use Rattle.metalcheck.specs.Extension.{IsExtension}
+use Rattle.metalcheck.specs.SmallTokens.{ArePushed, spot_of}
 use Rattle.metalcheck.proofs.SmallCutting.{cut_nothing, cut_more}
 use Rattle.metalcheck.proofs.SmallGrowth.{number_named, after_extends, extended_twice, length-names_after}
 use Rattle.metalcheck.proofs.small.text.read_text.Goals as goal
@@ -41,7 +42,7 @@ cutting-preserved c =
           (c.behind-cursor.ensures.spot spelled ∙ ap (λ l. spot_behind (piece_of c.in-Some.part l) (spot_of c.cutting.cursor)) c.split_at.ensures.front)
           moved.file moved.source;
       file = moved.file ∙ c.cutting.invariant.file;
-      kept = extended_twice _ _ _ c.cutting.invariant.kept c.in_ok-push_part.ensures.kept;
+      kept = extended_twice c.args.names.now c.cutting.names c.push_part.new.names c.cutting.invariant.kept c.in_ok-push_part.ensures.kept;
       room = omega (arith, some, fewer, split, c.cutting.invariant.room);
       start = omega (arith, moved.start, first, split, c.cutting.invariant.start);
       line = omega (arith, moved.start, moved.line, c.cutting.invariant.line);

@@ -1,5 +1,5 @@
 use Rattle.std.proofs.Common.{◌≡◌, ◌+◌, ◌≤◌, length}
-use Rattle.metalcheck.specs.SmallTokens.{IsExtension}
+use Rattle.metalcheck.specs.Extension.{IsExtension}
 use Rattle.metalcheck.proofs.SmallCutting.{IsCutTo}
 use Rattle.metalcheck.proofs.small.text.read_text.Given as goal
 

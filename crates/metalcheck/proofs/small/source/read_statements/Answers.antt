@@ -1,0 +1,60 @@
+use Rattle.std.proofs.Common.{◌≡◌, ◌≤◌, ◌<◌, ◌+◌, ◌∙◌, ◌∷◌, [], ◌==◌, true, ap, sym, subst, Some, codes, length, drop, arith}
+use Rattle.metalcheck.specs.SmallReading.{after, spellings}
+use Rattle.metalcheck.specs.SmallStatements.{read_count, statement_first, statement_of}
+use Rattle.metalcheck.proofs.SmallCheckers.{empty_list}
+use Rattle.metalcheck.proofs.SmallOptions.{after_some}
+use Rattle.metalcheck.proofs.SmallSources.{read_all, read_counted, read_one_more, read_some, statement_within}
+use Rattle.metalcheck.proofs.small.source.read_statements.Goals as goal
+
+pub returns-then-is_empty : goal.returns-then-is_empty
+returns-then-is_empty c =
+    let names = c.args.names.now in
+    let at = c.statements.at in
+    let brace : after (codes "}") (spellings names (drop at c.args.tokens.now)) ≡ Some (spellings names c.in-Some.end.now) =
+    subst (λ l. after (codes "}") (spellings names l) ≡ Some (spellings names c.in-Some.end.now)) c.split_at.ensures.back (sym c.in-Some.ensures) in
+    let empty : (length c.in-Some.end.now == 0) ≡ true = grind (arith, c.is_empty.ensures, c.if-is_empty.true) in
+    let over : spellings names c.in-Some.end.now ≡ [] = ap (spellings names) (empty_list c.in-Some.end.now empty) in
+    read_all names c.args.function.now c.args.parameter.now c.args.tokens.now at c.statements.trees.items c.statements.invariant.read (after_some (codes "}") _ _ brace ∙ ap (λ l. codes "}" ∷ l) over)
+
+pub statement_tree-requires : goal.statement_tree-requires
+statement_tree-requires c =
+    let names = c.args.names.now in
+    let s = c.in_ok-statement.statement in
+    let found : statement_first c.args.function.now c.args.parameter.now (spellings names (drop c.statements.at c.args.tokens.now)) ≡ Some (statement_of names s, spellings names c.in_ok-statement.field-0-1.now) =
+    subst (λ l. statement_first c.args.function.now c.args.parameter.now (spellings names l) ≡ Some (statement_of names s, spellings names c.in_ok-statement.field-0-1.now)) c.split_at.ensures.back
+    (sym (rw c.in_ok-statement.ensures.ok_part at c.read_statement.ensures)) in
+    omega (
+      arith,
+      statement_within names c.args.function.now c.args.parameter.now c.args.tokens.now c.statements.at (statement_of names s) _ c.statements.invariant.within found,
+      read_counted names s,
+    )
+
+pub statements-smaller : goal.statements-smaller
+statements-smaller c =
+    let names = c.args.names.now in
+    let s = c.in_ok-statement.statement in
+    let found : statement_first c.args.function.now c.args.parameter.now (spellings names (drop c.statements.at c.args.tokens.now)) ≡ Some (statement_of names s, spellings names c.in_ok-statement.field-0-1.now) =
+    subst (λ l. statement_first c.args.function.now c.args.parameter.now (spellings names l) ≡ Some (statement_of names s, spellings names c.in_ok-statement.field-0-1.now)) c.split_at.ensures.back
+    (sym (rw c.in_ok-statement.ensures.ok_part at c.read_statement.ensures)) in
+    omega (
+      arith,
+      statement_within names c.args.function.now c.args.parameter.now c.args.tokens.now c.statements.at (statement_of names s) _ c.statements.invariant.within found,
+      read_counted names s,
+      read_some s,
+      c.token_count.ensures,
+    )
+
+pub statements-preserved : goal.statements-preserved
+statements-preserved c =
+    let names = c.args.names.now in
+    let s = c.in_ok-statement.statement in
+    let found : statement_first c.args.function.now c.args.parameter.now (spellings names (drop c.statements.at c.args.tokens.now)) ≡ Some (statement_of names s, spellings names c.in_ok-statement.field-0-1.now) =
+    subst (λ l. statement_first c.args.function.now c.args.parameter.now (spellings names l) ≡ Some (statement_of names s, spellings names c.in_ok-statement.field-0-1.now)) c.split_at.ensures.back
+    (sym (rw c.in_ok-statement.ensures.ok_part at c.read_statement.ensures)) in
+    let within = statement_within names c.args.function.now c.args.parameter.now c.args.tokens.now c.statements.at (statement_of names s) _ c.statements.invariant.within found in
+    record {
+      read =
+          read_one_more names c.args.function.now c.args.parameter.now c.args.tokens.now c.statements.at _ c.statements.trees.items c.push.new.self.items (statement_of names s) _ _ c.statements.invariant.read found
+          (c.in_ok-statement_tree.ensures names) c.in_ok-push.ensures.items (ap (λ n. c.statements.at + n) (c.token_count.ensures ∙ sym (read_counted names s)));
+      within = omega (arith, within, read_counted names s, c.token_count.ensures);
+    }
