@@ -5,7 +5,6 @@ use Rattle.c_tree.specs.declared.punctuator.Punctuator.{Punctuator}
 use Rattle.c_tree.specs.Symbol.{Symbol, Reserved, Sign}
 
 infixl 30 ◌⨾◌
-
 pub data Phrase : Type 0 where
   nothing : Phrase
   one : Symbol → Phrase

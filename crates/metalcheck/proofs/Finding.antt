@@ -1,5 +1,5 @@
 -- The first element that passes a test.
-use Rattle.std.proofs.Common.{◌≡◌, Bool, true, false, ◌&&◌, cond, List, [], ◌∷◌, find, Option, Some, None, refl, ap, ◌∙◌}
+use Rattle.std.proofs.Common.{◌≡◌, Bool, true, false, ◌&&◌, cond, List, [], ◌∷◌, find, Some, None, refl, ap, ◌∙◌}
 
 pub and-true : (b : Bool) → (b && true) ≡ b
 and-true true = refl

@@ -1,5 +1,5 @@
 -- The two files of a request, one after the other: what is known once the first, and once the second, is read and judged.
-use Rattle.std.proofs.Common.{◌≡◌, ◌⊎◌, inl, inr, ℕ, zero, suc, ◌+◌, ◌-◌, ◌<◌, ◌≤◌, min, List, [], ◌∷◌, ◌++◌, length, slice_get, Option, Some, None, refl, sym, ap, ◌∙◌, subst, arith}
+use Rattle.std.proofs.Common.{◌≡◌, ℕ, ◌+◌, ◌-◌, ◌≤◌, min, List, [], ◌∷◌, ◌++◌, length, slice_get, Option, Some, refl, sym, ap, ◌∙◌, subst, arith}
 use Rattle.mx_base.specs.Names.{HasNoRepeats}
 use Rattle.mx_io.specs.Reads.{Stands}
 use Rattle.path_model.specs.declared.machine.Machine.{Machine}
@@ -13,9 +13,9 @@ use Rattle.path_model.specs.declared.machine.Target.TheVariants as targets
 use Rattle.path_model.specs.declared.report.Report.{Report}
 use Rattle.metalcheck.specs.declared.fault.Fault.{Fault}
 use Rattle.metalcheck.specs.Judged.{IsJudged}
-use Rattle.metalcheck.specs.Reading.{total_limit, file_limit, HasFault, IsSmall, IsSound, AreSound, IsTurn, FailedAt, FaultyAt, left_after}
+use Rattle.metalcheck.specs.Reading.{total_limit, file_limit, HasFault, IsSound, AreSound, IsTurn, FailedAt, FaultyAt}
 use Rattle.metalcheck.specs.SmallBody.{IsBody}
-use Rattle.metalcheck.specs.SmallChecker.{Checker, Origin, Start, State, Shape, Call, Dereference, Line, IsSmallChecker, IsMachine, IsSource, IsPattern, IsTarget, IsRule, AreRules, rules_of}
+use Rattle.metalcheck.specs.SmallChecker.{Checker, Origin, Start, State, Shape, Call, Dereference, Line, IsMachine, IsSource, IsPattern, IsTarget, AreRules, rules_of}
 use Rattle.metalcheck.specs.SmallSource as source
 use Rattle.metalcheck.specs.Stages.{IsLoaded, IsChecked}
 

@@ -1,7 +1,6 @@
 -- What a list has: its first element, and what its rest has.
 use Rattle.std.proofs.Common.{◌≡◌, ◌⊎◌, inl, inr, ℕ, zero, suc, ◌<◌, List, [], ◌∷◌, length, get_or, refl, sym, arith}
-use Rattle.std.specs.List.{Contains, cons_option}
-use Rattle.std.proofs.Common.{Option, Some, None}
+use Rattle.std.specs.List.{Contains}
 
 pub contains_first : {X : Type 0} (x : X) (xs : List X) → Contains (x ∷ xs) x
 contains_first x xs = (0, omega arith, refl)

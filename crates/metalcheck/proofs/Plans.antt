@@ -1,5 +1,5 @@
 -- Plans: what a run is due, by what its files came to.
-use Rattle.std.proofs.Common.{◌≡◌, ◌≢◌, ℕ, zero, suc, true, ◌<◌, List, [], ◌∷◌, length, map, get_or, slice_get, Option, Some, sym, ap, ◌∙◌, arith}
+use Rattle.std.proofs.Common.{◌≡◌, ℕ, zero, suc, true, ◌<◌, List, [], ◌∷◌, length, map, get_or, slice_get, Option, Some, sym, ap, ◌∙◌, arith}
 use Rattle.std.proofs.lemmas.List.{length-map}
 use Rattle.std.proofs.lemmas.Option.{slice_get_within}
 use Rattle.path_model.specs.declared.report.Report.{Report}
@@ -34,7 +34,12 @@ module _ {X : Type 0} (f : X → List ℕ) (words : List X) (told : List ℕ →
 
     pub refuses : (fault : Fault) → FaultyAt told (map f words) k fault → new ≡ old → line ≡ refused_line name fault → IsRefused told (map f words) old new text line
     refuses fault faulty same line-is = record {
-      request = request; position = k; fault = fault; faulty = faulty; none_failed = same; text_is = none;
+      request = request;
+      position = k;
+      fault = fault;
+      faulty = faulty;
+      none_failed = same;
+      text_is = none;
       line_is = line-is ∙ ap (λ n. refused_line n fault) (name_of_turn faulty.turn);
     }
 

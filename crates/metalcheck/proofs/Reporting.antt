@@ -1,25 +1,24 @@
 -- What simple statements report: the list that goes over the statements with the state of the parameter alone has exactly the
 -- reports of all paths, in order and each once.
-use Rattle.std.proofs.Common.{◌≡◌, ◌⊎◌, inl, inr, ℕ, suc, ◌+◌, ◌<◌, ◌≤◌, Bool, true, false, cond, List, [], ◌∷◌, ◌++◌, length, get_or, slice_get, Option, Some, None, refl, sym, ap, ◌∙◌, subst, append_assoc, append-nil, arith}
+use Rattle.std.proofs.Common.{◌≡◌, ◌⊎◌, inl, inr, ℕ, ◌+◌, ◌<◌, ◌≤◌, Bool, true, false, cond, List, [], ◌∷◌, ◌++◌, get_or, slice_get, Option, Some, None, refl, sym, ap, ◌∙◌, subst, append_assoc, append-nil, arith}
 use Rattle.std.proofs.lemmas.Option.{get_or_from_slice_get}
 use Rattle.std.proofs.lemmas.List.Elements.{All-contains_itself}
 use Rattle.std.proofs.lemmas.List.Kept.{AllPairs-cons}
 use Rattle.std.specs.Cmp.{nat_cmp_is}
 use Rattle.std.specs.List.{Contains, All, AllPairs, cons_option}
 use Rattle.std.specs.Ordering.{nat_cmp, ordering_then}
-use Rattle.std.specs.declared.cmp.Ordering.{Ordering}
-use Rattle.std.specs.declared.cmp.Ordering.TheVariants.{Less, Equal, Greater}
-use Rattle.c_tree.specs.Node.{Node, node, Nodes, no_more, more, Primary, Postfix, Unary, Ident, Call, Deref}
+use Rattle.std.specs.declared.cmp.Ordering.TheVariants.{Less, Equal}
+use Rattle.c_tree.specs.Node.{Node, node, Nodes, no_more, more, Primary, Ident}
 use Rattle.c_tree.specs.declared.place.Place.{Place}
 use Rattle.c_tree.specs.declared.token.Token.{Token}
 use Rattle.path_model.specs.declared.machine.Machine.{Machine}
 use Rattle.path_model.specs.declared.machine.Message.{Message}
 use Rattle.path_model.specs.declared.machine.Rule.{Rule}
 use Rattle.path_model.specs.declared.report.Report.{Report}
-use Rattle.path_model.specs.Events.{Event, Evaluated, Body, value_then, values_then, events_of, first_of, IsPath}
-use Rattle.path_model.specs.Objects.{Object, path_of, declared_by, same_object}
+use Rattle.path_model.specs.Events.{Event, Evaluated, Body, value_then, values_then, events_of, first_of}
+use Rattle.path_model.specs.Objects.{Object, same_object}
 use Rattle.path_model.specs.Order.{report_cmp, object_cmp, text_cmp}
-use Rattle.path_model.specs.Reports.{report_of, IsError, IsReported, AreReports}
+use Rattle.path_model.specs.Reports.{report_of, IsReported, AreReports}
 use Rattle.path_model.specs.States.{Map, nothing_known, taken, chosen, stepped, after_from}
 use Rattle.metalcheck.specs.Simple.{IsSimple, IsCall, IsDereference, IsPlaced, AreSimple, found, parameter_of, report_with, report_with_message, reported_then, reports_from}
 use Rattle.metalcheck.proofs.Members.{contains_first, contains_later, contains_cases, contains_none}

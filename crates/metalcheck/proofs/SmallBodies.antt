@@ -1,5 +1,5 @@
 -- The body of a small C file is simple: its statements are calls with the parameter and dereferences of it, one behind the other.
-use Rattle.std.proofs.Common.{◌≡◌, ◌≢◌, ℕ, zero, suc, ◌+◌, ◌<◌, ◌≤◌, true, false, List, [], ◌∷◌, ◌++◌, length, drop, flat_map, slice_get, Option, Some, None, refl, sym, ap, ◌∙◌, subst, add-zero, zero-add, suc-add, arith}
+use Rattle.std.proofs.Common.{◌≡◌, ◌≢◌, ℕ, zero, suc, ◌+◌, ◌<◌, ◌≤◌, true, false, List, [], ◌∷◌, ◌++◌, length, drop, flat_map, slice_get, Some, refl, sym, ap, ◌∙◌, subst, add-zero, zero-add, suc-add, arith}
 use Rattle.std.proofs.lemmas.Bool.{true≢false}
 use Rattle.std.proofs.lemmas.Option.{slice_get_within}
 use Rattle.std.proofs.lemmas.Slice.Eq.{bytes_eq-Decides}
@@ -13,7 +13,7 @@ use Rattle.c_tree.specs.declared.token.Token.{Token}
 use Rattle.path_model.specs.Events.{Body, first_of}
 use Rattle.metalcheck.specs.Simple.{IsSimple, IsPlaced, AreSimple}
 use Rattle.metalcheck.specs.Simple as simple
-use Rattle.metalcheck.specs.SmallBody.{IsCall, IsDereference, IsStatementNode, AreStatementNodes, token_count, IsBody}
+use Rattle.metalcheck.specs.SmallBody.{AreStatementNodes, IsBody}
 use Rattle.metalcheck.specs.SmallSource.{Source, Statement, IsStatement, statement_lexemes, source_lexemes, head_lexemes}
 use Rattle.metalcheck.specs.SmallSource as source
 use Rattle.metalcheck.specs.SmallText.{Lexeme, Word, Sign, Piece, Space, LineFeed, Spelled, Spot, spot_behind, lexemes_of, spelling, IsTokenOf, AreTokens}

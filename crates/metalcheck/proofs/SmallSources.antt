@@ -1,5 +1,5 @@
 -- A small C file, from what was read of it.
-use Rattle.std.proofs.Common.{◌≡◌, ◌≤◌, ◌<◌, ◌+◌, ℕ, zero, suc, Bool, true, false, not, ◌&&◌, List, [], ◌∷◌, ◌++◌, length, drop, map, Option, None, Some, ◌⊎◌, inl, inr, ap, refl, ◌∙◌, sym, subst, codes, arith, append_assoc, append-nil, length-append, add-zero}
+use Rattle.std.proofs.Common.{◌≡◌, ◌≤◌, ◌<◌, ◌+◌, ℕ, true, false, not, ◌&&◌, List, [], ◌∷◌, ◌++◌, length, drop, Some, inl, inr, ap, refl, ◌∙◌, sym, subst, codes, arith, append_assoc, append-nil, length-append}
 use Rattle.std.specs.List.{list_all, flat_map, All, slice_get, drop-map}
 use Rattle.std.specs.Str.{bytes_eq}
 use Rattle.std.proofs.Math.Seq.{drop-append_seam}
@@ -7,18 +7,18 @@ use Rattle.std.proofs.lemmas.Grind.{flat_map-append}
 use Rattle.std.proofs.lemmas.List.{length-map, length-drop, drop-drop}
 use Rattle.std.proofs.lemmas.List.Concat.{flat_map-cons}
 use Rattle.std.proofs.lemmas.List.Elements.{All-nil, All-push}
-use Rattle.c_tree.specs.Node.{Node, Nodes, no_more, more}
+use Rattle.c_tree.specs.Node.{Node}
 use Rattle.c_tree.specs.Views.{node_of, nodes_in}
 use Rattle.c_tree.specs.declared.place.Place.{Place}
-use Rattle.c_tree.specs.declared.punctuator.Punctuator.TheVariants.{OpenParen, CloseParen, OpenBrace, CloseBrace, Star, Semicolon}
+use Rattle.c_tree.specs.declared.punctuator.Punctuator.TheVariants.{CloseBrace}
 use Rattle.c_tree.specs.declared.token.Token.{Token}
 use Rattle.c_tree.specs.declared.tree.Tree.{Tree}
 use Rattle.path_model.specs.Events.{Body}
 use Rattle.metalcheck.specs.SmallNames.{is_name}
-use Rattle.metalcheck.specs.SmallText.{Lexeme, Word, Sign, IsTokenized, lexemes_of, first_spot, is_word}
-use Rattle.metalcheck.specs.SmallSource.{Statement, Call, Dereference, Source, statement_lexemes, head_lexemes, source_lexemes, IsStatement, IsSource, IsSmallSource}
+use Rattle.metalcheck.specs.SmallText.{Lexeme, Sign, IsTokenized, lexemes_of, first_spot, is_word}
+use Rattle.metalcheck.specs.SmallSource.{Statement, Call, Dereference, Source, statement_lexemes, source_lexemes, IsStatement, IsSource, IsSmallSource}
 use Rattle.metalcheck.specs.SmallBody.{IsCall, IsDereference, IsStatementNode, token_count, AreStatementNodes, IsBody}
-use Rattle.metalcheck.specs.SmallReading.{◌>>=◌, if_there, spelled, spellings, text_at, after, after_all, name_first}
+use Rattle.metalcheck.specs.SmallReading.{spelled, spellings, text_at, after, after_all, name_first}
 use Rattle.metalcheck.specs.SmallStatements.{source_head_first, callee_first, statement_first, statement_of, read_count, ReadsStatements, IsCallOf, IsDereferenceOf}
 use Rattle.metalcheck.specs.declared.small.source.ReadStatement.{ReadStatement}
 use Rattle.metalcheck.specs.declared.small.source.ReadStatement.TheVariants as read

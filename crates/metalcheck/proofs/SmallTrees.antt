@@ -1,5 +1,5 @@
 -- Lists of trees of one node.
-use Rattle.std.proofs.Common.{◌≡◌, ℕ, Bool, is_some, nat_eq, List, [], ◌∷◌, length, refl, arith}
+use Rattle.std.proofs.Common.{◌≡◌, is_some, nat_eq, List, [], ◌∷◌, length, refl, arith}
 use Rattle.c_tree.specs.declared.tree.Tree.{Tree}
 use Rattle.c_tree.specs.Views.{nodes_in}
 use Rattle.path_model.specs.States.{only}

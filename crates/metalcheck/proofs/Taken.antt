@@ -1,17 +1,16 @@
 -- The rules that objects take at the nodes of simple statements: names take none, and a statement asks the parameter alone.
-use Rattle.std.proofs.Common.{◌≡◌, ◌≢◌, ℕ, Bool, true, false, ◌&&◌, cond, if◌then◌else◌, is_some, List, [], ◌∷◌, find, Option, Some, None, nat_eq, refl, sym, ap, ◌∙◌, subst}
+use Rattle.std.proofs.Common.{◌≡◌, ℕ, Bool, true, false, ◌&&◌, cond, if◌then◌else◌, is_some, List, [], ◌∷◌, Option, Some, None, nat_eq, refl, sym, ap, ◌∙◌}
 use Rattle.std.proofs.lemmas.Bool.{eq-eqb, eqb-true, true≢false}
 use Rattle.std.specs.Option.{option_and_then, option_map_or}
-use Rattle.c_tree.specs.Node.{Node, node, Primary, Postfix, Unary, Ident, Call, Deref, no_more, more}
+use Rattle.c_tree.specs.Node.{Node, node, Primary, Ident}
 use Rattle.c_tree.specs.declared.place.Place.{Place}
 use Rattle.c_tree.specs.declared.token.Token.{Token}
 use Rattle.path_model.specs.declared.machine.Machine.{Machine}
 use Rattle.path_model.specs.declared.machine.Pattern.{Pattern}
 use Rattle.path_model.specs.declared.machine.Pattern.TheVariants as patterns
-use Rattle.path_model.specs.declared.machine.Rule.{Rule}
-use Rattle.path_model.specs.Events.{Event, Evaluated, Body}
+use Rattle.path_model.specs.Events.{Evaluated, Body}
 use Rattle.path_model.specs.Objects.{Object, Variable, Param, Selector, Star, same_object, same_variable, same_selectors, path_of, declared_by, object_of}
-use Rattle.path_model.specs.States.{Map, matched, fits, binds, taken, chosen, stepped}
+use Rattle.path_model.specs.States.{Map, matched, fits, taken, chosen, stepped}
 use Rattle.metalcheck.specs.Simple.{IsSimple, IsCall, IsDereference, found, parameter_of}
 use Rattle.metalcheck.proofs.Finding.{find-none, find-and, and-false, and-and}
 

@@ -1,5 +1,5 @@
 -- What a checker's text and a C file's text mean: the list of reports.
-use Rattle.std.specs.Prelude.{◌≡◌, ℕ, List, [], ◌∷◌, Option}
+use Rattle.std.specs.Prelude.{ℕ, List, [], ◌∷◌}
 use Rattle.mx_base.specs.Names.{HasNoRepeats}
 use Rattle.path_model.specs.declared.machine.Machine.{Machine}
 use Rattle.path_model.specs.declared.report.Report.{Report}

@@ -1,6 +1,6 @@
 -- Functions whose statements are calls with the parameter and dereferences of it, seen as the program goes over them: one
 -- statement after the other, with the state of the parameter alone. What this gives is the list of all reports.
-use Rattle.std.specs.Prelude.{◌≡◌, ◌≢◌, ◌≤◌, ◌<◌, ℕ, ◌+◌, Bool, true, false, ◌&&◌, is_some, List, [], ◌∷◌, ◌++◌, find, slice_get, get_or, Option, Some, None}
+use Rattle.std.specs.Prelude.{◌≡◌, ◌≢◌, ◌≤◌, ◌<◌, ℕ, ◌+◌, ◌&&◌, is_some, List, [], ◌++◌, find, slice_get, get_or, Option, Some, None}
 use Rattle.std.specs.List.{cons_option}
 use Rattle.c_tree.specs.Node.{Node, node, Nodes, no_more, more, Primary, Postfix, Unary, Ident, Call, Deref}
 use Rattle.c_tree.specs.declared.place.Place.{Place}

@@ -1,11 +1,10 @@
 -- What the stages of reading answer.
-use Rattle.std.specs.Prelude.{◌≡◌, ℕ, ◌-◌, ◌≤◌, ◌<◌, min, List, [], ◌∷◌, ◌++◌, length, Option, Result, Ok, Err, Vec}
+use Rattle.std.specs.Prelude.{◌≡◌, ℕ, ◌≤◌, ◌<◌, min, List, [], ◌∷◌, ◌++◌, length, Option, Result, Ok, Err, Vec}
 use Rattle.mx_io.specs.Reads.{Stands}
 use Rattle.path_model.specs.declared.machine.Machine.{Machine}
 use Rattle.path_model.specs.declared.report.Report.{Report}
 use Rattle.path_model.specs.Events.{Body}
 use Rattle.path_model.specs.Reports.{AreReports}
-use Rattle.metalcheck.specs.declared.fault.Fault.{Fault}
 use Rattle.metalcheck.specs.declared.fault.Fault.TheVariants as faults
 use Rattle.metalcheck.specs.declared.file.Missing.{Missing}
 use Rattle.metalcheck.specs.declared.file.Missing.TheVariants.{NotRead, TooLarge, NoMemory}
@@ -14,7 +13,7 @@ use Rattle.metalcheck.specs.declared.judge.Outcome.TheVariants as outcomes
 use Rattle.metalcheck.specs.declared.judge.Stopped.{Stopped}
 use Rattle.metalcheck.specs.declared.judge.Stopped.TheVariants as stops
 use Rattle.metalcheck.specs.Judged.{AreJudged}
-use Rattle.metalcheck.specs.Reading.{file_limit, IsSmall, IsSound, HasFault, AreSound, FailedAt, FaultyAt}
+use Rattle.metalcheck.specs.Reading.{file_limit, HasFault, AreSound, FailedAt, FaultyAt}
 use Rattle.metalcheck.specs.SmallBody.{IsBody}
 use Rattle.metalcheck.specs.SmallChecker.{Checker, IsSmallChecker, IsMachine}
 use Rattle.metalcheck.specs.SmallSource.{Source}

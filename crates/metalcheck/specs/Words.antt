@@ -1,5 +1,5 @@
 -- The words of the command.
-use Rattle.std.specs.Prelude.{ℕ, ◌-◌, Bool, true, false, ◌&&◌, not, nat_le, List, [], ◌∷◌, length, drop, ◌==◌, codes}
+use Rattle.std.specs.Prelude.{ℕ, ◌-◌, Bool, false, ◌&&◌, not, nat_le, List, [], ◌∷◌, length, drop, ◌==◌, codes}
 use Rattle.std.specs.Str.{bytes_eq}
 
 -- a word that begins with a minus sign

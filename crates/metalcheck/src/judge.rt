@@ -64,7 +64,10 @@ fn load_checker<F: Files>(
         Err(Missing::NoMemory) => return Err(Stopped::NoMemory),
     };
     match read_small_checker(alloc, &bytes, word.as_bytes(), names) {
-        Ok(machine) => Ok(Loaded { machine, size: bytes.len() as u64 }),
+        Ok(machine) => Ok(Loaded {
+            machine,
+            size: bytes.len() as u64,
+        }),
         Err(SmallFault::NotSmall) => Err(Stopped::Faulty(Fault::NotYet)),
         Err(SmallFault::NoMemory) => Err(Stopped::NoMemory),
     }

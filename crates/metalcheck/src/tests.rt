@@ -48,9 +48,16 @@ fn run_over(alloc: Global, words: &[&str], source: &[u8]) -> Result<Outcome, All
 
 #[test]
 fn a_freed_pointer_is_used(rt: HostRuntime) -> Result<(), Fail> {
-    let it = run_over(rt.alloc(), &["free.metal", "a.c"], b"void f(char *p){ kfree(p); *p; }")?;
+    let it = run_over(
+        rt.alloc(),
+        &["free.metal", "a.c"],
+        b"void f(char *p){ kfree(p); *p; }",
+    )?;
     assert_eq!(rt; it.status, Status::Reports);
-    assert_eq!(rt; it.out.as_slice(), b"a.c:1:28: free_checker: using p after free!\n".as_slice());
+    assert_eq!(rt;
+        it.out.as_slice(),
+        b"a.c:1:28: free_checker: using p after free!\n".as_slice()
+    );
     assert_eq!(rt; it.errs.len(), 0);
     Ok(())
 }

@@ -1,6 +1,6 @@
 -- Objects: access paths, a variable followed by selectors. The early form has the parameter of one function for a variable,
 -- and dereferences for selectors.
-use Rattle.std.specs.Prelude.{ℕ, ◌+◌, Bool, true, false, ◌&&◌, ◌==◌, nat_lt, if◌then◌else◌, List, [], ◌∷◌, ◌++◌, length, slice_get, unwrap_or, Option, Some, None}
+use Rattle.std.specs.Prelude.{ℕ, Bool, true, false, ◌&&◌, ◌==◌, nat_lt, if◌then◌else◌, List, [], ◌∷◌, ◌++◌, length, slice_get, unwrap_or, Option, Some, None}
 use Rattle.std.specs.Option.{option_and_then}
 use Rattle.c_tree.specs.Node.{Node, node, Primary, Unary, Ident, Deref}
 use Rattle.c_tree.specs.declared.token.Token.{Token}

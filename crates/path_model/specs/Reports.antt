@@ -1,5 +1,5 @@
 -- What a checker reports: the rules with a message that objects take on some path, in order and each once.
-use Rattle.std.specs.Prelude.{◌≡◌, ℕ, ◌≤◌, nat_le, if◌then◌else◌, List, [], ◌∷◌, ◌++◌, length, take, slice_get, unwrap_or, flat_map, AllPairs, Contains, Option, Some, codes}
+use Rattle.std.specs.Prelude.{◌≡◌, ℕ, nat_le, if◌then◌else◌, List, [], ◌∷◌, ◌++◌, length, take, slice_get, unwrap_or, flat_map, AllPairs, Contains, Some, codes}
 use Rattle.std.specs.Fmt.{decimal}
 use Rattle.std.specs.declared.cmp.Ordering.TheVariants.{Less}
 use Rattle.c_tree.specs.Node.{Node}

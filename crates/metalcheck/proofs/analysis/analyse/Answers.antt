@@ -1,4 +1,4 @@
-use Rattle.std.proofs.Common.{◌≡◌, ◌++◌, length, None, sym, ap, ◌∙◌, subst}
+use Rattle.std.proofs.Common.{◌++◌, length, None, sym, ap, ◌∙◌, subst}
 use Rattle.c_tree.proofs.Rows.{nodes_out}
 use Rattle.c_tree.specs.Views.{nodes_in, nodes_of}
 use Rattle.c_tree.specs.declared.tree.Trees.{out-Trees}

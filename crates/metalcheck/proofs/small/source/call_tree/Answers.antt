@@ -1,5 +1,5 @@
 use Rattle.std.proofs.Common.{◌≡◌, ◌∙◌, ap, ◌++◌, ◌∷◌, []}
-use Rattle.c_tree.specs.Node.{Nodes, node, more, no_more, Postfix, Call}
+use Rattle.c_tree.specs.Node.{node, more, no_more, Postfix, Call}
 use Rattle.c_tree.specs.Views.{node_of, nodes_of, nodes_in}
 use Rattle.c_tree.proofs.Rows.{nodes_roll}
 use Rattle.c_tree.specs.declared.tree.Trees.{roll-Trees}

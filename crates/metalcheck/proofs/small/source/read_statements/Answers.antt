@@ -1,6 +1,6 @@
-use Rattle.std.proofs.Common.{◌≡◌, ◌≤◌, ◌<◌, ◌+◌, ◌∙◌, ◌∷◌, [], ◌==◌, true, ap, sym, subst, Some, codes, length, drop, arith}
+use Rattle.std.proofs.Common.{◌≡◌, ◌+◌, ◌∙◌, ◌∷◌, [], ◌==◌, true, ap, sym, subst, Some, codes, length, drop, arith}
 use Rattle.metalcheck.specs.SmallReading.{after, spellings}
-use Rattle.metalcheck.specs.SmallStatements.{read_count, statement_first, statement_of}
+use Rattle.metalcheck.specs.SmallStatements.{statement_first, statement_of}
 use Rattle.metalcheck.proofs.SmallCheckers.{empty_list}
 use Rattle.metalcheck.proofs.SmallOptions.{after_some}
 use Rattle.metalcheck.proofs.SmallSources.{read_all, read_counted, read_one_more, read_some, statement_within}
