@@ -3,6 +3,7 @@ pub mod Members
 pub mod Reporting
 pub mod SmallBodies
 pub mod SmallCheckers
+pub mod SmallComplete
 pub mod SmallCutting
 pub mod SmallGrowth
 pub mod SmallLines
@@ -14,6 +15,7 @@ pub mod SmallSections
 pub mod SmallShapes
 pub mod SmallSources
 pub mod SmallTrees
+pub mod SmallUnique
 pub mod Statements
 pub mod Taken
 pub mod Writing
