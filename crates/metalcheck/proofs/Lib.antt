@@ -5,6 +5,7 @@ pub mod Plans
 pub mod Reporting
 pub mod SmallBodies
 pub mod SmallCheckers
+pub mod SmallComplete
 pub mod SmallCutting
 pub mod SmallGrowth
 pub mod SmallLines
@@ -16,6 +17,7 @@ pub mod SmallSections
 pub mod SmallShapes
 pub mod SmallSources
 pub mod SmallTrees
+pub mod SmallUnique
 pub mod Statements
 pub mod Statuses
 pub mod Taken

@@ -9,7 +9,7 @@ use Rattle.std.proofs.lemmas.Option.{slice_get_within, get_or_from_slice_get}
 use Rattle.metalcheck.specs.declared.small.text.Part.{Part}
 use Rattle.metalcheck.specs.declared.small.text.Part.TheVariants as parts
 use Rattle.metalcheck.specs.SmallText.{bytes_of, is_piece, is_word_piece, is_word, is_word_byte, is_letter, is_plain}
-use Rattle.metalcheck.specs.SmallFront.{IsFront, piece_of, starts_word, inside_quotes}
+use Rattle.metalcheck.specs.SmallFront.{IsFront, piece_of, starts_word, starts_quote, inside_quotes}
 
 -- what is cut off in front stands there
 front_made : (rest xs ys : List ℕ) (part : Part) (len : ℕ) → rest ≡ xs ++ ys → len ≡ length xs → 0 < length xs
@@ -68,16 +68,20 @@ inside_quoted s =
     let counted : length (34 ∷ (s ++ 34 ∷ [])) - 2 ≡ length s = omega (arith, length-append s (34 ∷ [])) in
     ap (λ n. take n (s ++ 34 ∷ [])) counted ∙ take-append_seam s (34 ∷ [])
 
-pub quoted_front : (bs : List ℕ) (n : ℕ) → n ≡ length (take_while is_plain bs) → slice_get bs n ≡ Some 34 → IsFront (34 ∷ bs) parts.Quoted (n + 2)
+quote_first : (l : List ℕ) → starts_quote l ≡ true → (ys : List ℕ) × (l ≡ 34 ∷ ys)
+quote_first [] h = cc
+quote_first (b ∷ bs) h =
+    let same : b ≡ 34 = grind (arith, h) in
+    (bs, ap (λ x. x ∷ bs) same)
+
+pub quoted_front : (bs : List ℕ) (n : ℕ) → n ≡ length (take_while is_plain bs) → starts_quote (drop n bs) ≡ true → IsFront (34 ∷ bs) parts.Quoted (n + 2)
 quoted_front bs n counted closed =
     let here : n ≡ prefix_len is_plain bs = counted ∙ length-prefix_len is_plain bs in
-    let within : n < length bs = slice_get_within bs n 34 closed in
-    let quote : get_or bs n 0 ≡ 34 = get_or_from_slice_get bs n 34 0 closed in
+    let q = quote_first (drop n bs) closed in
     let s : List ℕ = take_while is_plain bs in
-    let rest : bs ≡ s ++ (34 ∷ drop (suc n) bs) =
-    run_then is_plain bs ∙ ap (λ k. s ++ drop k bs) (sym here) ∙ ap (λ l. s ++ l) (drop-cons bs n 0 within) ∙ ap (λ b. s ++ (b ∷ drop (suc n) bs)) quote in
-    front_made (34 ∷ bs) (34 ∷ (s ++ 34 ∷ [])) (drop (suc n) bs) parts.Quoted (n + 2)
-    (ap (λ l. 34 ∷ l) (rest ∙ sym (append_assoc s (34 ∷ []) (drop (suc n) bs))))
+    let rest : bs ≡ s ++ (34 ∷ q.0) = run_then is_plain bs ∙ ap (λ k. s ++ drop k bs) (sym here) ∙ ap (λ l. s ++ l) q.1 in
+    front_made (34 ∷ bs) (34 ∷ (s ++ 34 ∷ [])) q.0 parts.Quoted (n + 2)
+    (ap (λ l. 34 ∷ l) (rest ∙ sym (append_assoc s (34 ∷ []) q.0)))
     (omega (arith, length-append s (34 ∷ [])))
     (omega arith)
     (ap (list_all is_plain) (inside_quoted s) ∙ run_passes is_plain bs)

@@ -3,8 +3,8 @@
 ghost use Rattle.std.specs.Prelude.{◌≡◌, ◌+◌, ◌<◌, ◌≤◌, ◌^◌, ℕ, List, [], ◌∷◌, length, slice_get, IfOk, IfSome, OnOk};
 ghost use Rattle.std.specs.List.{take_while};
 ghost use Rattle.metalcheck.specs.SmallText.{is_letter, is_plain, is_word_byte, sign_bytes, word_kind};
-ghost use Rattle.metalcheck.specs.SmallFront.{IsFront, kind_of_piece, piece_of};
-ghost use Rattle.metalcheck.specs.SmallText.{IsTokenized, bytes_of, spot_behind};
+ghost use Rattle.metalcheck.specs.SmallFront.{IsFront, arrow_first, front_first, kind_of_piece, piece_of, quoted_first, sign_first, starts_quote};
+ghost use Rattle.metalcheck.specs.SmallText.{IsCut, IsTokenized, Piece, bytes_of, spot_behind};
 ghost use Rattle.metalcheck.specs.Extension.{IsExtension};
 ghost use Rattle.metalcheck.specs.SmallTokens.{ArePushed, HasRoom, IsMoved, spot_of};
 
@@ -86,7 +86,8 @@ fn plain_len(bytes: &[u8]) -> usize
 
 /// The punctuator of one byte.
 fn sign_of(byte: u8) -> Option<Punctuator>
-    ensures { IfSome result (λ p. sign_bytes p ≡ byte ∷ []) }
+    ensures one { IfSome result (λ p. sign_bytes p ≡ byte ∷ []) }
+    ensures first { result ≡ sign_first byte }
 {
     match byte {
         b'(' => Some(Punctuator::OpenParen),
@@ -105,7 +106,8 @@ fn sign_of(byte: u8) -> Option<Punctuator>
 
 /// The part in front, and how many bytes it has.
 fn front_of(rest: &[u8]) -> Option<(Part, usize)>
-    ensures { IfSome result (λ front. IsFront rest.now front.0 front.1) }
+    ensures front { IfSome result (λ front. IsFront rest.now front.0 front.1) }
+    ensures first { result ≡ front_first rest.now }
 {
     let (first, behind) = rest.split_first()?;
     match *first {
@@ -126,22 +128,38 @@ fn front_of(rest: &[u8]) -> Option<(Part, usize)>
 
 /// The rest of a string, whose first quote stands before these bytes.
 fn quoted(behind: &[u8]) -> Option<(Part, usize)>
-    ensures { IfSome result (λ front. IsFront (34 ∷ behind.now) front.0 front.1) }
+    ensures front { IfSome result (λ front. IsFront (34 ∷ behind.now) front.0 front.1) }
+    ensures first { result ≡ quoted_first behind.now }
 {
     let len = plain_len(behind);
-    match behind.get(len) {
-        Some(b'"') => Some((Part::Quoted, len + 2)),
-        _ => None,
+    let (_, end) = behind.split_at(len);
+    if starts_quote(end) {
+        Some((Part::Quoted, len + 2))
+    } else {
+        None
+    }
+}
+
+fn starts_quote(bytes: &[u8]) -> bool
+    ensures { result ≡ starts_quote bytes.now }
+{
+    match bytes.split_first() {
+        None => false,
+        Some((first, _)) => *first == b'"',
     }
 }
 
 /// The rest of `==>`.
 fn long_arrow(behind: &[u8]) -> Option<(Part, usize)>
-    ensures { IfSome result (λ front. IsFront (61 ∷ behind.now) front.0 front.1) }
+    ensures front { IfSome result (λ front. IsFront (61 ∷ behind.now) front.0 front.1) }
+    ensures first { result ≡ arrow_first behind.now }
 {
-    match behind {
-        [b'=', b'>', ..] => Some((Part::Sign(Punctuator::LongArrow), 3)),
-        _ => None,
+    let (first, others) = behind.split_first()?;
+    let (second, _) = others.split_first()?;
+    if *first == b'=' && *second == b'>' {
+        Some((Part::Sign(Punctuator::LongArrow), 3))
+    } else {
+        None
     }
 }
 
@@ -266,6 +284,7 @@ pub fn read_text(
     ensures ok { IfOk result (λ tokens. IsTokenized names.new file word.now bytes.now tokens.items) }
     ensures kept { IsExtension names.old names.new }
     ensures room { length names.new ≤ length names.old + length bytes.now + 1 }
+    ensures not_small { result ≡ Err SmallFault.NotSmall → (pieces : List Piece) → IsCut bytes.now pieces → ⊥ }
 {
     let source = names.intern(word)?;
     let mut tokens = Vec::new(alloc);

@@ -1,4 +1,5 @@
-use Rattle.std.proofs.Common.{◌≡◌, ◌+◌, ◌≤◌, length}
+use Rattle.std.proofs.Common.{◌≡◌, ◌+◌, ◌≤◌, List, length}
+use Rattle.metalcheck.specs.SmallText.{IsCut, Piece}
 use Rattle.metalcheck.specs.Extension.{IsExtension}
 use Rattle.metalcheck.proofs.SmallCutting.{IsCutTo}
 use Rattle.metalcheck.proofs.small.text.read_text.Given as goal
@@ -6,6 +7,7 @@ use Rattle.metalcheck.proofs.small.text.read_text.Given as goal
 abbrev pub invariant-cutting : goal.invariant-cutting
 invariant-cutting l = record {
   cut : IsCutTo l.names l.word l.bytes l.rest l.cursor l.tokens.items;
+  possible : (whole : List Piece) → IsCut l.bytes whole → (pieces : List Piece) × IsCut l.rest pieces;
   file : l.cursor.file ≡ l.file;
   kept : IsExtension l.fn.names l.names;
   room : length l.names + length l.rest ≤ length l.fn.names + length l.bytes + 1;
