@@ -1,3 +1,4 @@
+pub mod Complete
 pub mod Finding
 pub mod Judging
 pub mod Members

@@ -1,10 +1,12 @@
 -- What a run does: it stops for want of memory before the first write, or carries out what it is due.
-use Rattle.std.specs.Prelude.{◌≡◌, ℕ, ◌⊎◌, List, [], Option}
+use Rattle.std.specs.Prelude.{◌≡◌, ◌≢◌, ℕ, ◌⊎◌, List, [], ◌∷◌, Option, Some}
+use Rattle.mx_io.specs.Causes.{Rose}
 use Rattle.path_model.specs.declared.report.Report.{Report}
 use Rattle.path_model.specs.Reports.{text_of}
 use Rattle.metalcheck.specs.declared.status.Status.{Status}
-use Rattle.metalcheck.specs.declared.status.Status.TheVariants.{NoMemory}
+use Rattle.metalcheck.specs.declared.status.Status.TheVariants.{Clean, Reports, NoMemory}
 use Rattle.metalcheck.specs.Due.{IsDue, FailedInTurn, IsAccepted, IsRefused, IsLacking}
+use Rattle.metalcheck.specs.Judged.{AreJudged}
 use Rattle.metalcheck.specs.Written.{SinkStep, Written, Took}
 
 abbrev pub sink_step : Option (List ℕ) → Option (List ℕ) → ℕ → ℕ → SinkStep
@@ -54,3 +56,22 @@ pub record Misses (told : List ℕ → Option (List ℕ)) (names old new : List 
   pub cause : IsLacking told names old new [] line
   pub nothing : Took out []
   pub printed : Took errs line
+
+-- all contents are told, and these are they
+abbrev pub Tells : (List ℕ → Option (List ℕ)) → List (List ℕ) → List (List ℕ) → Type 0
+Tells told [] [] = Unit {0}
+Tells told [] (b ∷ bs) = ⊥
+Tells told (n ∷ ns) [] = ⊥
+Tells told (n ∷ ns) (b ∷ bs) = (told n ≡ Some b) × Tells told ns bs
+
+-- no call failed by this count
+abbrev pub NoRise : ℕ → ℕ → Type 0
+NoRise before now = Rose before now → ⊥
+
+-- the reports of these contents were printed, and nothing else, and the status says whether there are any
+pub record Completes (names texts : List (List ℕ)) (result : Status) (out errs : SinkStep) : Type 0 where
+  pub reports : List Report
+  pub judged : AreJudged names texts reports
+  pub status : ((result ≡ Clean) × (reports ≡ [])) ⊎ ((result ≡ Reports) × (reports ≢ []))
+  pub printed : Took out (text_of reports)
+  pub nothing : Took errs []

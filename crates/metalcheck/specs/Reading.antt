@@ -26,7 +26,7 @@ pub record IsSound (position left : ℕ) (bytes : List ℕ) : Type 0 where
 -- a file with a fault
 abbrev pub HasFault : ℕ → ℕ → List ℕ → Fault → Type 0
 HasFault position left bytes TooLarge = min file_limit left < length bytes
-HasFault position left bytes NotYet = length bytes ≤ min file_limit left
+HasFault position left bytes NotYet = (length bytes ≤ min file_limit left) × (IsSmall position bytes → ⊥)
 
 -- how many bytes may still come after these files
 abbrev pub left_after : ℕ → List (List ℕ) → ℕ

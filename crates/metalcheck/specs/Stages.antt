@@ -64,7 +64,7 @@ pub record HasReports (names : List (List ℕ)) (word bytes : List ℕ) (machine
 -- why the bytes of a C file gave nothing
 abbrev pub IsUnread : List ℕ → Stopped → Type 0
 IsUnread bytes stops.NotRead = ⊥
-IsUnread bytes (stops.Faulty faults.NotYet) = Unit {0}
+IsUnread bytes (stops.Faulty faults.NotYet) = IsSmall 1 bytes → ⊥
 IsUnread bytes (stops.Faulty faults.TooLarge) = ⊥
 IsUnread bytes stops.NoMemory = Unit {0}
 

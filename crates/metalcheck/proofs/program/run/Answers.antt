@@ -1,3 +1,4 @@
+use Rattle.metalcheck.proofs.Complete.{complete, faulty}
 use Rattle.metalcheck.proofs.Statuses.{clean, reports, usage, refused, read_fault, write_fault, no_request, failed}
 use Rattle.metalcheck.proofs.program.run.Goals as goal
 
@@ -24,3 +25,11 @@ returns-clause-no_request g c e = no_request _ _ _ _ _ _ _ c.decide_and_write.en
 
 pub returns-clause-failed : goal.returns-clause-failed
 returns-clause-failed g c e = failed _ _ _ _ _ _ _ c.decide_and_write.ensures e
+
+pub returns-clause-complete : goal.returns-clause-complete
+returns-clause-complete g c texts request tells sound same no-out no-errs ne =
+    complete _ _ _ _ texts _ _ _ request tells same sound c.decide_and_write.ensures no-out no-errs ne
+
+pub returns-clause-faulty : goal.returns-clause-faulty
+returns-clause-faulty g c texts position fault request tells first same =
+    faulty _ _ _ _ texts _ _ _ request tells same position fault first c.decide_and_write.ensures
