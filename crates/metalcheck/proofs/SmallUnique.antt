@@ -81,7 +81,7 @@ front_complete (Spelled (Quoted s)) r h k =
     let run : take_while is_plain (s ++ (34 ∷ r)) ≡ s = run_stopped is_plain s 34 r h refl in
     let counted : length (take_while is_plain (s ++ (34 ∷ r))) ≡ length s = ap length run in
     let closed : starts_quote (drop (length (take_while is_plain (s ++ (34 ∷ r)))) (s ++ (34 ∷ r))) ≡ true =
-        ap (λ n. starts_quote (drop n (s ++ (34 ∷ r)))) counted ∙ ap starts_quote (drop-append_seam s (34 ∷ r)) in
+    ap (λ n. starts_quote (drop n (s ++ (34 ∷ r)))) counted ∙ ap starts_quote (drop-append_seam s (34 ∷ r)) in
     let len : length (take_while is_plain (s ++ (34 ∷ r))) + 2 ≡ length (34 ∷ (s ++ 34 ∷ [])) = omega (arith, counted, length-append s (34 ∷ [])) in
     (parts.Quoted, ap quoted_first joined ∙ go (starts_quote (drop (length (take_while is_plain (s ++ (34 ∷ r)))) (s ++ (34 ∷ r)))) _ _ closed ∙ ap (λ n. Some (parts.Quoted, n)) len)
 

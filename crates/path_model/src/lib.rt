@@ -5,6 +5,8 @@ mod function;
 mod machine;
 mod order;
 mod report;
+#[cfg(test)]
+mod tests;
 
 pub use function::Function;
 pub use machine::{Machine, Message, Pattern, Rule, Source, Target};
