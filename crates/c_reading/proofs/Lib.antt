@@ -1,0 +1,5 @@
+pub mod Tests
+pub mod Runs
+pub mod Literals
+pub mod Comments
+pub mod Tables

@@ -1,0 +1,10 @@
+pub mod Bytes
+pub mod Runs
+pub mod Words
+pub mod Punctuators
+pub mod Constants
+pub mod Spellings
+pub mod Markers
+pub mod Pieces
+pub mod Reading
+pub mod Cutting

@@ -1,0 +1,6 @@
+//! What it means to read bytes as the tokens of C or of a checker: the definition, and proofs about it.
+#![tactic(auto)]
+
+mod mode;
+
+pub use mode::Mode;
