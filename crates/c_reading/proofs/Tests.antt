@@ -1,6 +1,7 @@
 -- Tests that are true or false, and choices by them.
-use Rattle.std.proofs.Common.{◌≡◌, ℕ, ◌+◌, eqb, eq-eqb, Bool, true, false, cond, ◌&&◌, ◌||◌, not, Option, None, Some, option_map, ◌⊎◌, inl, inr, refl, arith}
+use Rattle.std.proofs.Common.{◌≡◌, ℕ, suc, ◌+◌, eqb, eq-eqb, Bool, true, false, cond, ◌&&◌, ◌||◌, not, Option, None, Some, option_map, ◌⊎◌, inl, inr, refl, arith}
 use Rattle.std.proofs.lemmas.Bool.{eqb-true}
+use Rattle.std.proofs.lemmas.Bool.Decides.{nat_tests}
 
 -- a test is true or false
 pub cases : (b : Bool) → (b ≡ true) ⊎ (b ≡ false)
@@ -55,3 +56,9 @@ same a b h = eqb-true a b h
 
 pub same_true : (a b : ℕ) → a ≡ b → eqb a b ≡ true
 same_true a b h = eq-eqb a b h
+
+pub not_zero : (n : ℕ) → eqb (suc n) 0 ≡ false
+not_zero n = grind (arith, nat_tests)
+
+pub unequal : (a b : ℕ) → (a ≡ b → ⊥) → eqb a b ≡ false
+unequal a b h = grind (arith, nat_tests)
