@@ -154,8 +154,74 @@ fronts_quote mode bs None h n = absurd (omega arith)
 fronts_quote mode bs (Some n) h k = fronts_literal mode bs n h
 
 pub spelling-taken : (mode : Mode) (bs : List ℕ) → 0 < spelling_len mode bs → Fronts mode bs (spelling_len mode bs)
-spelling-taken mode [] h = absurd (empty h)
+unfolding spelling_len
+spelling-taken mode [] h = absurd (omega arith)
+spelling-taken mode (c ∷ cs) h = by (is_letter c) (begins_number (c ∷ cs)) (is_quote c) refl refl refl h
   where
-    empty : 0 < spelling_len mode [] → ⊥
-    empty k = ?
-spelling-taken mode (c ∷ cs) h = ?
+    by : (l n q : Bool) → is_letter c ≡ l → begins_number (c ∷ cs) ≡ n → is_quote c ≡ q →
+        0 < cond l (word_or_literal (c ∷ cs)) (cond n (number_len (c ∷ cs)) (cond q (or_zero (literal_len (c ∷ cs))) (punctuator_len mode (c ∷ cs)))) →
+        Fronts mode (c ∷ cs) (cond l (word_or_literal (c ∷ cs)) (cond n (number_len (c ∷ cs)) (cond q (or_zero (literal_len (c ∷ cs))) (punctuator_len mode (c ∷ cs)))))
+    by true n q e f g k = fronts_letter mode c cs (literal_len (c ∷ cs)) e refl
+    by false true q e f g k = record { spelling = number_is mode (take (number_len (c ∷ cs)) (c ∷ cs)) (number-taken c cs f); within = number-le (c ∷ cs) }
+    by false false true e f g k = fronts_quote mode (c ∷ cs) (literal_len (c ∷ cs)) refl k
+    by false false false e f g k =
+        let p = punctuator-taken mode (c ∷ cs) k in
+        record { spelling = punctuator_is mode (take (punctuator_len mode (c ∷ cs)) (c ∷ cs)) p.found; within = p.within }
+
+pub spelling-bound : (mode : Mode) (s r : List ℕ) → is_spelling mode s ≡ true → length s ≤ spelling_len mode (s ++ r)
+unfolding is_spelling
+spelling-bound mode s r h = elim (either (is_word s) (is_number s || (is_literal s || is_some (punctuator_of mode s))) h) as (λ _. length s ≤ spelling_len mode (s ++ r)) [
+    | inl w ↦ bound_word mode s r w
+    | inr t ↦ elim (either (is_number s) (is_literal s || is_some (punctuator_of mode s)) t) as (λ _. length s ≤ spelling_len mode (s ++ r)) [
+        | inl n ↦ bound_number mode s r n
+        | inr u ↦ elim (either (is_literal s) (is_some (punctuator_of mode s)) u) as (λ _. length s ≤ spelling_len mode (s ++ r)) [
+            | inl l ↦ bound_literal mode s r l
+            | inr p ↦ bound_punctuator mode s r p
+          ]
+      ]
+  ]
+
+-- ---- the computed length and the longest spelling
+
+pub empty_no_spelling : (mode : Mode) → is_spelling mode [] ≡ true → ⊥
+unfolding is_spelling is_word is_number is_literal
+empty_no_spelling mode t = let f = punctuator_first mode [] t in let e = f.is in cc
+
+-- the longest spelling is as long as is computed
+pub longest_len : (mode : Mode) (s rest : List ℕ) → IsLongest mode s rest → spelling_len mode (s ++ rest) ≡ length s
+longest_len mode s rest i =
+    let b = spelling-bound mode s rest i.spelling in
+    let n = spelling_len mode (s ++ rest) in
+    let nonempty : 0 < n = positive mode s (omega arith) i.spelling in
+    let t = spelling-taken mode (s ++ rest) nonempty in
+    let w = t.within in
+    let more = take (n - length s) rest in
+    let others = drop (n - length s) rest in
+    let split : rest ≡ more ++ others = sym (take-append-drop (n - length s) rest) in
+    let fits : n - length s ≤ length rest = omega (arith, length-append s rest) in
+    let m : length more ≡ n - length s = length-take-le (n - length s) rest fits in
+    let size : length (s ++ more) ≡ n = omega (arith, length-append s more) in
+    let whole : s ++ rest ≡ (s ++ more) ++ others = ap (λ l. s ++ l) split ∙ sym (append_assoc s more others) in
+    let front : take n (s ++ rest) ≡ s ++ more = ap (take n) whole ∙ take_at (s ++ more) others n size in
+    let none : more ≡ [] = i.longest more others split (ap (is_spelling mode) (sym front) ∙ t.spelling) in
+    let zero : length more ≡ 0 = ap length none in
+    omega arith
+  where
+    positive : (mode : Mode) (s : List ℕ) → length s ≤ spelling_len mode (s ++ rest) → is_spelling mode s ≡ true → 0 < spelling_len mode (s ++ rest)
+    positive mode [] b h = absurd (empty_no_spelling mode h)
+    positive mode (c ∷ cs) b h = omega arith
+
+-- as many bytes as are computed are the longest spelling
+pub len_longest : (mode : Mode) (bs : List ℕ) → 0 < spelling_len mode bs → IsLongest mode (take (spelling_len mode bs) bs) (drop (spelling_len mode bs) bs)
+len_longest mode bs h =
+    let n = spelling_len mode bs in
+    let t = spelling-taken mode bs h in
+    record {
+      spelling = t.spelling;
+      longest = λ more others e k.
+        let s = take n bs in
+        let whole : (s ++ more) ++ others ≡ bs = append_assoc s more others ∙ ap (λ l. s ++ l) (sym e) ∙ take-append-drop n bs in
+        let b : length (s ++ more) ≤ n = rw (ap (spelling_len mode) whole) at (spelling-bound mode (s ++ more) others k) in
+        let m : length s ≡ n = length-take-le n bs t.within in
+        nil_from_length more (omega (arith, length-append s more));
+    }
