@@ -6,3 +6,4 @@ pub mod Tables
 pub mod ByteFacts
 pub mod Classes
 pub mod Longest
+pub mod OnePiece
