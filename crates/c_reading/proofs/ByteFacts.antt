@@ -1,9 +1,9 @@
 -- How the classes of bytes lie to each other.
-use Rattle.std.proofs.Common.{◌≡◌, ℕ, ◌+◌, ◌≤◌, ◌<◌, Bool, true, false, cond, not, ◌&&◌, ◌||◌, ◌⊎◌, eqb, leb, List, [], ◌∷◌, inl, inr, refl, ap, sym, ◌∙◌, subst, arith}
+use Rattle.std.proofs.Common.{◌≡◌, ℕ, true, false, ◌&&◌, ◌||◌, ◌⊎◌, eqb, List, [], ◌∷◌, inl, inr, refl, arith}
 use Rattle.std.proofs.lemmas.Bool.Decides.{nat_tests}
 use Rattle.c_reading.specs.Spellings.{begins_number}
 use Rattle.c_reading.proofs.Tests.{cases, both, either, same}
-use Rattle.c_reading.specs.Bytes.{within, is_digit, is_letter, is_word_byte, is_quote, is_gap, is_blank, begins}
+use Rattle.c_reading.specs.Bytes.{is_digit, is_letter, is_word_byte, is_quote}
 
 pub letter_no_digit : (c : ℕ) → is_letter c ≡ true → is_digit c ≡ false
 unfolding is_letter is_digit
@@ -45,9 +45,9 @@ quote_no_number c (d ∷ ds) h = rw (quote_no_digit c h, quote_no_dot c h) refl
 pub number_first : (c : ℕ) (cs : List ℕ) → begins_number (c ∷ cs) ≡ true → (is_digit c ≡ true) ⊎ ((c ≡ 46) × (d : ℕ) × (ds : List ℕ) × (cs ≡ d ∷ ds) × (is_digit d ≡ true))
 number_first c [] h = inl h
 number_first c (d ∷ ds) h = elim (either (is_digit c) (eqb c 46 && is_digit d) h) [
-    | inl e ↦ inl e
-    | inr e ↦ let b = both (eqb c 46) (is_digit d) e in inr (same c 46 b.0, d, ds, refl, b.1)
-  ]
+  | inl e ↦ inl e
+  | inr e ↦ let b = both (eqb c 46) (is_digit d) e in inr (same c 46 b.0, d, ds, refl, b.1)
+]
 
 pub digit_begins : (c : ℕ) (cs : List ℕ) → is_digit c ≡ true → begins_number (c ∷ cs) ≡ true
 digit_begins c [] h = h
@@ -55,6 +55,6 @@ digit_begins c (d ∷ ds) h = rw h refl
 
 pub number_no_letter : (c : ℕ) (cs : List ℕ) → begins_number (c ∷ cs) ≡ true → is_letter c ≡ false
 number_no_letter c cs h = elim (cases (is_letter c)) as (λ _. is_letter c ≡ false) [
-    | inl e ↦ cc (letter_no_number c cs e)
-    | inr e ↦ e
-  ]
+  | inl e ↦ cc (letter_no_number c cs e)
+  | inr e ↦ e
+]

@@ -1,17 +1,17 @@
 -- Of each class of spellings: the longest in front is as long as is computed.
-use Rattle.std.proofs.Common.{◌≡◌, ℕ, suc, zero, ◌+◌, ◌≤◌, ◌<◌, Bool, true, false, cond, not, ◌&&◌, ◌||◌, eqb, leb, List, [], ◌∷◌, ◌++◌, length, take, drop, Option, None, Some, is_some, inl, inr, refl, ap, sym, ◌∙◌, subst, arith, length-append}
+use Rattle.std.proofs.Common.{◌≡◌, ℕ, suc, ◌+◌, ◌≤◌, ◌<◌, Bool, true, false, cond, not, ◌&&◌, eqb, List, [], ◌∷◌, ◌++◌, length, take, Option, None, Some, is_some, inl, inr, refl, ap, sym, ◌∙◌, subst, arith, length-append}
 use Rattle.std.specs.List.{list_all, prefix_len}
 use Rattle.std.proofs.lemmas.List.{take_at}
 use Rattle.std.proofs.lemmas.List.Sums.{prefix_len-le-length}
 use Rattle.c_reading.specs.declared.mode.Mode.{Mode}
 use Rattle.c_reading.specs.declared.mode.Mode.TheVariants.{C, Metal}
-use Rattle.c_reading.specs.Bytes.{is_digit, is_letter, is_word_byte, is_quote, begins}
+use Rattle.c_reading.specs.Bytes.{is_digit, is_letter, is_word_byte, is_quote}
 use Rattle.c_reading.specs.Runs.{goes_through, run_len}
 use Rattle.c_reading.specs.Words.{find_text}
 use Rattle.c_reading.specs.Punctuators.{punctuator_of, punctuators, singles, pairs, triples}
-use Rattle.c_reading.specs.Spellings.{is_word, is_number, is_literal, goes_on, begins_number, literal_len, unprefixed_len, or_zero}
+use Rattle.c_reading.specs.Spellings.{is_word, is_number, is_literal, goes_on, begins_number, literal_len, or_zero}
 use Rattle.c_reading.specs.Cutting.{word_len, number_len, punctuator_len, single_len, pair_len, triple_len}
-use Rattle.c_reading.proofs.Tests.{cases, both, either, not_true, taken, same, same_true}
+use Rattle.c_reading.proofs.Tests.{cases, both, either, not_true, same, same_true}
 use Rattle.c_reading.proofs.Runs.{prefix_passes, prefix_of_passes, run_goes, run_of_goes, run_len-le}
 use Rattle.c_reading.proofs.Literals.{literal-append, literal-front}
 use Rattle.c_reading.proofs.Tables.{found_passes}
@@ -37,9 +37,9 @@ pub word-le : (bs : List ℕ) → word_len bs ≤ length bs
 unfolding word_len
 word-le [] = omega arith
 word-le (c ∷ cs) = elim (cases (is_letter c)) as (λ _. word_len (c ∷ cs) ≤ length (c ∷ cs)) [
-    | inl e ↦ rw e (omega (arith, prefix_len-le-length is_word_byte cs))
-    | inr e ↦ rw e (omega arith)
-  ]
+  | inl e ↦ rw e (omega (arith, prefix_len-le-length is_word_byte cs))
+  | inr e ↦ rw e (omega arith)
+]
 
 pub word_first : (c : ℕ) (cs : List ℕ) → is_word (c ∷ cs) ≡ true → is_letter c ≡ true
 unfolding is_word
@@ -64,9 +64,9 @@ digit_goes_on p d h = rw (digit_word_byte d h) refl
 
 begins_taken : (c : ℕ) (cs : List ℕ) → begins_number (c ∷ cs) ≡ true → begins_number (c ∷ take (run_len goes_on c cs) cs) ≡ true
 begins_taken c cs h = elim (number_first c cs h) as (λ _. begins_number (c ∷ take (run_len goes_on c cs) cs) ≡ true) [
-    | inl e ↦ digit_begins c (take (run_len goes_on c cs) cs) e
-    | inr t ↦ by t.1 t.2 t.3 t.4
-  ]
+  | inl e ↦ digit_begins c (take (run_len goes_on c cs) cs) e
+  | inr t ↦ by t.1 t.2 t.3 t.4
+]
   where
     by : (d : ℕ) (ds : List ℕ) → cs ≡ d ∷ ds → is_digit d ≡ true → begins_number (c ∷ take (run_len goes_on c cs) cs) ≡ true
     by d ds e k =
@@ -82,9 +82,9 @@ pub number-le : (bs : List ℕ) → number_len bs ≤ length bs
 unfolding number_len
 number-le [] = omega arith
 number-le (c ∷ cs) = elim (cases (begins_number (c ∷ cs))) as (λ _. number_len (c ∷ cs) ≤ length (c ∷ cs)) [
-    | inl e ↦ rw e (omega (arith, run_len-le goes_on c cs))
-    | inr e ↦ rw e (omega arith)
-  ]
+  | inl e ↦ rw e (omega (arith, run_len-le goes_on c cs))
+  | inr e ↦ rw e (omega arith)
+]
 
 pub number-some : (c : ℕ) (cs : List ℕ) → begins_number (c ∷ cs) ≡ true → 1 ≤ number_len (c ∷ cs)
 unfolding number_len
@@ -159,7 +159,9 @@ plain_one a h =
     let p = both (not (is_letter a)) (not (is_digit a) && not (is_quote a)) h in
     let q = both (not (is_digit a)) (not (is_quote a)) p.1 in
     record {
-      first = a; rest = []; is = refl;
+      first = a;
+      rest = [];
+      is = refl;
       no_letter = not_true (is_letter a) p.0;
       no_digit = not_true (is_digit a) q.0;
       no_quote = not_true (is_quote a) q.1;
@@ -175,15 +177,17 @@ plain_more a b cs n h =
     let no_a = not_true (is_digit a) q.0 in
     let no_b = not_true (is_digit b) t.1 in
     record {
-      first = a; rest = b ∷ cs; is = refl;
+      first = a;
+      rest = b ∷ cs;
+      is = refl;
       no_letter = not_true (is_letter a) p.0;
       no_digit = no_a;
       no_quote = not_true (is_quote a) t.0;
       short = omega arith;
       no_digit_behind = λ r d k. elim (either (is_digit a) (eqb a 46 && is_digit b) k) as (λ _. b ∷ cs ≡ []) [
-          | inl e ↦ cc
-          | inr e ↦ let z = (both (eqb a 46) (is_digit b) e).1 in cc
-        ];
+        | inl e ↦ cc
+        | inr e ↦ let z = (both (eqb a 46) (is_digit b) e).1 in cc
+      ];
     }
 
 pub punctuator_first : (mode : Mode) (s : List ℕ) → is_some (punctuator_of mode s) ≡ true → PlainFirst s
@@ -210,6 +214,7 @@ pair_ge mode a b = or_more (is_some (punctuator_of mode (a ∷ b ∷ []))) 2 (si
     by : (b : Bool) → cond b 1 0 ≤ 2
     by true = omega arith
     by false = omega arith
+
     single_le : (mode : Mode) (a : ℕ) → single_len mode a ≤ 2
     single_le mode a = by (is_some (punctuator_of mode (a ∷ [])))
 
@@ -233,10 +238,12 @@ punctuator-bound mode s r h = let f = punctuator_first mode s h in by s r (rw (f
     pair : (a b : ℕ) (r : List ℕ) → is_some (punctuator_of mode (a ∷ b ∷ [])) ≡ true → 2 ≤ punctuator_len mode (a ∷ b ∷ r)
     pair a b [] h = rw h (omega arith)
     pair a b (c ∷ r) h = let t = triple_ge mode a b c in let p : 2 ≤ pair_len mode a b = rw h (omega arith) in omega arith
+
     one : (a : ℕ) (r : List ℕ) → is_some (punctuator_of mode (a ∷ [])) ≡ true → 1 ≤ punctuator_len mode (a ∷ r)
     one a [] h = one_le mode a h
     one a (b ∷ []) h = let p = one_le mode a h in let t = pair_ge mode a b in omega arith
     one a (b ∷ c ∷ r) h = let p = one_le mode a h in let t = pair_ge mode a b in let u = triple_ge mode a b c in omega arith
+
     by : (s r : List ℕ) → length s ≤ 3 → is_some (punctuator_of mode s) ≡ true → length s ≤ punctuator_len mode (s ++ r)
     by [] r n h = omega arith
     by (a ∷ []) r n h = one a r h

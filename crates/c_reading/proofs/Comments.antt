@@ -1,9 +1,9 @@
 -- Where a comment ends.
-use Rattle.std.proofs.Common.{◌≡◌, ℕ, suc, zero, ◌+◌, ◌≤◌, ◌<◌, Bool, true, false, cond, not, ◌&&◌, eqb, List, [], ◌∷◌, ◌++◌, length, take, drop, Option, None, Some, option_map, inl, inr, refl, ap, sym, ◌∙◌, subst, arith}
+use Rattle.std.proofs.Common.{◌≡◌, ℕ, true, false, ◌&&◌, eqb, List, [], ◌∷◌, ◌++◌, length, Some, inl, inr, refl, ap, sym, ◌∙◌, arith}
 use Rattle.c_reading.specs.Bytes.{begins}
 use Rattle.c_reading.specs.Reading.{ends_comment}
 use Rattle.c_reading.specs.Cutting.{closing}
-use Rattle.c_reading.proofs.Tests.{cases, both, chosen, taken, passed, mapped, some_is, same}
+use Rattle.c_reading.proofs.Tests.{both, chosen, mapped, some_is, same}
 
 one_long : (xs : List ℕ) → length xs ≡ 1 → (x : ℕ) × (xs ≡ x ∷ [])
 one_long [] h = absurd (omega arith)
@@ -17,18 +17,19 @@ begins-append b c xs ys = refl
 pub closing-append : (xs ys : List ℕ) → ends_comment xs ≡ true → closing (xs ++ ys) ≡ Some (length xs)
 closing-append [] ys h = cc
 closing-append (c ∷ []) ys h = elim (chosen (eqb c 42 && false) (eqb 0 1) false true h) as (λ _. closing (c ∷ ys) ≡ Some 1) [
-    | inl t ↦ absurd (not_one (t.1))
-    | inr t ↦ absurd (not_false (t.1))
-  ]
+  | inl t ↦ absurd (not_one (t.1))
+  | inr t ↦ absurd (not_false (t.1))
+]
   where
     not_one : false ≡ true → ⊥
     not_one k = cc
+
     not_false : false ≡ true → ⊥
     not_false k = cc
 closing-append (c ∷ d ∷ cs) ys h = elim (chosen (eqb c 42 && eqb d 47) _ _ true h) as (λ _. closing (c ∷ d ∷ (cs ++ ys)) ≡ Some (length (c ∷ d ∷ cs))) [
-    | inl t ↦ let n : length (d ∷ cs) ≡ 1 = same (length (d ∷ cs)) 1 t.1 in rw (t.0) (ap Some (omega arith))
-    | inr t ↦ rw (t.0, closing-append (d ∷ cs) ys t.1) (ap Some (omega arith))
-  ]
+  | inl t ↦ let n : length (d ∷ cs) ≡ 1 = same (length (d ∷ cs)) 1 t.1 in rw (t.0) (ap Some (omega arith))
+  | inr t ↦ rw (t.0, closing-append (d ∷ cs) ys t.1) (ap Some (omega arith))
+]
 
 -- a list that is cut behind its first `*/`
 pub record Closed (xs : List ℕ) (n : ℕ) : Type 0 where
@@ -47,24 +48,25 @@ longer c cs (f ∷ fs) bs j e h =
 pub closing-front : (xs : List ℕ) (n : ℕ) → closing xs ≡ Some n → Closed xs n
 closing-front [] n h = cc
 closing-front (c ∷ []) n h = elim (chosen (eqb c 42 && false) _ _ (Some n) h) as (λ _. Closed (c ∷ []) n) [
-    | inl t ↦ absurd (impossible (both (eqb c 42) false t.0).1)
-    | inr t ↦ absurd (nothing (mapped 1 (closing []) n t.1).1)
-  ]
+  | inl t ↦ absurd (impossible (both (eqb c 42) false t.0).1)
+  | inr t ↦ absurd (nothing (mapped 1 (closing []) n t.1).1)
+]
   where
     impossible : false ≡ true → ⊥
     impossible k = cc
+
     nothing : {m : ℕ} → closing [] ≡ Some m → ⊥
     nothing k = cc
 closing-front (c ∷ d ∷ cs) n h = elim (chosen (eqb c 42 && eqb d 47) _ _ (Some n) h) as (λ _. Closed (c ∷ d ∷ cs) n) [
-    | inl t ↦ record { front = c ∷ d ∷ []; back = cs; joined = refl; size = omega (arith, some_is 2 n t.1); ends = rw (t.0) refl }
-    | inr t ↦
-        let m = mapped 1 (closing (d ∷ cs)) n t.1 in
-        let f = closing-front (d ∷ cs) m.0 m.1 in
-        record {
-          front = c ∷ f.front;
-          back = f.back;
-          joined = ap (λ l. c ∷ l) f.joined;
-          size = omega (arith, f.size, m.2);
-          ends = longer c (d ∷ cs) f.front f.back f.joined f.ends t.0;
-        }
-  ]
+  | inl t ↦ record { front = c ∷ d ∷ []; back = cs; joined = refl; size = omega (arith, some_is 2 n t.1); ends = rw (t.0) refl }
+  | inr t ↦
+      let m = mapped 1 (closing (d ∷ cs)) n t.1 in
+      let f = closing-front (d ∷ cs) m.0 m.1 in
+      record {
+        front = c ∷ f.front;
+        back = f.back;
+        joined = ap (λ l. c ∷ l) f.joined;
+        size = omega (arith, f.size, m.2);
+        ends = longer c (d ∷ cs) f.front f.back f.joined f.ends t.0;
+      }
+]

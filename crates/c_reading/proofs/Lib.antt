@@ -7,3 +7,5 @@ pub mod ByteFacts
 pub mod Classes
 pub mod Longest
 pub mod OnePiece
+pub mod Readings
+pub mod Examples

@@ -1,16 +1,15 @@
 -- The longest spelling in front of bytes is as long as is computed.
-use Rattle.std.proofs.Common.{◌≡◌, ℕ, suc, zero, ◌+◌, ◌-◌, ◌≤◌, ◌<◌, Bool, true, false, cond, not, ◌&&◌, ◌||◌, ◌⊎◌, eqb, List, [], ◌∷◌, ◌++◌, length, take, drop, Option, None, Some, is_some, option_map, inl, inr, refl, ap, sym, ◌∙◌, subst, arith, append_assoc, length-append}
-use Rattle.std.specs.List.{prefix_len}
+use Rattle.std.proofs.Common.{◌≡◌, ℕ, suc, zero, ◌+◌, ◌-◌, ◌≤◌, ◌<◌, Bool, true, false, cond, not, ◌&&◌, ◌||◌, ◌⊎◌, eqb, List, [], ◌∷◌, ◌++◌, length, take, drop, Option, None, Some, is_some, option_map, inl, inr, refl, ap, sym, ◌∙◌, arith, append_assoc, length-append}
 use Rattle.std.proofs.lemmas.List.{take_at, take-append-drop, length-take-le, nil_from_length}
 use Rattle.c_reading.specs.declared.mode.Mode.{Mode}
-use Rattle.c_reading.specs.Bytes.{is_digit, is_letter, is_word_byte, is_quote, begins}
-use Rattle.c_reading.specs.Spellings.{is_word, is_number, is_literal, is_spelling, begins_number, literal_len, unprefixed_len, quoted, or_zero}
+use Rattle.c_reading.specs.Bytes.{is_letter, is_quote, begins}
+use Rattle.c_reading.specs.Spellings.{is_word, is_number, is_literal, is_spelling, begins_number, literal_len, unprefixed_len, or_zero}
 use Rattle.c_reading.specs.Punctuators.{punctuator_of}
 use Rattle.c_reading.specs.Reading.{IsLongest}
 use Rattle.c_reading.specs.Cutting.{word_len, number_len, punctuator_len, word_or_literal, spelling_len}
-use Rattle.c_reading.proofs.Tests.{cases, both, either, chosen, taken, mapped, same, same_true, not_zero}
-use Rattle.c_reading.proofs.ByteFacts.{letter_no_digit, letter_no_quote, letter_no_number, number_no_letter, quote_no_number, quote_no_word_byte}
-use Rattle.c_reading.proofs.Classes.{word-bound, word-taken, word-le, word_first, number-bound, number-taken, number-le, number-some, number_begins-append, literal-there, literal-taken, PlainFirst, punctuator_first, punctuator-bound, punctuator-taken}
+use Rattle.c_reading.proofs.Tests.{cases, both, either, chosen, taken, mapped, same, not_zero}
+use Rattle.c_reading.proofs.ByteFacts.{letter_no_quote, number_no_letter, quote_no_number, quote_no_word_byte}
+use Rattle.c_reading.proofs.Classes.{word-bound, word-taken, word-le, word_first, number-bound, number-taken, number-le, number-some, number_begins-append, literal-there, literal-taken, punctuator_first, punctuator-bound, punctuator-taken}
 
 -- ---- where a literal begins
 
@@ -18,12 +17,13 @@ use Rattle.c_reading.proofs.Classes.{word-bound, word-taken, word-le, word_first
 pub literal_first : (c : ℕ) (cs : List ℕ) (n : ℕ) → literal_len (c ∷ cs) ≡ Some n → ((c ≡ 76) × (d : ℕ) × (ds : List ℕ) × (cs ≡ d ∷ ds) × (is_quote d ≡ true)) ⊎ (is_quote c ≡ true)
 unfolding literal_len
 literal_first c cs n h = elim (chosen (eqb c 76) _ _ (Some n) h) [
-    | inl t ↦ inl (prefixed (same c 76 t.0) cs t.1)
-    | inr t ↦ inr (both (is_quote c) (not (eqb c 39 && begins 39 cs)) (taken (is_quote c && not (eqb c 39 && begins 39 cs)) _ n t.1).0).0
-  ]
+  | inl t ↦ inl (prefixed (same c 76 t.0) cs t.1)
+  | inr t ↦ inr (both (is_quote c) (not (eqb c 39 && begins 39 cs)) (taken (is_quote c && not (eqb c 39 && begins 39 cs)) _ n t.1).0).0
+]
   where
     quote : (m : ℕ) (d : ℕ) (ds : List ℕ) → unprefixed_len (d ∷ ds) ≡ Some m → is_quote d ≡ true
     quote m d ds k = (both (is_quote d) (not (eqb d 39 && begins 39 ds)) (taken (is_quote d && not (eqb d 39 && begins 39 ds)) _ m k).0).0
+
     prefixed : c ≡ 76 → (cs : List ℕ) → Path (Option ℕ) (option_map (λ m. m + 1) (unprefixed_len cs)) (Some n) → (c ≡ 76) × (d : ℕ) × (ds : List ℕ) × (cs ≡ d ∷ ds) × (is_quote d ≡ true)
     prefixed e [] k = cc
     prefixed e (d ∷ ds) k = let m = mapped 1 (unprefixed_len (d ∷ ds)) n k in (e, d, ds, refl, quote m.0 d ds m.1)
@@ -33,9 +33,9 @@ literal_first c cs n h = elim (chosen (eqb c 76) _ _ (Some n) h) [
 word_before_quote : (c : ℕ) (cs : List ℕ) (n : ℕ) → is_letter c ≡ true → literal_len (c ∷ cs) ≡ Some n → word_len (c ∷ cs) ≡ 1
 unfolding word_len
 word_before_quote c cs n l h = elim (literal_first c cs n h) [
-    | inl t ↦ rw (l, t.3) (rw (quote_no_word_byte t.1 t.4) refl)
-    | inr q ↦ cc (letter_no_quote c l)
-  ]
+  | inl t ↦ rw (l, t.3) (rw (quote_no_word_byte t.1 t.4) refl)
+  | inr q ↦ cc (letter_no_quote c l)
+]
 
 zero_or : (bs : List ℕ) (o : Option ℕ) → literal_len bs ≡ o → ((n : ℕ) → literal_len bs ≡ Some n → word_len bs ≡ 1) → word_len bs ≤ word_or_literal bs
 zero_or bs None e w = rw e (omega arith)
@@ -72,9 +72,9 @@ bound_number mode (c ∷ cs) r h =
 unlettered : (c : ℕ) (cs : List ℕ) (n : ℕ) → is_letter c ≡ false → literal_len (c ∷ cs) ≡ Some n → is_quote c ≡ true
 unfolding is_letter
 unlettered c cs n l h = elim (literal_first c cs n h) [
-    | inl t ↦ cc (l_letter c t.0)
-    | inr q ↦ q
-  ]
+  | inl t ↦ cc (l_letter c t.0)
+  | inr q ↦ q
+]
   where
     l_letter : (c : ℕ) → c ≡ 76 → is_letter c ≡ true
     l_letter c e = rw e refl
@@ -94,9 +94,9 @@ bound_literal mode (c ∷ cs) r h =
 behind : (c : ℕ) (cs r : List ℕ) (mode : Mode) → is_letter c ≡ false → is_quote c ≡ false → (begins_number (c ∷ (cs ++ r)) ≡ true → cs ≡ []) → length (c ∷ cs) ≤ punctuator_len mode (c ∷ (cs ++ r)) → length (c ∷ cs) ≤ spelling_len mode (c ∷ (cs ++ r))
 unfolding spelling_len
 behind c cs r mode l q n b = elim (cases (begins_number (c ∷ (cs ++ r)))) as (λ _. length (c ∷ cs) ≤ spelling_len mode (c ∷ (cs ++ r))) [
-    | inl e ↦ let k = number-some c (cs ++ r) e in let z : length cs ≡ 0 = ap length (n e) in rw (l, e) (omega arith)
-    | inr e ↦ rw (l, e, q) b
-  ]
+  | inl e ↦ let k = number-some c (cs ++ r) e in let z : length cs ≡ 0 = ap length (n e) in rw (l, e) (omega arith)
+  | inr e ↦ rw (l, e, q) b
+]
 
 bound_punctuator : (mode : Mode) (s r : List ℕ) → is_some (punctuator_of mode s) ≡ true → length s ≤ spelling_len mode (s ++ r)
 bound_punctuator mode s r h =
@@ -171,15 +171,15 @@ spelling-taken mode (c ∷ cs) h = by (is_letter c) (begins_number (c ∷ cs)) (
 pub spelling-bound : (mode : Mode) (s r : List ℕ) → is_spelling mode s ≡ true → length s ≤ spelling_len mode (s ++ r)
 unfolding is_spelling
 spelling-bound mode s r h = elim (either (is_word s) (is_number s || (is_literal s || is_some (punctuator_of mode s))) h) as (λ _. length s ≤ spelling_len mode (s ++ r)) [
-    | inl w ↦ bound_word mode s r w
-    | inr t ↦ elim (either (is_number s) (is_literal s || is_some (punctuator_of mode s)) t) as (λ _. length s ≤ spelling_len mode (s ++ r)) [
-        | inl n ↦ bound_number mode s r n
-        | inr u ↦ elim (either (is_literal s) (is_some (punctuator_of mode s)) u) as (λ _. length s ≤ spelling_len mode (s ++ r)) [
-            | inl l ↦ bound_literal mode s r l
-            | inr p ↦ bound_punctuator mode s r p
-          ]
-      ]
+  | inl w ↦ bound_word mode s r w
+  | inr t ↦ elim (either (is_number s) (is_literal s || is_some (punctuator_of mode s)) t) as (λ _. length s ≤ spelling_len mode (s ++ r)) [
+    | inl n ↦ bound_number mode s r n
+    | inr u ↦ elim (either (is_literal s) (is_some (punctuator_of mode s)) u) as (λ _. length s ≤ spelling_len mode (s ++ r)) [
+      | inl l ↦ bound_literal mode s r l
+      | inr p ↦ bound_punctuator mode s r p
+    ]
   ]
+]
 
 -- ---- the computed length and the longest spelling
 
@@ -219,9 +219,9 @@ len_longest mode bs h =
     record {
       spelling = t.spelling;
       longest = λ more others e k.
-        let s = take n bs in
-        let whole : (s ++ more) ++ others ≡ bs = append_assoc s more others ∙ ap (λ l. s ++ l) (sym e) ∙ take-append-drop n bs in
-        let b : length (s ++ more) ≤ n = rw (ap (spelling_len mode) whole) at (spelling-bound mode (s ++ more) others k) in
-        let m : length s ≡ n = length-take-le n bs t.within in
-        nil_from_length more (omega (arith, length-append s more));
+          let s = take n bs in
+          let whole : (s ++ more) ++ others ≡ bs = append_assoc s more others ∙ ap (λ l. s ++ l) (sym e) ∙ take-append-drop n bs in
+          let b : length (s ++ more) ≤ n = rw (ap (spelling_len mode) whole) at (spelling-bound mode (s ++ more) others k) in
+          let m : length s ≡ n = length-take-le n bs t.within in
+          nil_from_length more (omega (arith, length-append s more));
     }

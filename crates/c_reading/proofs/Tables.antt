@@ -1,9 +1,9 @@
 -- Texts in tables: what is found has a text that stands there.
-use Rattle.std.proofs.Common.{◌≡◌, ℕ, suc, zero, ◌+◌, ◌≤◌, ◌<◌, Bool, true, false, cond, not, ◌&&◌, eqb, List, [], ◌∷◌, ◌++◌, length, take, drop, Option, None, Some, option_map, is_some, inl, inr, refl, ap, sym, ◌∙◌, subst, arith}
+use Rattle.std.proofs.Common.{◌≡◌, ℕ, Bool, true, false, cond, eqb, List, [], ◌∷◌, ◌++◌, None, Some, inl, inr, refl, ap, sym, ◌∙◌}
 use Rattle.std.specs.Str.{bytes_eq}
 use Rattle.std.specs.List.{list_all}
 use Rattle.c_reading.specs.Words.{find_text}
-use Rattle.c_reading.proofs.Tests.{cases, both, chosen, taken, passed, same}
+use Rattle.c_reading.proofs.Tests.{cases, both, chosen, same}
 
 pub same_bytes : (a b : List ℕ) → bytes_eq a b ≡ true → a ≡ b
 same_bytes [] [] h = refl
@@ -43,9 +43,9 @@ module _ {K : Type 0} where
   pub find_text-append : (text : List ℕ) (es fs : List (List ℕ × K)) → find_text text es ≡ None → find_text text (es ++ fs) ≡ find_text text fs
   find_text-append text [] fs h = refl
   find_text-append text (e ∷ es) fs h = elim (chosen (bytes_eq text e.0) (Some e.1) (find_text text es) None h) as (λ _. find_text text ((e ∷ es) ++ fs) ≡ find_text text fs) [
-      | inl t ↦ cc
-      | inr t ↦ rw (t.0) (find_text-append text es fs t.1)
-    ]
+    | inl t ↦ cc
+    | inr t ↦ rw (t.0) (find_text-append text es fs t.1)
+  ]
 
   -- a table before one that doesn't have the text
   pub find_text-front : (text : List ℕ) (es fs : List (List ℕ × K)) → find_text text fs ≡ None → find_text text (es ++ fs) ≡ find_text text es

@@ -1,11 +1,11 @@
 -- The constants: what a number says (ISO 9899:1990, 6.1.3.1 and 6.1.3.2), of integers up to 64 bits.
-use Rattle.std.specs.Prelude.{ℕ, suc, Bool, true, false, cond, ◌+◌, ◌-◌, ◌*◌, ◌^◌, nat_le, ◌==◌, ◌&&◌, ◌||◌, not, List, [], ◌∷◌, take, drop, length, Option, None, Some, option_map, option_and_then, if◌then◌else◌, is_some}
+use Rattle.std.specs.Prelude.{ℕ, Bool, true, false, ◌+◌, ◌-◌, ◌*◌, ◌^◌, nat_le, ◌==◌, ◌&&◌, ◌||◌, List, [], ◌∷◌, take, drop, Option, None, Some, option_map, option_and_then, if◌then◌else◌}
 use Rattle.std.specs.List.{prefix_len}
 use Rattle.c_tree.specs.declared.token.TokenKind.{TokenKind}
 use Rattle.c_tree.specs.declared.token.TokenKind.TheVariants as kinds
 use Rattle.c_tree.specs.declared.token.FloatEnd.{FloatEnd}
 use Rattle.c_tree.specs.declared.token.FloatEnd.TheVariants as ends
-use Rattle.c_reading.specs.Bytes.{within, is_digit, begins}
+use Rattle.c_reading.specs.Bytes.{within, is_digit}
 
 -- the digits of octal, decimal and hexadecimal constants
 unfoldable pub is_octal : ℕ → Bool

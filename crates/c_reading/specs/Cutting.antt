@@ -1,5 +1,5 @@
 -- The one piece that can be cut off bytes, if there is one: a reader over lists, by the first byte.
-use Rattle.std.specs.Prelude.{ℕ, suc, Bool, true, false, cond, ◌+◌, ◌==◌, ◌&&◌, not, List, [], ◌∷◌, take, drop, Option, None, Some, is_some, option_map, if◌then◌else◌}
+use Rattle.std.specs.Prelude.{ℕ, Bool, ◌+◌, ◌==◌, ◌&&◌, List, [], ◌∷◌, take, drop, Option, None, Some, is_some, option_map, if◌then◌else◌}
 use Rattle.std.specs.List.{prefix_len}
 use Rattle.c_reading.specs.declared.mode.Mode.{Mode}
 use Rattle.c_reading.specs.Bytes.{is_letter, is_word_byte, is_quote, is_blank, is_within_line, begins}

@@ -1,5 +1,5 @@
 -- The marker lines that a preprocessor leaves.
-use Rattle.std.specs.Prelude.{ℕ, suc, Bool, true, false, cond, ◌+◌, ◌-◌, ◌^◌, nat_le, ◌==◌, ◌&&◌, ◌||◌, not, List, [], ◌∷◌, take, drop, length, codes, Option, None, Some, option_and_then, option_map, if◌then◌else◌, bytes_eq}
+use Rattle.std.specs.Prelude.{ℕ, Bool, true, false, ◌-◌, ◌^◌, ◌==◌, ◌&&◌, ◌||◌, List, [], ◌∷◌, take, drop, codes, Option, None, Some, option_and_then, if◌then◌else◌, bytes_eq}
 use Rattle.std.specs.List.{prefix_len}
 use Rattle.c_reading.specs.Bytes.{within, is_digit, is_word_byte, is_gap, begins}
 use Rattle.c_reading.specs.Constants.{value_up_to}

@@ -1,7 +1,7 @@
 -- The pieces that bytes are cut into, and where the reading stands behind each.
-use Rattle.std.specs.Prelude.{ℕ, suc, Bool, true, false, cond, ◌+◌, ◌==◌, ◌&&◌, List, [], ◌∷◌, ◌++◌, length, Option, None, Some, unwrap_or, if◌then◌else◌}
+use Rattle.std.specs.Prelude.{ℕ, Bool, true, false, ◌+◌, ◌==◌, ◌&&◌, List, [], ◌∷◌, ◌++◌, length, Option, Some, unwrap_or, if◌then◌else◌}
 use Rattle.c_reading.specs.Bytes.{is_gap}
-use Rattle.c_reading.specs.Markers.{Marker, Skipped, Renumbers, marker_of}
+use Rattle.c_reading.specs.Markers.{Marker, Renumbers, marker_of}
 
 -- A piece of the bytes.
 pub data Piece : Type 0 where

@@ -1,5 +1,5 @@
 -- A reading of bytes: blanks, markers and spellings that, joined, are the bytes. It gives the tokens, and has at most one fault.
-use Rattle.std.specs.Prelude.{◌≡◌, ◌≢◌, ◌≤◌, ℕ, Bool, true, false, cond, ◌==◌, ◌&&◌, not, List, [], ◌∷◌, ◌++◌, length, Option, None, Some, is_some, IsTrue, unwrap_or, if◌then◌else◌, option_to_list, option_map}
+use Rattle.std.specs.Prelude.{◌≡◌, ◌≢◌, ◌≤◌, ℕ, Bool, true, false, ◌==◌, ◌&&◌, List, [], ◌∷◌, ◌++◌, length, is_some, if◌then◌else◌, option_to_list, option_map}
 use Rattle.std.specs.List.{list_all}
 use Rattle.c_tree.specs.declared.token.TokenKind.{TokenKind}
 use Rattle.c_reading.specs.declared.mode.Mode.{Mode}

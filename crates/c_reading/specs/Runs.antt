@@ -1,5 +1,5 @@
 -- Bytes that go on, each after the one before it.
-use Rattle.std.specs.Prelude.{ℕ, suc, Bool, true, false, cond, ◌&&◌, List, [], ◌∷◌}
+use Rattle.std.specs.Prelude.{ℕ, suc, Bool, true, cond, ◌&&◌, List, [], ◌∷◌}
 
 -- each byte goes on after the one before it, the first after p
 abbrev pub goes_through : (ℕ → ℕ → Bool) → ℕ → List ℕ → Bool

@@ -1,5 +1,5 @@
 -- The words that are more than names: the keywords of C, and the words of GNU C with a mark. They stand in the order of their lengths.
-use Rattle.std.specs.Prelude.{ℕ, Bool, cond, List, [], ◌∷◌, ◌++◌, codes, bytes_eq, Option, None, Some, unwrap_or}
+use Rattle.std.specs.Prelude.{ℕ, cond, List, [], ◌∷◌, ◌++◌, codes, bytes_eq, Option, None, Some, unwrap_or}
 use Rattle.c_tree.specs.declared.token.TokenKind.{TokenKind}
 use Rattle.c_tree.specs.declared.token.TokenKind.TheVariants as kinds
 use Rattle.c_tree.specs.declared.keyword.Keyword.TheVariants as keyword
