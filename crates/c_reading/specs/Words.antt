@@ -1,5 +1,5 @@
--- The words that are more than names: the keywords of C, and the words of GNU C with a mark. They stand in the order of their lengths.
-use Rattle.std.specs.Prelude.{ℕ, cond, List, [], ◌∷◌, ◌++◌, codes, bytes_eq, Option, None, Some, unwrap_or}
+-- The words that are more than names: the keywords of C, and the words of GNU C with a mark. They stand by their lengths.
+use Rattle.std.specs.Prelude.{ℕ, cond, List, [], ◌∷◌, length, codes, bytes_eq, ◌==◌, Option, None, Some, unwrap_or, if◌then◌else◌}
 use Rattle.c_tree.specs.declared.token.TokenKind.{TokenKind}
 use Rattle.c_tree.specs.declared.token.TokenKind.TheVariants as kinds
 use Rattle.c_tree.specs.declared.keyword.Keyword.TheVariants as keyword
@@ -131,10 +131,27 @@ words_18 = (codes "__builtin_offsetof", kinds.Keyword keyword.BuiltinOffsetof) �
 unfoldable pub words_19 : Words
 words_19 = (codes "__PRETTY_FUNCTION__", kinds.Word mark.FunctionName) ∷ []
 
--- all of them
-unfoldable pub words : Words
-words = words_2 ++ (words_3 ++ (words_4 ++ (words_5 ++ (words_6 ++ (words_7 ++ (words_8 ++ (words_9 ++ (words_10 ++ (words_11 ++ (words_12 ++ (words_13 ++ (words_16 ++ (words_17 ++ (words_18 ++ words_19))))))))))))))
+-- the words of a length
+unfoldable pub words_of : ℕ → Words
+words_of n =
+    if n == 2 then words_2
+    else (if n == 3 then words_3
+    else (if n == 4 then words_4
+    else (if n == 5 then words_5
+    else (if n == 6 then words_6
+    else (if n == 7 then words_7
+    else (if n == 8 then words_8
+    else (if n == 9 then words_9
+    else (if n == 10 then words_10
+    else (if n == 11 then words_11
+    else (if n == 12 then words_12
+    else (if n == 13 then words_13
+    else (if n == 16 then words_16
+    else (if n == 17 then words_17
+    else (if n == 18 then words_18
+    else (if n == 19 then words_19
+    else [])))))))))))))))
 
 -- what a word is: every other word has the mark Plain
 unfoldable pub word_kind : List ℕ → TokenKind
-word_kind text = unwrap_or (find_text text words) (kinds.Word mark.Plain)
+word_kind text = unwrap_or (find_text text (words_of (length text))) (kinds.Word mark.Plain)
