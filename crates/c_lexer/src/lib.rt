@@ -2,4 +2,8 @@
 #![tactic(auto)]
 
 mod bytes;
+mod constants;
+mod literals;
+mod numbers;
+mod punctuators;
 mod words;

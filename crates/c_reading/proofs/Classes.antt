@@ -7,6 +7,7 @@ use Rattle.c_reading.specs.declared.mode.Mode.{Mode}
 use Rattle.c_reading.specs.declared.mode.Mode.TheVariants.{C, Metal}
 use Rattle.c_reading.specs.Bytes.{is_digit, is_letter, is_word_byte, is_quote}
 use Rattle.c_reading.specs.Runs.{goes_through, run_len}
+use Rattle.c_tree.specs.declared.punctuator.Punctuator.{Punctuator}
 use Rattle.c_reading.specs.Words.{find_text}
 use Rattle.c_reading.specs.Punctuators.{punctuator_of, punctuators, singles, pairs, triples}
 use Rattle.c_reading.specs.Spellings.{is_word, is_number, is_literal, goes_on, begins_number, literal_len, or_zero}
@@ -129,7 +130,7 @@ plain (a ∷ b ∷ []) = not (is_letter a) && (not (is_digit a) && (not (is_quot
 plain (a ∷ b ∷ c ∷ []) = not (is_letter a) && (not (is_digit a) && (not (is_quote a) && not (is_digit b)))
 plain (a ∷ b ∷ c ∷ d ∷ _) = false
 
-all_plain : (mode : Mode) → list_all (λ e. plain e.0) (punctuators mode) ≡ true
+all_plain : (mode : Mode) → list_all (λ n. list_all (λ e. plain e.0) (punctuators mode n)) (1 ∷ 2 ∷ 3 ∷ []) ≡ true
 unfolding plain punctuators singles pairs triples is_letter is_digit is_quote
 all_plain C = refl
 all_plain Metal = refl
@@ -138,9 +139,25 @@ found_some : {A : Type 0} (o : Option A) → is_some o ≡ true → (x : A) × (
 found_some None h = cc
 found_some (Some x) h = (x, refl)
 
+-- what all punctuators pass, a text that is one passes
+pub passes_of_length : (mode : Mode) (p : List ℕ → Bool) (s : List ℕ) (n : ℕ) (k : Punctuator) → list_all (λ m. list_all (λ e. p e.0) (punctuators mode m)) (1 ∷ 2 ∷ 3 ∷ []) ≡ true → find_text s (punctuators mode n) ≡ Some k → p s ≡ true
+unfolding punctuators
+passes_of_length mode p s n k all h =
+    let a = both _ (list_all (λ m. list_all (λ e. p e.0) (punctuators mode m)) (2 ∷ 3 ∷ [])) all in
+    let b = both _ (list_all (λ m. list_all (λ e. p e.0) (punctuators mode m)) (3 ∷ [])) a.1 in
+    let c = both (list_all (λ e. p e.0) (punctuators mode 3)) true b.1 in
+    by (eqb n 1) (eqb n 2) (eqb n 3) a.0 b.0 c.0 h
+  where
+    by : (x y z : Bool) → list_all (λ e. p e.0) (punctuators mode 1) ≡ true → list_all (λ e. p e.0) (punctuators mode 2) ≡ true → list_all (λ e. p e.0) (punctuators mode 3) ≡ true →
+        find_text s (cond x (punctuators mode 1) (cond y (punctuators mode 2) (cond z (punctuators mode 3) []))) ≡ Some k → p s ≡ true
+    by true y z one two three h = found_passes p s (punctuators mode 1) k one h
+    by false true z one two three h = found_passes p s (punctuators mode 2) k two h
+    by false false true one two three h = found_passes p s (punctuators mode 3) k three h
+    by false false false one two three h = cc
+
 is_plain : (mode : Mode) (s : List ℕ) → is_some (punctuator_of mode s) ≡ true → plain s ≡ true
 unfolding punctuator_of
-is_plain mode s h = let k = found_some (find_text s (punctuators mode)) h in found_passes plain s (punctuators mode) k.0 (all_plain mode) k.1
+is_plain mode s h = let k = found_some (find_text s (punctuators mode (length s))) h in passes_of_length mode plain s (length s) k.0 (all_plain mode) k.1
 
 -- what a punctuator's first bytes are not
 pub record PlainFirst (s : List ℕ) : Type 0 where

@@ -9,3 +9,4 @@ pub mod Longest
 pub mod OnePiece
 pub mod Readings
 pub mod Examples
+pub mod Scans

@@ -15,10 +15,9 @@ use Rattle.c_reading.specs.Reading.{begins_comment, begins_line_comment, ends_co
 use Rattle.c_reading.specs.Cutting.{spelling_len, spelling_at, closing, comment_at, line_comment_at, marker_line, marker_at, cut}
 use Rattle.c_reading.proofs.Tests.{cases, both, either, taken, passed, same, not_true, not_zero, some_is}
 use Rattle.c_reading.proofs.Runs.{prefix_passes, prefix_of_passes}
-use Rattle.c_reading.proofs.Tables.{found_passes}
 use Rattle.c_reading.proofs.Comments.{closing-append, closing-front}
 use Rattle.c_reading.proofs.ByteFacts.{number_first}
-use Rattle.c_reading.proofs.Classes.{word_first, number_begins, literal-there}
+use Rattle.c_reading.proofs.Classes.{passes_of_length, word_first, number_begins, literal-there}
 use Rattle.c_reading.proofs.Longest.{literal_first, empty_no_spelling, longest_len, len_longest}
 
 -- ---- the first byte of a spelling is neither blank nor `#`
@@ -53,7 +52,7 @@ l_apart : apart 76 ≡ true
 unfolding apart is_blank
 l_apart = refl
 
-all_apart : (mode : Mode) → list_all (λ e. apart_first e.0) (punctuators mode) ≡ true
+all_apart : (mode : Mode) → list_all (λ n. list_all (λ e. apart_first e.0) (punctuators mode n)) (1 ∷ 2 ∷ 3 ∷ []) ≡ true
 unfolding apart_first apart punctuators singles pairs triples is_blank
 all_apart C = refl
 all_apart Metal = refl
@@ -64,7 +63,7 @@ found_some (Some x) h = (x, refl)
 
 punctuator_apart : (mode : Mode) (s : List ℕ) → is_some (punctuator_of mode s) ≡ true → apart_first s ≡ true
 unfolding punctuator_of
-punctuator_apart mode s h = let k = found_some (find_text s (punctuators mode)) h in found_passes apart_first s (punctuators mode) k.0 (all_apart mode) k.1
+punctuator_apart mode s h = let k = found_some (find_text s (punctuators mode (length s))) h in passes_of_length mode apart_first s (length s) k.0 (all_apart mode) k.1
 
 number_apart : (c : ℕ) (cs : List ℕ) → is_number (c ∷ cs) ≡ true → apart c ≡ true
 number_apart c cs h = elim (number_first c cs (number_begins c cs h)) [

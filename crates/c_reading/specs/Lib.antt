@@ -8,3 +8,4 @@ pub mod Markers
 pub mod Pieces
 pub mod Reading
 pub mod Cutting
+pub mod Scans

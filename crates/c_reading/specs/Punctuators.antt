@@ -1,5 +1,5 @@
 -- The punctuators (ISO 9899:1990, 6.1.5 and 6.1.6), and the two of a checker. They stand in the order of their lengths.
-use Rattle.std.specs.Prelude.{ℕ, List, [], ◌∷◌, ◌++◌, codes, Option}
+use Rattle.std.specs.Prelude.{ℕ, List, [], ◌∷◌, ◌++◌, length, codes, ◌==◌, Option, if◌then◌else◌}
 use Rattle.c_tree.specs.declared.punctuator.Punctuator.{Punctuator}
 use Rattle.c_tree.specs.declared.punctuator.Punctuator.TheVariants as punctuator
 use Rattle.c_reading.specs.declared.mode.Mode.{Mode}
@@ -79,9 +79,14 @@ abbrev pub extra_triple : Mode → Punctuators
 extra_triple C = []
 extra_triple Metal = (codes "==>", punctuator.LongArrow) ∷ []
 
-unfoldable pub punctuators : Mode → Punctuators
-punctuators mode = singles ++ (extra_single mode ++ (pairs ++ (triples ++ extra_triple mode)))
+-- the punctuators of a length
+unfoldable pub punctuators : Mode → ℕ → Punctuators
+punctuators mode n =
+    if n == 1 then singles ++ extra_single mode
+    else (if n == 2 then pairs
+    else (if n == 3 then triples ++ extra_triple mode
+    else []))
 
 -- which punctuator a text is, if it is one
 unfoldable pub punctuator_of : Mode → List ℕ → Option Punctuator
-punctuator_of mode text = find_text text (punctuators mode)
+punctuator_of mode text = find_text text (punctuators mode (length text))
