@@ -1,12 +1,13 @@
 -- Steps of a reader that goes on byte by byte.
-use Rattle.std.proofs.Common.{◌≡◌, ℕ, suc, zero, ◌+◌, ◌-◌, ◌*◌, ◌≤◌, ◌<◌, Bool, true, false, cond, eqb, leb, ◌&&◌, List, [], ◌∷◌, Option, None, Some, option_map, inl, inr, refl, ap, sym, ◌∙◌, arith, rules}
+use Rattle.std.proofs.Common.{◌≡◌, ℕ, suc, zero, ◌+◌, ◌-◌, ◌*◌, ◌≤◌, ◌<◌, Bool, true, false, cond, eqb, leb, ◌&&◌, List, [], ◌∷◌, length, take, drop, get_or, subst, Option, None, Some, option_map, inl, inr, refl, ap, sym, ◌∙◌, arith, rules}
 use Rattle.std.proofs.lemmas.Bool.Decides.{nat_tests}
 use Rattle.c_reading.specs.Bytes.{begins}
 use Rattle.c_reading.specs.Constants.{digit_value, value_after, value_up_to}
 use Rattle.c_reading.specs.Spellings.{quoted}
 use Rattle.c_reading.specs.Cutting.{closing}
 use Rattle.c_reading.specs.Scans.{plus}
-use Rattle.c_reading.proofs.Tests.{cases}
+use Rattle.std.proofs.lemmas.List.{take_all}
+use Rattle.c_reading.proofs.Tests.{cases, unequal, same_true}
 
 map_plus : (k : ℕ) (o : Option ℕ) → option_map (λ n. n + k) o ≡ plus k o
 map_plus k None = refl
@@ -67,6 +68,27 @@ pub plus-zero : (o : Option ℕ) → plus 0 o ≡ o
 plus-zero None = refl
 plus-zero (Some n) = ap Some (omega arith)
 
-pub ruleset quoted_steps = (quoted-more, quoted-escape, quoted-end, quoted-feed, quoted-escaped_feed, quoted-last, plus-zero)
+-- what follows the first byte of a slice, as a reader takes it
+abbrev pub behind_first : List ℕ → List ℕ
+behind_first l = take (length l - 1) (drop 1 l)
+
+behind_cons : (c : ℕ) (cs : List ℕ) → take (length (c ∷ cs) - 1) (drop 1 (c ∷ cs)) ≡ cs
+behind_cons c cs = take_all (length (c ∷ cs) - 1) cs (omega arith)
+
+pub quoted-next : (q k : ℕ) (l : List ℕ) → 1 ≤ length l → (get_or l 0 0 ≡ q → ⊥) → (get_or l 0 0 ≡ 10 → ⊥) → (get_or l 0 0 ≡ 92 → ⊥) → plus (k + 1) (quoted q (behind_first l)) ≡ plus k (quoted q l)
+quoted-next q k [] n e f g = absurd (omega arith)
+quoted-next q k (c ∷ cs) n e f g = rw (behind_cons c cs) (sym (quoted-more q c cs k (unequal c q e) (unequal c 10 f) (unequal c 92 g)))
+
+pub quoted-behind : (q k : ℕ) (l : List ℕ) → 1 ≤ length l → 1 ≤ length (behind_first l) → (get_or l 0 0 ≡ q → ⊥) → (get_or l 0 0 ≡ 10 → ⊥) → get_or l 0 0 ≡ 92 → (get_or (behind_first l) 0 0 ≡ 10 → ⊥) → plus (k + 2) (quoted q (behind_first (behind_first l))) ≡ plus k (quoted q l)
+quoted-behind q k [] n m e f g h = absurd (omega arith)
+quoted-behind q k (c ∷ []) n m e f g h = absurd (omega arith)
+quoted-behind q k (c ∷ d ∷ cs) n m e f g h =
+    let b : behind_first (c ∷ d ∷ cs) ≡ d ∷ cs = behind_cons c (d ∷ cs) in
+    let t : behind_first (behind_first (c ∷ d ∷ cs)) ≡ cs = ap behind_first b ∙ behind_cons d cs in
+    let H : List ℕ → Type 0 = λ l. get_or l 0 0 ≡ 10 → ⊥ in
+    let x : d ≡ 10 → ⊥ = subst H b h in
+    rw t (sym (quoted-escape q c d cs k (unequal c q e) (unequal c 10 f) (same_true c 92 g) (unequal d 10 x)))
+
+pub ruleset quoted_steps = (quoted-end, quoted-feed, quoted-escaped_feed, quoted-last, plus-zero)
 
 pub ruleset closing_steps = (closing-more, plus-zero)
