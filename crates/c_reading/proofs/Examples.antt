@@ -5,6 +5,7 @@ use Rattle.c_tree.specs.declared.token.TokenKind.TheVariants as kinds
 use Rattle.c_tree.specs.declared.token.FloatEnd.TheVariants as ends
 use Rattle.c_tree.specs.declared.token.Mark.TheVariants as mark
 use Rattle.c_tree.specs.declared.punctuator.Punctuator.TheVariants as punctuator
+use Rattle.c_reading.specs.declared.fault.Fault.TheVariants.{BadByte, OpenText}
 use Rattle.c_reading.specs.declared.mode.Mode.TheVariants.{C, Metal}
 use Rattle.c_reading.specs.Bytes.{is_digit, is_letter, is_word_byte, is_gap, is_blank, is_quote}
 use Rattle.c_reading.specs.Words.{words_of, words_2, words_3, words_4, words_5, words_6, words_7, words_8, words_9, words_10, words_11, words_12, words_13, words_16, words_17, words_18, words_19, word_kind}
@@ -13,7 +14,7 @@ use Rattle.c_reading.specs.Constants.{is_octal, is_hex, digit_value, suffix_of, 
 use Rattle.c_reading.specs.Spellings.{is_word, is_number, is_literal, literal_len, kind_of}
 use Rattle.c_reading.specs.Markers.{Skipped, Renumbers, behind_number, numbered, after_line_word, marker_of}
 use Rattle.c_reading.specs.Pieces.{Spelling}
-use Rattle.c_reading.specs.Reading.{BadByte, OpenText, fault_at, spelling_fault}
+use Rattle.c_reading.specs.Reading.{fault_at, spelling_fault}
 use Rattle.c_reading.specs.Cutting.{word_len, punctuator_len, spelling_len, spelling_at, comment_at, cut}
 
 -- ---- numbers

@@ -10,3 +10,4 @@ pub mod OnePiece
 pub mod Readings
 pub mod Examples
 pub mod Scans
+pub mod ClassKinds

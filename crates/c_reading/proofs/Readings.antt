@@ -1,9 +1,10 @@
 -- Bytes have at most one reading, and where nothing can be cut off stands their one fault.
 use Rattle.std.proofs.Common.{◌≡◌, ◌≢◌, ℕ, ◌≤◌, Bool, List, [], ◌∷◌, ◌++◌, length, None, Some, refl, ap, sym, ◌∙◌, subst, arith, append_assoc, length-append}
 use Rattle.std.proofs.lemmas.List.{nil_from_length, append-nil, append_cancel_left}
+use Rattle.c_reading.specs.declared.fault.Fault.{Fault}
 use Rattle.c_reading.specs.declared.mode.Mode.{Mode}
 use Rattle.c_reading.specs.Pieces.{Piece, bytes_of, Here, beginning, behind, behind_all}
-use Rattle.c_reading.specs.Reading.{IsNext, Cuts, IsReading, lexeme_at, lexemes, Fault, fault_at, IsFaulty}
+use Rattle.c_reading.specs.Reading.{IsNext, Cuts, IsReading, lexeme_at, lexemes, fault_at, IsFaulty}
 use Rattle.c_reading.specs.Cutting.{cut}
 use Rattle.c_reading.proofs.OnePiece.{cut-complete}
 

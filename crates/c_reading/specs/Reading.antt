@@ -2,6 +2,8 @@
 use Rattle.std.specs.Prelude.{◌≡◌, ◌≢◌, ◌≤◌, ℕ, Bool, true, false, ◌==◌, ◌&&◌, List, [], ◌∷◌, ◌++◌, length, is_some, if◌then◌else◌, option_to_list, option_map}
 use Rattle.std.specs.List.{list_all}
 use Rattle.c_tree.specs.declared.token.TokenKind.{TokenKind}
+use Rattle.c_reading.specs.declared.fault.Fault.{Fault}
+use Rattle.c_reading.specs.declared.fault.Fault.TheVariants.{BadByte, OpenText, BadNumber, BadMarker}
 use Rattle.c_reading.specs.declared.mode.Mode.{Mode}
 use Rattle.c_reading.specs.declared.mode.Mode.TheVariants.{C, Metal}
 use Rattle.c_reading.specs.Bytes.{is_blank, is_within_line, is_quote, begins}
@@ -85,10 +87,6 @@ lexeme_at mode h _ = []
 abbrev pub lexemes : Mode → Here → List Piece → List Lexeme
 lexemes mode h [] = []
 lexemes mode h (p ∷ ps) = lexeme_at mode h p ++ lexemes mode (behind h p) ps
-
--- Why nothing can be cut off.
-pub data Fault : Type 0 where
-  BadByte OpenText BadNumber BadMarker : Fault
 
 -- what is wrong where no spelling can be cut off
 unfoldable pub spelling_fault : List ℕ → Fault
