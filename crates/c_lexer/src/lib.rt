@@ -4,6 +4,8 @@
 mod bytes;
 mod constants;
 mod literals;
+mod markers;
 mod numbers;
 mod punctuators;
+mod spellings;
 mod words;

@@ -3,7 +3,7 @@
 ghost use Rattle.std.specs.Prelude.{◌≡◌, [], ◌∷◌, length, is_some, IfSome};
 ghost use Rattle.c_reading.specs.Words.{find_text};
 ghost use Rattle.c_reading.specs.Punctuators.{singles, pairs, triples, extra_single, extra_triple, punctuator_of};
-ghost use Rattle.c_lexer.specs.Found.{GivesPunctuator};
+ghost use Rattle.c_lexer.specs.Found.{GivesPunctuator, GivesShort};
 
 use c_reading::Mode;
 use c_tree::Punctuator;
@@ -96,4 +96,51 @@ fn single(mode: Mode, first: u8) -> Option<Punctuator>
         };
     }
     single_of_c(first)
+}
+
+/// The punctuator of these three bytes.
+#[tactic(auto, unfolding(c_reading::specs::Punctuators::punctuator_of, c_reading::specs::Punctuators::punctuators, c_reading::specs::Punctuators::triples))]
+fn triple(mode: Mode, first: u8, second: u8, third: u8) -> Option<Punctuator>
+    ensures { result ≡ punctuator_of mode (first ∷ second ∷ third ∷ []) }
+{
+    if first == b'=' && second == b'=' && third == b'>' {
+        return match mode {
+            Mode::C => None,
+            Mode::Metal => Some(Punctuator::LongArrow),
+        };
+    }
+    triple_of_c(first, second, third)
+}
+
+/// The punctuator of these two bytes, or of the first one alone, with its length.
+#[tactic(auto, unfolding(c_reading::specs::Punctuators::punctuator_of, c_reading::specs::Punctuators::punctuators))]
+fn pair_or_single(mode: Mode, first: u8, second: u8) -> Option<(usize, Punctuator)>
+    ensures { GivesShort mode first second result }
+{
+    if let Some(punctuator) = pair(first, second) {
+        return Some((2, punctuator));
+    }
+    match single(mode, first) {
+        None => None,
+        Some(punctuator) => Some((1, punctuator)),
+    }
+}
+
+/// The longest punctuator in front, with its length.
+#[tactic(auto, unfolding(c_reading::specs::Cutting::punctuator_len))]
+pub fn punctuator(mode: Mode, bytes: &[u8]) -> Option<(usize, Punctuator)>
+    ensures { GivesPunctuator mode bytes.now result }
+{
+    match bytes {
+        [] => None,
+        [first] => match single(mode, *first) {
+            None => None,
+            Some(punctuator) => Some((1, punctuator)),
+        },
+        [first, second] => pair_or_single(mode, *first, *second),
+        [first, second, third, ..] => match triple(mode, *first, *second, *third) {
+            None => pair_or_single(mode, *first, *second),
+            Some(punctuator) => Some((3, punctuator)),
+        },
+    }
 }

@@ -114,3 +114,5 @@ kind-literal mode bs n h = kind_of-literal mode (take n bs) (literal-taken bs n 
 
 pub kind-punctuator : (mode : Mode) (s : List ℕ) (p : Punctuator) → punctuator_of mode s ≡ Some p → kind_of mode s ≡ Some (kinds.Punct p)
 kind-punctuator mode s p h = kind_of-punctuator mode s p h
+
+pub ruleset literal_kinds = (kind-literal)
