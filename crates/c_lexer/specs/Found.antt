@@ -32,3 +32,8 @@ GivesSpelling mode bs n (Some s) = (n ≡ s.len) × (1 ≤ s.len) × (s.len ≤ 
 abbrev pub marker_view : Marker → markers.Marker
 marker_view Skipped = markers.Skipped
 marker_view (Renumbers line file) = markers.Renumbers line (option_map (λ f. unescaped f.now) file)
+
+-- the byte in front
+abbrev pub IsFirst : ℕ → List ℕ → Type 0
+IsFirst b [] = ⊥
+IsFirst b (c ∷ cs) = c ≡ b

@@ -4,7 +4,7 @@ ghost use Rattle.std.specs.Prelude.{◌≡◌, ◌<◌, IsTrue, slice_index, len
 ghost use Rattle.c_reading.specs.Bytes.{is_letter};
 ghost use Rattle.c_reading.specs.Spellings.{begins_number, literal_len, or_zero};
 ghost use Rattle.c_reading.specs.Cutting.{word_len, number_len, punctuator_len, word_or_literal, spelling_len};
-ghost use Rattle.c_lexer.specs.Found.{GivesSpelling};
+ghost use Rattle.c_lexer.specs.Found.{GivesSpelling, IsFirst};
 ghost use Rattle.c_reading.specs.declared.mode.Mode.{Mode};
 
 use crate::bytes::{Class, front_len, is_letter, is_quote};
@@ -36,4 +36,65 @@ fn literal(mode: Mode, bytes: &[u8]) -> Option<Spelled>
     }
     let kind = Some(literal_kind(&bytes[..len]));
     Some(Spelled { len, kind })
+}
+
+/// A literal behind `L`, else a word.
+#[tactic(auto, unfolding(c_reading::specs::Cutting::word_len), using(c_reading::proofs::ClassKinds::word_kinds))]
+fn word_or_literal(mode: Mode, first: u8, bytes: &[u8]) -> Option<Spelled>
+    requires begins { IsFirst first bytes.now }
+    requires letter { IsTrue (is_letter first) }
+    ensures { GivesSpelling mode bytes.now (word_or_literal bytes.now) result }
+{
+    if let Some(spelled) = literal(mode, bytes) {
+        return Some(spelled);
+    }
+    let len = front_len(Class::Word, &bytes[1..]) + 1;
+    let kind = Some(word_kind(&bytes[..len]));
+    Some(Spelled { len, kind })
+}
+
+/// A number.
+#[tactic(auto, using(c_reading::proofs::ClassKinds::number_kinds))]
+fn number(mode: Mode, bytes: &[u8]) -> Option<Spelled>
+    requires { IsTrue (begins_number bytes.now) }
+    ensures { GivesSpelling mode bytes.now (number_len bytes.now) result }
+{
+    let len = number_len(bytes);
+    if len == 0 {
+        return None;
+    }
+    let kind = number_kind(&bytes[..len]);
+    Some(Spelled { len, kind })
+}
+
+/// A punctuator.
+#[tactic(auto, using(c_reading::proofs::ClassKinds::punctuator_kinds))]
+fn sign(mode: Mode, bytes: &[u8]) -> Option<Spelled>
+    ensures { GivesSpelling mode bytes.now (punctuator_len mode bytes.now) result }
+{
+    let Some((len, found)) = punctuator(mode, bytes) else {
+        return None;
+    };
+    let kind = Some(TokenKind::Punct(found));
+    Some(Spelled { len, kind })
+}
+
+/// The longest spelling in front.
+#[tactic(auto, unfolding(c_reading::specs::Cutting::spelling_len))]
+pub fn spelling(mode: Mode, bytes: &[u8]) -> Option<Spelled>
+    ensures { GivesSpelling mode bytes.now (spelling_len mode bytes.now) result }
+{
+    let [first, ..] = bytes else {
+        return None;
+    };
+    if is_letter(*first) {
+        return word_or_literal(mode, *first, bytes);
+    }
+    if begins_number(bytes) {
+        return number(mode, bytes);
+    }
+    if is_quote(*first) {
+        return literal(mode, bytes);
+    }
+    sign(mode, bytes)
 }

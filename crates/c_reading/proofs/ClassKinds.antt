@@ -13,7 +13,7 @@ use Rattle.c_reading.specs.Spellings.{is_word, is_number, is_literal, begins_num
 use Rattle.c_reading.specs.Cutting.{word_len, number_len}
 use Rattle.c_reading.proofs.Tests.{cases, both}
 use Rattle.c_reading.proofs.ByteFacts.{letter_no_number, number_no_letter, quote_no_number, quote_no_word_byte}
-use Rattle.c_reading.proofs.Classes.{word_first, word-taken, number_begins, number-taken, literal-there, literal-taken, PlainFirst, punctuator_first}
+use Rattle.c_reading.proofs.Classes.{word_first, word-taken, number_begins, number-taken, number-some, literal-there, literal-taken, PlainFirst, punctuator_first}
 use Rattle.c_reading.proofs.Longest.{literal_first}
 
 kind_of-word : (mode : Mode) (s : List ℕ) → is_word s ≡ true → kind_of mode s ≡ Some (word_kind s)
@@ -115,4 +115,23 @@ kind-literal mode bs n h = kind_of-literal mode (take n bs) (literal-taken bs n 
 pub kind-punctuator : (mode : Mode) (s : List ℕ) (p : Punctuator) → punctuator_of mode s ≡ Some p → kind_of mode s ≡ Some (kinds.Punct p)
 kind-punctuator mode s p h = kind_of-punctuator mode s p h
 
+-- the first byte of a word, and its kind, by the bytes behind it
+pub word_kind_is : (mode : Mode) (bs : List ℕ) (c : ℕ) → is_letter c ≡ true → (rest : List ℕ) → bs ≡ c ∷ rest → kind_of mode (take (word_len bs) bs) ≡ Some (word_kind (take (word_len bs) bs))
+word_kind_is mode bs c h rest e = rw e (kind-word mode c rest h)
+
+pub number_kind_is : (mode : Mode) (bs : List ℕ) → begins_number bs ≡ true → kind_of mode (take (number_len bs) bs) ≡ number_kind (take (number_len bs) bs)
+number_kind_is mode [] h = cc
+number_kind_is mode (c ∷ cs) h = kind-number mode c cs h
+
+-- a number is there where it begins
+pub number_there : (bs : List ℕ) → begins_number bs ≡ true → 1 ≤ number_len bs
+number_there [] h = cc
+number_there (c ∷ cs) h = number-some c cs h
+
 pub ruleset literal_kinds = (kind-literal)
+
+pub ruleset word_kinds = (kind-word)
+
+pub ruleset number_kinds = (number_kind_is, number_there)
+
+pub ruleset punctuator_kinds = (kind-punctuator)

@@ -72,7 +72,7 @@ plus-zero (Some n) = ap Some (omega arith)
 abbrev pub behind_first : List ℕ → List ℕ
 behind_first l = take (length l - 1) (drop 1 l)
 
-behind_cons : (c : ℕ) (cs : List ℕ) → take (length (c ∷ cs) - 1) (drop 1 (c ∷ cs)) ≡ cs
+pub behind_cons : (c : ℕ) (cs : List ℕ) → take (length (c ∷ cs) - 1) (drop 1 (c ∷ cs)) ≡ cs
 behind_cons c cs = take_all (length (c ∷ cs) - 1) cs (omega arith)
 
 pub quoted-next : (q k : ℕ) (l : List ℕ) → 1 ≤ length l → (get_or l 0 0 ≡ q → ⊥) → (get_or l 0 0 ≡ 10 → ⊥) → (get_or l 0 0 ≡ 92 → ⊥) → plus (k + 1) (quoted q (behind_first l)) ≡ plus k (quoted q l)
