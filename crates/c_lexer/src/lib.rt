@@ -6,6 +6,7 @@ mod constants;
 mod literals;
 mod markers;
 mod numbers;
+mod pieces;
 mod punctuators;
 mod spellings;
 mod words;
