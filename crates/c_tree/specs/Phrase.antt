@@ -1,11 +1,10 @@
 -- Symbols one after the other, in pieces: so that each line of the grammar is one line here.
-use Rattle.std.specs.Prelude.{List, [], ◌∷◌, ◌++◌}
+use Rattle.std.specs.Prelude.{List, ◌∷◌, ◌++◌}
 use Rattle.c_tree.specs.declared.keyword.Keyword.{Keyword}
 use Rattle.c_tree.specs.declared.punctuator.Punctuator.{Punctuator}
 use Rattle.c_tree.specs.Symbol.{Symbol, Reserved, Sign}
 
 infixl 30 ◌⨾◌
-
 pub data Phrase : Type 0 where
   nothing : Phrase
   one : Symbol → Phrase

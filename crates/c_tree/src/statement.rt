@@ -77,15 +77,11 @@ pub enum Iteration<'a> {
 #[derive(Clone, Copy)]
 pub enum Jump<'a> {
     /// `goto label;`
-    Goto {
-        label: Token,
-    },
+    Goto { label: Token },
     /// `continue;`
     Continue,
     /// `break;`
     Break,
     /// `return value;` or `return;`
-    Return {
-        value: Option<&'a Tree<'a>>,
-    },
+    Return { value: Option<&'a Tree<'a>> },
 }

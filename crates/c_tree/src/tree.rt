@@ -2,11 +2,10 @@
 
 ghost use Rattle.std.specs.Prelude.{◌≡◌};
 
-use crate::expression::{Operation, Postfix, Primary, Unary};
 use crate::declaration::{Declarator, Initializer, Outer, Part, Specifier};
-use crate::statement::{Iteration, Jump, Statement};
+use crate::expression::{Operation, Postfix, Primary, Unary};
 use crate::place::Place;
-
+use crate::statement::{Iteration, Jump, Statement};
 use bumpalo::Bump;
 use std::alloc::Global;
 
