@@ -1,12 +1,24 @@
 //! Tokens, places and syntax trees of C, from which every other part of the checker reads.
-#![tactic(auto)]
+#![tactic(auto, using(crate::proofs::Rows::nodes_out))]
 
+mod declaration;
+mod expression;
+mod heights;
 mod keyword;
+mod operator;
 mod place;
 mod punctuator;
+mod statement;
 mod token;
+mod tree;
 
+pub use declaration::{Declarator, Initializer, Outer, Part, Specifier};
+pub use expression::{Operation, Postfix, Primary, Unary};
+pub use heights::height;
 pub use keyword::Keyword;
+pub use operator::{BinaryOp, CompoundOp, StructOrUnion};
 pub use place::Place;
 pub use punctuator::Punctuator;
+pub use statement::{Iteration, Jump, Statement};
 pub use token::{FloatEnd, Mark, Token, TokenKind};
+pub use tree::{Arena, Kind, Tree, Trees, first_token};
