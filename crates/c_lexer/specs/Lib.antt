@@ -1,3 +1,5 @@
 pub mod Tests
 pub mod Found
 pub mod Pieces
+pub mod Tokens
+pub mod Progress

@@ -3,6 +3,8 @@
 
 mod bytes;
 mod constants;
+mod fault;
+mod here;
 mod literals;
 mod markers;
 mod numbers;
