@@ -1,1 +1,2 @@
 mod SpellingSteps
+mod Taking

@@ -37,3 +37,8 @@ marker_view (Renumbers line file) = markers.Renumbers line (option_map (λ f. un
 abbrev pub IsFirst : ℕ → List ℕ → Type 0
 IsFirst b [] = ⊥
 IsFirst b (c ∷ cs) = c ≡ b
+
+-- the number that a marker gives to the following line, if it gives one
+abbrev pub marker_line : Marker → ℕ
+marker_line Skipped = 0
+marker_line (Renumbers line file) = line

@@ -3,3 +3,4 @@ pub mod Found
 pub mod Pieces
 pub mod Tokens
 pub mod Progress
+pub mod Faults

@@ -24,3 +24,9 @@ pub record Steps (mode : Mode) (number : ℕ) (names : List (List ℕ)) (file : 
   pub more : List Token
   pub pushed : new ≡ old ++ more
   pub tokens : AreTokens number names (length old) (lexeme_at mode (here_of file here) p) more
+
+-- the lexer stands there, in a file whose name is known
+pub record Lands (names : List (List ℕ)) (next : Here) (h : pieces.Here) : Type 0 where
+  pub file : List ℕ
+  pub known : slice_get names next.source ≡ Some file
+  pub stands : here_of file next ≡ h

@@ -1,6 +1,6 @@
 //! What a number says: an integer or a floating constant.
 
-ghost use Rattle.std.specs.Prelude.{◌≡◌, ◌-◌, ◌<◌, ◌≤◌, ◌^◌, length, nat_le, if◌then◌else◌};
+ghost use Rattle.std.specs.Prelude.{◌≡◌, ◌-◌, ◌<◌, ◌≤◌, ◌^◌, length, nat_le, if◌then◌else◌, IfSome};
 ghost use Rattle.c_reading.specs.Constants.{digit_value, value_up_to, suffix_of, integer_in, hexadecimal, integer_of, after_digits, float_end, after_sign, exponent_digits, exponent, after_point, after_whole, float_of, number_kind, is_u, is_l};
 ghost use Rattle.c_lexer.specs.Tests.{test_of};
 
@@ -27,7 +27,8 @@ fn digit_value(digit: u8) -> u64
 #[tactic(auto, using(c_reading::proofs::Scans::value_past))]
 pub fn value_up_to(most: u64, base: u64, digits: &[u8]) -> Option<u64>
     requires { 0 < base }
-    ensures { result ≡ value_up_to most base digits.now }
+    ensures value { result ≡ value_up_to most base digits.now }
+    ensures most { IfSome result (λ value. value ≤ most) }
 {
     let mut value = 0u64;
     let mut rest = digits;

@@ -1,5 +1,7 @@
 //! Why bytes have no reading, and where.
 
+ghost use Rattle.std.specs.Prelude.{◌≡◌};
+ghost use Rattle.c_lexer.specs.Faults.{fault_there};
 ghost use Rattle.c_lexer.specs.declared.fault.LexFault.TheVariants.{NoMemory};
 
 use c_reading::Fault;
@@ -43,7 +45,9 @@ pub enum LexFault {
 
 impl LexFault {
     /// The fault of this kind, there.
-    pub(crate) fn at(fault: Fault, spot: Spot) -> LexFault {
+    pub(crate) fn at(fault: Fault, spot: Spot) -> LexFault
+        ensures { result ≡ fault_there fault spot }
+    {
         match fault {
             Fault::BadByte => LexFault::BadByte(spot),
             Fault::OpenText => LexFault::OpenText(spot),
