@@ -1,2 +1,3 @@
 mod SpellingSteps
 mod Taking
+mod Reaching

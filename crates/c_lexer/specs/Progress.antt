@@ -3,7 +3,9 @@ use Rattle.std.specs.Prelude.{◌≡◌, ◌+◌, ◌≤◌, ◌^◌, ℕ, List,
 use Rattle.c_tree.specs.declared.token.Token.{Token}
 use Rattle.c_reading.specs.declared.mode.Mode.{Mode}
 use Rattle.c_reading.specs.Pieces as pieces
-use Rattle.c_reading.specs.Reading.{lexeme_at}
+use Rattle.mx_base.specs.Names.{AddsAtMost, HasNoRepeats}
+use Rattle.c_reading.specs.Reading.{Cuts, lexeme_at, lexemes}
+use Rattle.c_lexer.specs.declared.fault.Spot.{Spot}
 use Rattle.c_lexer.specs.declared.here.Here.{Here}
 use Rattle.c_lexer.specs.Tokens.{AreTokens}
 
@@ -30,3 +32,20 @@ pub record Lands (names : List (List ℕ)) (next : Here) (h : pieces.Here) : Typ
   pub file : List ℕ
   pub known : slice_get names next.source ≡ Some file
   pub stands : here_of file next ≡ h
+
+-- the spot where the lexer stands, with so many tokens before
+abbrev pub spot_of : ℕ → Here → ℕ → Spot
+spot_of number h before = record { place = record { file = number; token = before }; source = h.source; line = h.line; col = h.column }
+
+-- So far the lexer has cut the bytes up to the rest, and kept their tokens.
+pub record Reached (mode : Mode) (number : ℕ) (word bytes : List ℕ) (before : List (List ℕ)) (rest : List ℕ) (here : Here) (kept : List Token) (names : List (List ℕ)) : Type 0 where
+  pub cut : List pieces.Piece
+  pub cuts : Cuts mode (pieces.beginning word) cut bytes rest
+  pub file : List ℕ
+  pub known : slice_get names here.source ≡ Some file
+  pub stands : here_of file here ≡ pieces.behind_all (pieces.beginning word) cut
+  pub tokens : AreTokens number names 0 (lexemes mode (pieces.beginning word) cut) kept
+  pub adds : AddsAtMost before names (here.offset + 1)
+  pub once : HasNoRepeats names
+  pub size : here.offset + length rest ≡ length bytes
+  pub bounds : InBounds here

@@ -7,7 +7,7 @@ ghost use Rattle.c_reading.specs.Pieces.{Piece as ReadPiece, on_next_line};
 ghost use Rattle.c_reading.specs.Reading.{IsReading};
 ghost use Rattle.c_lexer.specs.Found.{marker_view, marker_line};
 ghost use Rattle.c_lexer.specs.Pieces.{piece_view, piece_len, Says, NumbersLow};
-ghost use Rattle.c_lexer.specs.Progress.{here_of, InBounds, Steps, Lands};
+ghost use Rattle.c_lexer.specs.Progress.{here_of, InBounds, Steps, Lands, spot_of};
 ghost use Rattle.c_lexer.specs.Tokens.{Lexes, Refuses, IsToken};
 ghost use Rattle.c_lexer.specs.declared.fault.LexFault.TheVariants.{NoMemory};
 
@@ -133,4 +133,59 @@ fn take(
             Ok(here.further(len))
         }
     }
+}
+
+/// The spot where a reading stands, behind these tokens.
+fn spot(file: u16, here: Here, tokens: &[Token]) -> Spot
+    requires { length tokens.now < 2 ^ 32 }
+    ensures { result ≡ spot_of file here (length tokens.now) }
+{
+    Spot {
+        place: Place {
+            file,
+            token: tokens.len() as u32,
+        },
+        source: here.source,
+        line: here.line,
+        col: here.column,
+    }
+}
+
+/// Reads the bytes of the file with this number. `word` is the presumed file where no marker names another.
+///
+/// Each token and each marker adds at most one name, and the word one. After a refusal the names begin with the old ones.
+pub fn lex(
+    alloc: Global,
+    bytes: &[u8],
+    mode: Mode,
+    file: u16,
+    word: &[u8],
+    names: &mut Names,
+) -> Result<Tokens, LexFault>
+    requires size { length bytes.now ≤ 16777216 }
+    requires room { length bytes.now + length names.old + 1 < 2 ^ 31 }
+    // The tokens are those of a reading of the bytes, and each reading has these tokens.
+    ensures reading { IfOk result (λ tokens. (pieces : List ReadPiece) × IsReading mode word.now pieces bytes.now × Lexes mode file word.now names.new pieces tokens) }
+    ensures only { (pieces : List ReadPiece) → IsReading mode word.now pieces bytes.now →
+        MatchResult result (λ tokens. Lexes mode file word.now names.new pieces tokens) (λ fault. fault ≡ NoMemory) }
+    // A refusal is the fault of the bytes, which have no reading then.
+    ensures fault { IfErr result (λ fault. Refuses mode file word.now names.new bytes.now fault) }
+
+    ensures adds { AddsAtMost names.old names.new (length bytes.now + 1) }
+    ensures distinct { HasNoRepeats names.new }
+{
+    let source = names.intern(word)?;
+    let mut here = Here::beginning(source);
+    let mut tokens = Vec::new(alloc);
+    let mut rest = bytes;
+    'cutting: while !rest.is_empty() {
+        let piece = match cut(mode, here.first, rest) {
+            Ok(piece) => piece,
+            Err(fault) => return Err(LexFault::at(fault, spot(file, here, tokens.as_slice()))),
+        };
+        here = take(alloc, piece, rest, here, file, &mut tokens, names)?;
+        rest = &rest[piece.len()..];
+    }
+    let end = spot(file, here, tokens.as_slice());
+    Ok(Tokens::new(tokens, end))
 }

@@ -14,3 +14,8 @@ mod punctuators;
 mod spellings;
 mod tokens;
 mod words;
+
+pub use c_reading::Mode;
+pub use fault::{LexFault, Spot};
+pub use lexer::lex;
+pub use tokens::Tokens;
