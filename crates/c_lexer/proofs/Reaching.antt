@@ -18,7 +18,9 @@ use Rattle.c_lexer.specs.declared.pieces.Piece.{Piece}
 use Rattle.c_lexer.specs.declared.pieces.Piece.TheVariants.{Space, Comment, LineComment, MarkerLine, Spelling}
 use Rattle.c_lexer.specs.Pieces.{piece_view, piece_len, Says, GivesPiece}
 use Rattle.c_lexer.specs.Progress.{here_of, InBounds, Steps, Reached, spot_of}
-use Rattle.c_lexer.specs.Tokens.{IsToken, AreTokens, IsSpot, Rises, Lexes, IsFault}
+use Rattle.c_reading.specs.declared.fault.Fault.TheVariants.{BadByte, OpenText, BadNumber, BadMarker}
+use Rattle.c_lexer.specs.Faults.{fault_there}
+use Rattle.c_lexer.specs.Tokens.{TokenList, IsToken, AreTokens, IsSpot, Rises, Lexes, IsFault, Refuses}
 
 -- ---- tokens
 
@@ -181,3 +183,28 @@ module _ (mode : Mode) (number : ℕ) (word bytes : List ℕ) (before : List (Li
   -- how many names there are, and how many tokens
   pub reached_names : (rest : List ℕ) (here : Here) (kept : List Token) (names : List (List ℕ)) → Reached mode number word bytes before rest here kept names → AddsAtMost before names (length bytes + 1)
   reached_names rest here kept names r = adds_more before names (here.offset + 1) (length bytes + 1) r.adds (let z = r.size in omega arith)
+
+-- the lexer's fault, by its kind
+pub refused : (mode : Mode) (number : ℕ) (word : List ℕ) (names : List (List ℕ)) (bytes : List ℕ) (fault : Fault) (spot : Spot) → IsFault mode number word names bytes fault spot → Refuses mode number word names bytes (fault_there fault spot)
+refused mode number word names bytes BadByte spot f = f
+refused mode number word names bytes OpenText spot f = f
+refused mode number word names bytes BadNumber spot f = f
+refused mode number word names bytes BadMarker spot f = f
+
+-- a fault and a reading aren't had together
+pub unread : (mode : Mode) (number : ℕ) (word : List ℕ) (names : List (List ℕ)) (bytes : List ℕ) (fault : Fault) (spot : Spot) (ps : List pieces.Piece) → IsFault mode number word names bytes fault spot → IsReading mode word ps bytes → ⊥
+unread mode number word names bytes fault spot ps f r = no_reading mode word f.pieces ps bytes fault f.faulty r
+
+-- the tokens are those of each reading
+pub same_tokens : (mode : Mode) (number : ℕ) (word : List ℕ) (names : List (List ℕ)) (bytes : List ℕ) (list : TokenList) (ps qs : List pieces.Piece) → IsReading mode word ps bytes → IsReading mode word qs bytes → Lexes mode number word names ps list → Lexes mode number word names qs list
+same_tokens mode number word names bytes list ps qs r s l = subst (λ x. Lexes mode number word names x list) (one_reading mode (beginning word) ps qs bytes r s) l
+
+pub some_left : (rest : List ℕ) → 0 < length rest → rest ≢ []
+some_left rest h e = let z : length rest ≡ 0 = ap length e in absurd (omega arith)
+
+-- the list that was made of these tokens and this end
+pub made_list : (mode : Mode) (number : ℕ) (word : List ℕ) (names : List (List ℕ)) (ps : List pieces.Piece) (list : TokenList) (kept : List Token) (end : Spot) → list.all ≡ kept → list.end ≡ end → Lexes mode number word names ps (record { all = kept; end = end }) → Lexes mode number word names ps list
+made_list mode number word names ps list kept end a e l = record {
+    tokens = rw a (l.tokens);
+    end = rw (a, e) (l.end);
+  }
