@@ -1,3 +1,4 @@
 mod SpellingSteps
 mod Taking
 mod Reaching
+mod Positions
