@@ -2,3 +2,4 @@ mod SpellingSteps
 mod Taking
 mod Reaching
 mod Positions
+mod Rising

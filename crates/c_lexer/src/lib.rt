@@ -2,6 +2,7 @@
 #![tactic(auto)]
 
 mod bytes;
+mod chunk_bounds;
 mod constants;
 mod fault;
 mod here;
@@ -12,10 +13,12 @@ mod numbers;
 mod pieces;
 mod punctuators;
 mod spellings;
+mod stripping;
 mod tokens;
 mod words;
 
 pub use c_reading::Mode;
+pub use chunk_bounds::chunks;
 pub use fault::{LexFault, Spot};
 pub use lexer::lex;
 pub use tokens::Tokens;

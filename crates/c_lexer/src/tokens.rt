@@ -1,6 +1,6 @@
 //! The tokens of a source, and where each stands.
 
-ghost use Rattle.std.specs.Prelude.{◌≡◌, ◌+◌, ◌<◌, ◌≤◌, ℕ, length, vec_len};
+ghost use Rattle.std.specs.Prelude.{◌≡◌, ◌+◌, ◌<◌, ◌≤◌, ◌^◌, ℕ, length, vec_len};
 ghost use Rattle.c_lexer.specs.Tokens.{Rises, position_of, number_at};
 
 use crate::fault::Spot;
@@ -15,13 +15,14 @@ pub struct Tokens {
 }
 
 impl Model for Tokens {
+    ghost use Rattle.std.specs.Prelude.{◌<◌, ◌^◌};
     ghost use Rattle.c_lexer.specs.Tokens.{TokenList, Rises};
 
     ghost Value = { TokenList };
 
     ghost view = { λ t. record { all = t.all.items; end = t.end } };
 
-    ghost invariant = { λ t. Rises 0 t.all.items t.end.place.token };
+    ghost invariant = { λ t. Rises 0 t.all.items t.end.place.token × (t.end.place.token < 2 ^ 32) };
 }
 
 impl Tokens {
@@ -35,9 +36,11 @@ impl Tokens {
     }
 
     /// The tokens.
+    #[tactic(auto, using(crate::proofs::Rising::rises_count))]
     pub fn all(&self) -> &[Token]
         ensures all { result.now ≡ self.now.all }
         ensures rising { Rises 0 result.now self.now.end.place.token }
+        ensures few { length result.now < 2 ^ 32 }
     {
         self.all.as_slice()
     }

@@ -11,3 +11,5 @@ pub mod Readings
 pub mod Examples
 pub mod Scans
 pub mod ClassKinds
+pub mod TokenGroups
+pub mod ChunkSteps

@@ -9,3 +9,7 @@ pub mod Pieces
 pub mod Reading
 pub mod Cutting
 pub mod Scans
+pub mod Strip
+pub mod Chunks
+pub mod Groups
+pub mod Nests
