@@ -3,3 +3,4 @@ mod Taking
 mod Reaching
 mod Positions
 mod Rising
+mod Kept

@@ -2,56 +2,13 @@
 
 ghost use Rattle.std.specs.Prelude.{◌≡◌, ◌+◌, ◌<◌, ◌≤◌, ◌^◌, length, IfOk};
 ghost use Rattle.c_reading.specs.Strip.{is_close_paren};
-ghost use Rattle.c_reading.specs.Chunks.{opens, closes, is_semicolon, is_open_brace, is_close_brace, depth_behind, AreChunks};
+ghost use Rattle.c_reading.specs.Chunks.{depth_behind, AreChunks};
 ghost use Rattle.c_reading.specs.Nests.{ends_here, body_behind};
 
+use crate::kinds::{closes, is_close_brace, is_close_paren, is_open_brace, is_semicolon, opens};
 use crate::tokens::Tokens;
-use c_tree::{Punctuator, TokenKind};
+use c_tree::TokenKind;
 use std::alloc::{AllocError, Global};
-
-/// `(`, `[` or `{`.
-fn opens(kind: TokenKind) -> bool
-    ensures { result ≡ opens kind }
-{
-    matches!(
-        kind,
-        TokenKind::Punct(Punctuator::OpenParen | Punctuator::OpenBracket | Punctuator::OpenBrace)
-    )
-}
-
-/// `)`, `]` or `}`.
-fn closes(kind: TokenKind) -> bool
-    ensures { result ≡ closes kind }
-{
-    matches!(
-        kind,
-        TokenKind::Punct(Punctuator::CloseParen | Punctuator::CloseBracket | Punctuator::CloseBrace)
-    )
-}
-
-fn is_semicolon(kind: TokenKind) -> bool
-    ensures { result ≡ is_semicolon kind }
-{
-    matches!(kind, TokenKind::Punct(Punctuator::Semicolon))
-}
-
-fn is_open_brace(kind: TokenKind) -> bool
-    ensures { result ≡ is_open_brace kind }
-{
-    matches!(kind, TokenKind::Punct(Punctuator::OpenBrace))
-}
-
-fn is_close_brace(kind: TokenKind) -> bool
-    ensures { result ≡ is_close_brace kind }
-{
-    matches!(kind, TokenKind::Punct(Punctuator::CloseBrace))
-}
-
-fn is_close_paren(kind: TokenKind) -> bool
-    ensures { result ≡ is_close_paren kind }
-{
-    matches!(kind, TokenKind::Punct(Punctuator::CloseParen))
-}
 
 /// What is known at a position of the brackets before it.
 #[derive(Clone, Copy)]

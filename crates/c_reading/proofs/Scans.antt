@@ -13,7 +13,7 @@ map_plus : (k : ℕ) (o : Option ℕ) → option_map (λ n. n + k) o ≡ plus k 
 map_plus k None = refl
 map_plus k (Some n) = refl
 
-plus-plus : (k m : ℕ) (o : Option ℕ) → plus k (plus m o) ≡ plus (k + m) o
+pub plus-plus : (k m : ℕ) (o : Option ℕ) → plus k (plus m o) ≡ plus (k + m) o
 plus-plus k m None = refl
 plus-plus k m (Some n) = ap Some (omega arith)
 
