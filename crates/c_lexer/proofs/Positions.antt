@@ -25,16 +25,16 @@ rises_between low (t ∷ ts) high (suc i) (suc j) r l h = rises_between (t.place
 -- up to a smaller one all are smaller
 pub smaller_up_to : (ts : List Token) (high middle number : ℕ) → Rises 0 ts high → middle < length ts → number_at ts middle < number → (k : ℕ) → k < middle + 1 → number_at ts k < number
 smaller_up_to ts high middle number r m s k h = elim (cases_lt k middle) as (λ _. number_at ts k < number) [
-    | inl l ↦ let b = rises_between 0 ts high k middle r l m in omega arith
-    | inr l ↦ let e : k ≡ middle = omega arith in rw e s
-  ]
+  | inl l ↦ let b = rises_between 0 ts high k middle r l m in omega arith
+  | inr l ↦ let e : k ≡ middle = omega arith in rw e s
+]
 
 -- from one that isn't smaller on none is
 pub larger_from : (ts : List Token) (high middle number : ℕ) → Rises 0 ts high → number ≤ number_at ts middle → (k : ℕ) → middle ≤ k → k < length ts → number ≤ number_at ts k
 larger_from ts high middle number r s k m h = elim (cases_lt middle k) as (λ _. number ≤ number_at ts k) [
-    | inl l ↦ let b = rises_between 0 ts high middle k r l h in omega arith
-    | inr l ↦ let e : k ≡ middle = omega arith in rw e s
-  ]
+  | inl l ↦ let b = rises_between 0 ts high middle k r l h in omega arith
+  | inr l ↦ let e : k ≡ middle = omega arith in rw e s
+]
 
 pub position_found : (ts : List Token) (end : Spot) (number i : ℕ) (d : Token) → ((k : ℕ) → k < i → number_at ts k < number) → i < length ts → (get_or ts i d).place.token ≡ number →
     position_of ts end number ≡ ((get_or ts i d).source, (get_or ts i d).line, (get_or ts i d).col)
@@ -57,12 +57,12 @@ position_between ts end high number i d r below above h differ =
     let other : number_at ts i ≢ number = λ e. differ (sym at_i ∙ e) in
     let larger : number < number_at ts i = grind arith in
     position_none ts end number (λ k l e. elim (cases_lt k i) [
-        | inl s ↦ let b = below k s in absurd (omega arith)
-        | inr s ↦ elim (cases_lt i k) [
-            | inl t ↦ let b = rises_between 0 ts high i k r t l in absurd (omega arith)
-            | inr t ↦ let q : k ≡ i = omega arith in other (ap (number_at ts) (sym q) ∙ e)
-          ]
-      ])
+      | inl s ↦ let b = below k s in absurd (omega arith)
+      | inr s ↦ elim (cases_lt i k) [
+        | inl t ↦ let b = rises_between 0 ts high i k r t l in absurd (omega arith)
+        | inr t ↦ let q : k ≡ i = omega arith in other (ap (number_at ts) (sym q) ∙ e)
+      ]
+    ])
 
 -- no token has the number, where all are smaller
 pub position_past : (ts : List Token) (end : Spot) (number i : ℕ) → ((k : ℕ) → k < i → number_at ts k < number) → length ts ≤ i → position_of ts end number ≡ (end.source, end.line, end.col)

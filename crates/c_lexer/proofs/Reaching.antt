@@ -26,16 +26,16 @@ use Rattle.c_lexer.specs.Tokens.{TokenList, IsToken, AreTokens, IsSpot, Rises, L
 
 keeps_token : (number : ℕ) (old new : List (List ℕ)) (most before : ℕ) (l : Lexeme) (t : Token) → AddsAtMost old new most → IsToken number old before l t → IsToken number new before l t
 keeps_token number old new most before l t adds i = record {
-    kind = i.kind;
-    name = kept_number old new most t.name l.spelling adds i.name;
-    start = i.start;
-    len = i.len;
-    line = i.line;
-    col = i.col;
-    source = kept_number old new most t.source l.here.file adds i.source;
-    file = i.file;
-    place = i.place;
-  }
+  kind = i.kind;
+  name = kept_number old new most t.name l.spelling adds i.name;
+  start = i.start;
+  len = i.len;
+  line = i.line;
+  col = i.col;
+  source = kept_number old new most t.source l.here.file adds i.source;
+  file = i.file;
+  place = i.place;
+}
 
 -- more names leave tokens what they are
 pub keeps_tokens : (number : ℕ) (old new : List (List ℕ)) (most before : ℕ) (ls : List Lexeme) (ts : List Token) → AddsAtMost old new most → AreTokens number old before ls ts → AreTokens number new before ls ts
@@ -162,12 +162,12 @@ module _ (mode : Mode) (number : ℕ) (word bytes : List ℕ) (before : List (Li
   pub reached_end : (rest : List ℕ) (here : Here) (kept : List Token) (names : List (List ℕ)) (r : Reached mode number word bytes before rest here kept names) → rest ≡ [] →
       IsReading mode word r.cut bytes × Lexes mode number word names r.cut (record { all = kept; end = spot_of number here (length kept) })
   reached_end rest here kept names r none = (
-      rw (← none) (r.cuts),
-      record {
-        tokens = r.tokens;
-        end = spot_stands here names r.file (behind_all (beginning word) r.cut) (length kept) r.known r.stands;
-      },
-    )
+    rw (← none) (r.cuts),
+    record {
+      tokens = r.tokens;
+      end = spot_stands here names r.file (behind_all (beginning word) r.cut) (length kept) r.known r.stands;
+    },
+  )
 
   pub reached_fault : (rest : List ℕ) (here : Here) (kept : List Token) (names : List (List ℕ)) (fault : Fault) (r : Reached mode number word bytes before rest here kept names) → rest ≢ [] → cut mode here.first rest ≡ None → fault ≡ fault_at mode here.first rest →
       IsFault mode number word names bytes fault (spot_of number here (length kept))
@@ -205,6 +205,6 @@ some_left rest h e = let z : length rest ≡ 0 = ap length e in absurd (omega ar
 -- the list that was made of these tokens and this end
 pub made_list : (mode : Mode) (number : ℕ) (word : List ℕ) (names : List (List ℕ)) (ps : List pieces.Piece) (list : TokenList) (kept : List Token) (end : Spot) → list.all ≡ kept → list.end ≡ end → Lexes mode number word names ps (record { all = kept; end = end }) → Lexes mode number word names ps list
 made_list mode number word names ps list kept end a e l = record {
-    tokens = rw a (l.tokens);
-    end = rw (a, e) (l.end);
-  }
+  tokens = rw a (l.tokens);
+  end = rw (a, e) (l.end);
+}

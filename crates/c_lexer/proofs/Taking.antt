@@ -63,13 +63,13 @@ module _ (mode : Mode) (number : ℕ) (names : List (List ℕ)) (word : List ℕ
       let said : Says mode (MarkerLine n true marker) bs = subst (λ x. Says mode x bs) k says in
       let stands : here_of lands.file next ≡ on_next_line (here_of word here) (length (take n (drop 1 bs)) + 2) (marker_of (take n (drop 1 bs))) = rw (said.0, size) (lands.stands) in
       piece_is piece (MarkerLine n true marker) k (record {
-          next_file = lands.file;
-          known = lands.known;
-          stands = stands;
-          more = [];
-          pushed = sym (append-nil old);
-          tokens = tt;
-        })
+        next_file = lands.file;
+        known = lands.known;
+        stands = stands;
+        more = [];
+        pushed = sym (append-nil old);
+        tokens = tt;
+      })
 
   pub behind_spelling : (piece : Piece) (n : ℕ) (kind : TokenKind) (new : List Token) (token : Token) → piece ≡ Spelling n kind → n ≤ length bs → Says mode piece bs → slice_get names here.source ≡ Some word → next.source ≡ here.source → here_of word next ≡ further (here_of word here) n → new ≡ old ++ token ∷ [] → IsToken number names (length old) (lexeme_of (here_of word here) (take n bs) kind) token → Steps mode number names word here next (piece_view piece bs) old new
   behind_spelling piece n kind new token e fits says known source stands pushed is =
@@ -77,13 +77,13 @@ module _ (mode : Mode) (number : ℕ) (names : List (List ℕ)) (word : List ℕ
       let said : Says mode (Spelling n kind) bs = subst (λ x. Says mode x bs) e says in
       let lands : here_of word next ≡ further (here_of word here) (length (take n bs)) = rw size stands in
       subst (λ x. Steps mode number names word here next (piece_view x bs) old new) (sym e) (record {
-          next_file = word;
-          known = rw source known;
-          stands = lands;
-          more = token ∷ [];
-          pushed = pushed;
-          tokens = rw said (is, tt);
-        })
+        next_file = word;
+        known = rw source known;
+        stands = lands;
+        more = token ∷ [];
+        pushed = pushed;
+        tokens = rw said (is, tt);
+      })
 
 -- what holds of each answer, where a fact of the answer gives it
 pub if_ok : {A E : Type 0} (P Q : A → Type 0) (r : Result A E) → IfOk r P → ((x : A) → P x → Q x) → IfOk r Q

@@ -25,7 +25,8 @@ impl Nesting {
     fn ends(self, kind: TokenKind) -> bool
         ensures { result ≡ ends_here self.depth self.in_body kind }
     {
-        (is_semicolon(kind) && self.depth == 0) || (is_close_brace(kind) && self.depth == 1 && self.in_body)
+        (is_semicolon(kind) && self.depth == 0)
+            || (is_close_brace(kind) && self.depth == 1 && self.in_body)
     }
 
     /// Behind a token of this kind.

@@ -108,7 +108,12 @@ fn integer_in(class: Class, base: u64, decimal: bool, text: &[u8]) -> Option<Tok
     let Some((unsigned, longs)) = suffix_of(&text[count..]) else {
         return None;
     };
-    Some(TokenKind::Int { value, decimal, unsigned, longs })
+    Some(TokenKind::Int {
+        value,
+        decimal,
+        unsigned,
+        longs,
+    })
 }
 
 /// A hexadecimal integer, behind its `0x`.
@@ -175,13 +180,7 @@ fn after_sign(text: &[u8]) -> &[u8]
 {
     match text {
         [] => text,
-        [a, rest @ ..] => {
-            if *a == b'+' || *a == b'-' {
-                rest
-            } else {
-                text
-            }
-        }
+        [a, rest @ ..] => { if *a == b'+' || *a == b'-' { rest } else { text } }
     }
 }
 

@@ -51,10 +51,11 @@ pub fn unescaped(alloc: Global, text: &[u8]) -> Result<Vec<u8>, AllocError>
     let mut rest = text;
     'going: while let [front, behind @ ..] = rest {
         match behind {
-            [escaped, further @ ..] if *front == b'\\' && (*escaped == b'\\' || *escaped == b'"') => {
-                name.push(*escaped)?;
-                rest = further;
-            }
+            [escaped, further @ ..] if *front == b'\\' && (*escaped == b'\\' || *escaped == b'"') =>
+                {
+                    name.push(*escaped)?;
+                    rest = further;
+                }
             _ => {
                 name.push(*front)?;
                 rest = behind;
@@ -122,7 +123,11 @@ fn after_line_word(text: &[u8]) -> &[u8]
         return text;
     }
     let behind = &text[4..];
-    if begins_gap(behind) { after_gaps(behind) } else { text }
+    if begins_gap(behind) {
+        after_gaps(behind)
+    } else {
+        text
+    }
 }
 
 /// Whether a space or tab is in front.

@@ -20,13 +20,24 @@ pub enum Piece<'a> {
     /// One blank byte.
     Space,
     /// A comment between `/*` and `*/`, of this length.
-    Comment { len: usize },
+    Comment {
+        len: usize,
+    },
     /// A comment with this length behind its `//`.
-    LineComment { len: usize },
+    LineComment {
+        len: usize,
+    },
     /// A marker line with this length behind its `#`, and whether a line feed ends it, which belongs to it.
-    MarkerLine { len: usize, ended: bool, marker: Marker<'a> },
+    MarkerLine {
+        len: usize,
+        ended: bool,
+        marker: Marker<'a>,
+    },
     /// A token of this length.
-    Spelling { len: usize, kind: TokenKind },
+    Spelling {
+        len: usize,
+        kind: TokenKind,
+    },
 }
 
 impl Piece<'_> {
@@ -123,7 +134,11 @@ fn spelling_fault(bytes: &[u8]) -> Fault
     if is_quote(*first) {
         return Fault::OpenText;
     }
-    if begins_number(bytes) { Fault::BadNumber } else { Fault::BadByte }
+    if begins_number(bytes) {
+        Fault::BadNumber
+    } else {
+        Fault::BadByte
+    }
 }
 
 /// A token.
@@ -137,7 +152,10 @@ fn token<'a>(mode: Mode, bytes: &'a [u8]) -> Result<Piece<'a>, Fault>
     let Some(kind) = spelled.kind else {
         return Err(spelling_fault(bytes));
     };
-    Ok(Piece::Spelling { len: spelled.len, kind })
+    Ok(Piece::Spelling {
+        len: spelled.len,
+        kind,
+    })
 }
 
 /// The piece in front. `first` says whether only spaces and tabs stand before on the line, which doesn't begin inside a comment.

@@ -14,7 +14,11 @@ use std::alloc::{AllocError, Global};
 
 /// The length of the group that begins at a token, if one does. `behind` tokens stand behind it, and `closers` has the number
 /// of tokens behind each `)` there that closes no group there, the first one last.
-fn group_at(kind: TokenKind, behind: usize, closers: &mut Vec<usize>) -> Result<Option<usize>, AllocError>
+fn group_at(
+    kind: TokenKind,
+    behind: usize,
+    closers: &mut Vec<usize>,
+) -> Result<Option<usize>, AllocError>
     requires { behind < 4294967296 }
     ensures { IfOk result (λ group. (t : TokenValue) (rest : List TokenValue) → t.kind ≡ kind → length rest ≡ behind → Marks rest (reverse closers.old.items) →
         Marks (t ∷ rest) (reverse closers.new.items) × (group ≡ group_len (t ∷ rest))) }
@@ -56,7 +60,11 @@ fn group_len(tokens: &[Token], groups: &[Option<usize>], index: usize) -> Option
     ensures found { result ≡ group_len (drop index tokens.now) }
     ensures within { IfSome result (λ n. index + n ≤ length tokens.now) }
 {
-    if index < groups.len() { groups[index] } else { None }
+    if index < groups.len() {
+        groups[index]
+    } else {
+        None
+    }
 }
 
 /// How many qualifiers stand from the token with this number on.
@@ -90,7 +98,12 @@ fn asm_len(tokens: &[Token], groups: &[Option<usize>], index: usize) -> Option<u
 }
 
 /// How many tokens from the one with this number on are dropped with a word of this kind before it, if it is dropped.
-fn dropped_with(kind: TokenKind, tokens: &[Token], groups: &[Option<usize>], index: usize) -> Option<usize>
+fn dropped_with(
+    kind: TokenKind,
+    tokens: &[Token],
+    groups: &[Option<usize>],
+    index: usize,
+) -> Option<usize>
     requires groups { AreGroups tokens.now groups.now }
     requires within { index ≤ length tokens.now }
     ensures found { result ≡ dropped_with kind (drop index tokens.now) }
@@ -99,7 +112,9 @@ fn dropped_with(kind: TokenKind, tokens: &[Token], groups: &[Option<usize>], ind
     match kind {
         TokenKind::Word(Mark::ExtensionBoth) => Some(0),
         TokenKind::Word(Mark::Attribute | Mark::AttributeBoth) => group_len(tokens, groups, index),
-        TokenKind::Word(Mark::AsmPlain | Mark::Asm | Mark::AsmBoth) => asm_len(tokens, groups, index),
+        TokenKind::Word(Mark::AsmPlain | Mark::Asm | Mark::AsmBoth) => asm_len(
+            tokens, groups, index,
+        ),
         _ => None,
     }
 }

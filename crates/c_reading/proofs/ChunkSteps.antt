@@ -32,21 +32,21 @@ paren_next ts n d h = let e : n + 1 ≡ suc n = omega arith in rw e (sym (kind_i
 -- the same bracket is still the last one that left depth 0
 still : (ts : List Token) (m n : ℕ) → LeavesZero ts m n → 0 < depth_at ts (n + 1) → LeavesZero ts m (n + 1)
 still ts m n l h = record {
-    before = let b = l.before in omega arith;
-    zero = l.zero;
-    last = λ k a b. elim (cases_lt n k) as (λ _. 0 < depth_at ts k) [
-        | inl c ↦ let e : k ≡ n + 1 = omega arith in rw e h
-        | inr c ↦ l.last k a c
-      ];
-  }
+  before = let b = l.before in omega arith;
+  zero = l.zero;
+  last = λ k a b. elim (cases_lt n k) as (λ _. 0 < depth_at ts k) [
+    | inl c ↦ let e : k ≡ n + 1 = omega arith in rw e h
+    | inr c ↦ l.last k a c
+  ];
+}
 
 -- the bracket here has just left it
 just_left : (ts : List Token) (n : ℕ) → depth_at ts n ≡ 0 → 0 < depth_at ts (n + 1) → LeavesZero ts n (n + 1)
 just_left ts n z h = record {
-    before = omega arith;
-    zero = z;
-    last = λ k a b. let e : k ≡ n + 1 = omega arith in rw e h;
-  }
+  before = omega arith;
+  zero = z;
+  last = λ k a b. let e : k ≡ n + 1 = omega arith in rw e h;
+}
 
 pub nests_next : (ts : List Token) (n depth : ℕ) (paren body : Bool) (d : Token) → n < length ts → Nests ts n depth paren body →
     Nests ts (n + 1) (depth_behind depth (get_or ts n d).kind) (is_close_paren (get_or ts n d).kind) (body_behind depth paren body (get_or ts n d).kind)
@@ -58,15 +58,15 @@ nests_next ts n depth paren body d h s =
       depth_is = next;
       paren_is = paren_next ts n d h;
       inside = λ p.
-        let positive : 0 < depth_at ts (n + 1) = rw next at p in
-        elim (cases (eqb depth 0)) as (λ _. (m : ℕ) × LeavesZero ts m (n + 1) × (body_behind depth paren body kind ≡ begins_body ts m)) [
-          | inl e ↦
-              let z : depth_at ts n ≡ 0 = sym s.depth_is ∙ same depth 0 e in
-              (n, just_left ts n z positive, rw e (let a = s.paren_is in cc))
-          | inr e ↦
-              let i = s.inside (above_zero depth e) in
-              (i.0, still ts i.0 n i.1 positive, rw e (i.2))
-        ];
+          let positive : 0 < depth_at ts (n + 1) = rw next at p in
+          elim (cases (eqb depth 0)) as (λ _. (m : ℕ) × LeavesZero ts m (n + 1) × (body_behind depth paren body kind ≡ begins_body ts m)) [
+            | inl e ↦
+                let z : depth_at ts n ≡ 0 = sym s.depth_is ∙ same depth 0 e in
+                (n, just_left ts n z positive, rw e (let a = s.paren_is in cc))
+            | inr e ↦
+                let i = s.inside (above_zero depth e) in
+                (i.0, still ts i.0 n i.1 positive, rw e (i.2))
+          ];
     }
   where
     above_zero : (n : ℕ) → eqb n 0 ≡ false → 0 < n
@@ -84,23 +84,23 @@ ends_true ts n depth paren body d h s e =
           let one : depth ≡ 1 = same depth 1 c.0 in
           let i = s.inside (omega arith) in
           inr (record {
-              brace = kind_is is_close_brace ts n d h ∙ b.0;
-              depth = sym s.depth_is ∙ one;
-              opener = i.0;
-              left = i.1;
-              body = sym i.2 ∙ c.1;
-            })
+            brace = kind_is is_close_brace ts n d h ∙ b.0;
+            depth = sym s.depth_is ∙ one;
+            opener = i.0;
+            left = i.1;
+            body = sym i.2 ∙ c.1;
+          })
     ]
 
 -- one bracket last left depth 0
 one_opener : (ts : List Token) (l m n : ℕ) → LeavesZero ts l n → LeavesZero ts m n → l ≡ m
 one_opener ts l m n a b = elim (cases_lt l m) as (λ _. l ≡ m) [
-    | inl c ↦ let p = a.last m c (let q = b.before in omega arith) in let z = b.zero in absurd (omega arith)
-    | inr c ↦ elim (cases_lt m l) as (λ _. l ≡ m) [
-        | inl e ↦ let p = b.last l e (let q = a.before in omega arith) in let z = a.zero in absurd (omega arith)
-        | inr e ↦ omega arith
-      ]
+  | inl c ↦ let p = a.last m c (let q = b.before in omega arith) in let z = b.zero in absurd (omega arith)
+  | inr c ↦ elim (cases_lt m l) as (λ _. l ≡ m) [
+    | inl e ↦ let p = b.last l e (let q = a.before in omega arith) in let z = a.zero in absurd (omega arith)
+    | inr e ↦ omega arith
   ]
+]
 
 pub ends_false : (ts : List Token) (n depth : ℕ) (paren body : Bool) (d : Token) → n < length ts → Nests ts n depth paren body → ends_here depth body (get_or ts n d).kind ≡ false → EndsChunk ts n → ⊥
 ends_false ts n depth paren body d h s e (inl c) =
@@ -131,12 +131,12 @@ follow-push ts from mid to (x ∷ xs) f c = (f.0, f.1, follow-push ts x.1 mid to
 
 one_end : (ts : List Token) (from a b : ℕ) → IsChunk ts from a → IsChunk ts from b → a ≤ b
 one_end ts from a b c d = elim (cases_lt b a) as (λ _. a ≤ b) [
-    | inl l ↦ elim (d.ends) as (λ _. a ≤ b) [
-        | inl e ↦ absurd (c.inside e.0 (let s = d.some in let q = e.1 in omega arith) (let q = e.1 in omega arith) e.2)
-        | inr e ↦ let w = c.within in omega arith
-      ]
-    | inr l ↦ omega arith
+  | inl l ↦ elim (d.ends) as (λ _. a ≤ b) [
+    | inl e ↦ absurd (c.inside e.0 (let s = d.some in let q = e.1 in omega arith) (let q = e.1 in omega arith) e.2)
+    | inr e ↦ let w = c.within in omega arith
   ]
+  | inr l ↦ omega arith
+]
 
 pair_is : (c e : ℕ × ℕ) → c.0 ≡ e.0 → c.1 ≡ e.1 → c ≡ e
 pair_is c e p q = let F : ℕ → ℕ × ℕ = λ x. (x, c.1) in let G : ℕ → ℕ × ℕ = λ y. (e.0, y) in ap F p ∙ ap G q
@@ -161,26 +161,26 @@ one_chunks ts from (c ∷ cs) (e ∷ es) f g =
 -- a chunk that ends behind the token here
 pub chunk_here : (ts : List Token) (start n : ℕ) → start ≤ n → n < length ts → ((k : ℕ) → start ≤ k → k < n → EndsChunk ts k → ⊥) → EndsChunk ts n → IsChunk ts start (n + 1)
 chunk_here ts start n s h none e = record {
-    some = omega arith;
-    within = omega arith;
-    inside = λ k a b. none k a (omega arith);
-    ends = inl (n, refl, e);
-  }
+  some = omega arith;
+  within = omega arith;
+  inside = λ k a b. none k a (omega arith);
+  ends = inl (n, refl, e);
+}
 
 -- what is left is a chunk
 pub chunk_left : (ts : List Token) (start n : ℕ) → start < n → n ≡ length ts → ((k : ℕ) → start ≤ k → k < n → EndsChunk ts k → ⊥) → IsChunk ts start n
 chunk_left ts start n s h none = record {
-    some = s;
-    within = omega arith;
-    inside = λ k a b. none k a (omega arith);
-    ends = inr h;
-  }
+  some = s;
+  within = omega arith;
+  inside = λ k a b. none k a (omega arith);
+  ends = inr h;
+}
 
 pub none_more : (ts : List Token) (start n : ℕ) → ((k : ℕ) → start ≤ k → k < n → EndsChunk ts k → ⊥) → (EndsChunk ts n → ⊥) → (k : ℕ) → start ≤ k → k < n + 1 → EndsChunk ts k → ⊥
 none_more ts start n none here k a b e = elim (cases_lt k n) as (λ _. ⊥) [
-    | inl l ↦ none k a l e
-    | inr l ↦ let q : k ≡ n = omega arith in here (subst (λ x. EndsChunk ts x) q e)
-  ]
+  | inl l ↦ none k a l e
+  | inr l ↦ let q : k ≡ n = omega arith in here (subst (λ x. EndsChunk ts x) q e)
+]
 
 pub nests_are : (ts : List Token) (n depth depth' : ℕ) (paren paren' body body' : Bool) → depth' ≡ depth → paren' ≡ paren → body' ≡ body → Nests ts n depth paren body → Nests ts n depth' paren' body'
 nests_are ts n depth depth' paren paren' body body' d p b s = rw (d, p, b) s

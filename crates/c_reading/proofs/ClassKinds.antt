@@ -60,9 +60,9 @@ literal_other : (s : List ℕ) → is_literal s ≡ true → (is_word s ≡ fals
 unfolding is_literal
 literal_other [] h = cc
 literal_other (c ∷ cs) h = elim (literal_first c (cs ++ []) (length (c ∷ cs)) (literal-there (c ∷ cs) [] h)) as (λ _. (is_word (c ∷ cs) ≡ false) × (is_number (c ∷ cs) ≡ false)) [
-    | inl t ↦ prefixed t.0 t.1 t.2 (sym (append-nil cs) ∙ t.3) t.4
-    | inr q ↦ let l = letter_not_quote c q in (no_word c cs l, no_number c cs (quote_no_number c cs q))
-  ]
+  | inl t ↦ prefixed t.0 t.1 t.2 (sym (append-nil cs) ∙ t.3) t.4
+  | inr q ↦ let l = letter_not_quote c q in (no_word c cs l, no_number c cs (quote_no_number c cs q))
+]
   where
     prefixed : c ≡ 76 → (d : ℕ) (ds : List ℕ) → cs ≡ d ∷ ds → is_quote d ≡ true → (is_word (c ∷ cs) ≡ false) × (is_number (c ∷ cs) ≡ false)
     prefixed e d ds k q = (rw (e, k) (l_then d ds q), rw e (no_number 76 cs (letter_no_number 76 cs l_letter)))
@@ -74,18 +74,18 @@ kind_of-literal mode s h = let o = literal_other s h in rw (o.0, o.1, h) refl
 plain_number : (c : ℕ) (cs : List ℕ) → is_digit c ≡ false → (begins_number (c ∷ (cs ++ [])) ≡ true → cs ≡ []) → begins_number (c ∷ cs) ≡ false
 plain_number c [] d n = d
 plain_number c (x ∷ xs) d n = elim (cases (begins_number (c ∷ x ∷ xs))) as (λ _. begins_number (c ∷ x ∷ xs) ≡ false) [
-    | inl e ↦ cc (n e)
-    | inr e ↦ e
-  ]
+  | inl e ↦ cc (n e)
+  | inr e ↦ e
+]
 
 plain_literal : (c : ℕ) (cs : List ℕ) → is_letter c ≡ false → is_quote c ≡ false → is_literal (c ∷ cs) ≡ false
 plain_literal c cs l q = elim (cases (is_literal (c ∷ cs))) as (λ _. is_literal (c ∷ cs) ≡ false) [
-    | inl e ↦ elim (literal_first c (cs ++ []) (length (c ∷ cs)) (literal-there (c ∷ cs) [] e)) as (λ _. is_literal (c ∷ cs) ≡ false) [
-        | inl t ↦ let k : is_letter c ≡ true = ap is_letter t.0 ∙ l_letter in cc
-        | inr r ↦ cc
-      ]
-    | inr e ↦ e
+  | inl e ↦ elim (literal_first c (cs ++ []) (length (c ∷ cs)) (literal-there (c ∷ cs) [] e)) as (λ _. is_literal (c ∷ cs) ≡ false) [
+    | inl t ↦ let k : is_letter c ≡ true = ap is_letter t.0 ∙ l_letter in cc
+    | inr r ↦ cc
   ]
+  | inr e ↦ e
+]
 
 -- a punctuator is of no other class
 punctuator_other : (s : List ℕ) → PlainFirst s → (is_word s ≡ false) × (is_number s ≡ false) × (is_literal s ≡ false)

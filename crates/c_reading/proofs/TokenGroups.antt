@@ -100,7 +100,6 @@ pub group_len-empty : group_len [] ≡ None
 unfolding group_len
 group_len-empty = refl
 
-
 -- ---- groups end within their tokens
 
 plus_some : (k n : ℕ) (o : Option ℕ) → plus k o ≡ Some n → (m : ℕ) × (o ≡ Some m) × (n ≡ m + k)
@@ -125,31 +124,31 @@ group_end-le (suc d) [] n h = absurd (empty h)
     empty : group_end (suc d) [] ≡ Some n → ⊥
     empty k = let e : group_end (suc d) [] ≡ None = marks_none (suc d) in cc
 group_end-le zero (t ∷ ts) n h = elim (cases (is_open_paren t.kind)) as (λ _. n ≤ length (t ∷ ts)) [
-    | inl o ↦ longer 1 0 t ts n (λ m k. group_end-le 1 ts m k) (open_end ts t 0 o) h
-    | inr o ↦ elim (cases (is_close_paren t.kind)) as (λ _. n ≤ length (t ∷ ts)) [
-        | inl c ↦ let e : Path (Option ℕ) (Some 1) (Some n) = sym (close_first ts t o c) ∙ h in let q : 1 ≡ n = some_is 1 n e in omega arith
-        | inr c ↦ longer 0 0 t ts n (λ m k. group_end-le 0 ts m k) (other_end ts t 0 o c) h
-      ]
+  | inl o ↦ longer 1 0 t ts n (λ m k. group_end-le 1 ts m k) (open_end ts t 0 o) h
+  | inr o ↦ elim (cases (is_close_paren t.kind)) as (λ _. n ≤ length (t ∷ ts)) [
+    | inl c ↦ let e : Path (Option ℕ) (Some 1) (Some n) = sym (close_first ts t o c) ∙ h in let q : 1 ≡ n = some_is 1 n e in omega arith
+    | inr c ↦ longer 0 0 t ts n (λ m k. group_end-le 0 ts m k) (other_end ts t 0 o c) h
   ]
+]
 group_end-le (suc d) (t ∷ ts) n h = elim (cases (is_open_paren t.kind)) as (λ _. n ≤ length (t ∷ ts)) [
-    | inl o ↦ longer (suc (suc d)) (suc d) t ts n (λ m k. group_end-le (suc (suc d)) ts m k) (open_end ts t (suc d) o) h
-    | inr o ↦ elim (cases (is_close_paren t.kind)) as (λ _. n ≤ length (t ∷ ts)) [
-        | inl c ↦ longer d (suc d) t ts n (λ m k. group_end-le d ts m k) (close_end ts t d o c) h
-        | inr c ↦ longer (suc d) (suc d) t ts n (λ m k. group_end-le (suc d) ts m k) (other_end ts t (suc d) o c) h
-      ]
+  | inl o ↦ longer (suc (suc d)) (suc d) t ts n (λ m k. group_end-le (suc (suc d)) ts m k) (open_end ts t (suc d) o) h
+  | inr o ↦ elim (cases (is_close_paren t.kind)) as (λ _. n ≤ length (t ∷ ts)) [
+    | inl c ↦ longer d (suc d) t ts n (λ m k. group_end-le d ts m k) (close_end ts t d o c) h
+    | inr c ↦ longer (suc d) (suc d) t ts n (λ m k. group_end-le (suc d) ts m k) (other_end ts t (suc d) o c) h
   ]
+]
 
 pub group_len-le : (ts : List Token) (n : ℕ) → group_len ts ≡ Some n → n ≤ length ts
 unfolding group_len
 group_len-le [] n h = cc
 group_len-le (t ∷ ts) n h = elim (cases (is_open_paren t.kind)) as (λ _. n ≤ length (t ∷ ts)) [
-    | inl o ↦
-        let p = plus_some 1 n (group_end 0 ts) (rw o at h) in
-        let b = group_end-le 0 ts p.0 p.1 in
-        let q = p.2 in
-        omega arith
-    | inr o ↦ let e : Path (Option ℕ) None (Some n) = rw o at h in cc
-  ]
+  | inl o ↦
+      let p = plus_some 1 n (group_end 0 ts) (rw o at h) in
+      let b = group_end-le 0 ts p.0 p.1 in
+      let q = p.2 in
+      omega arith
+  | inr o ↦ let e : Path (Option ℕ) None (Some n) = rw o at h in cc
+]
 
 -- ---- the answers at a token, with the marks behind it
 
@@ -224,11 +223,11 @@ pub record GroupsFrom (ts : List Token) (groups : List (Option ℕ)) (index behi
 
 pub groups_start : (ts : List Token) (groups : List (Option ℕ)) (marks : List ℕ) → length groups ≡ length ts → marks ≡ [] → GroupsFrom ts groups (length ts) 0 marks
 groups_start ts groups marks n e = record {
-    place = omega arith;
-    count = n;
-    each = λ k a b. absurd (omega arith);
-    marks_are = let m : Marks (drop (length ts) ts) [] = rw (drop_all (length ts) ts (omega arith)) marks_none in subst (λ l. Marks (drop (length ts) ts) l) (sym e) m;
-  }
+  place = omega arith;
+  count = n;
+  each = λ k a b. absurd (omega arith);
+  marks_are = let m : Marks (drop (length ts) ts) [] = rw (drop_all (length ts) ts (omega arith)) marks_none in subst (λ l. Marks (drop (length ts) ts) l) (sym e) m;
+}
 
 pub groups_step : (ts : List Token) (groups : List (Option ℕ)) (index behind : ℕ) (marks new : List ℕ) (group : Option ℕ) (d : Token) → 0 < index → GroupsFrom ts groups index behind marks →
     ((t : Token) (rest : List Token) → t.kind ≡ (get_or ts (index - 1) d).kind → length rest ≡ behind → Marks rest marks → Marks (t ∷ rest) new × (group ≡ group_len (t ∷ rest))) →
@@ -246,10 +245,10 @@ groups_step ts groups index behind marks new group d p g step =
       place = omega arith;
       count = length-set groups i group ∙ g.count;
       each = λ k a b. elim (cases_lt i k) as (λ _. slice_get (set groups i group) k ≡ Some (group_len (drop k ts))) [
-          | inl l ↦ set_there groups i k group (λ e. absurd (omega arith)) ∙ g.each k (omega arith) b
-          | inr l ↦
-              let e : k ≡ i = omega arith in
-              rw (e, whole) (set_here groups i group (omega arith) ∙ ap Some s.1)
-        ];
+        | inl l ↦ set_there groups i k group (λ e. absurd (omega arith)) ∙ g.each k (omega arith) b
+        | inr l ↦
+            let e : k ≡ i = omega arith in
+            rw (e, whole) (set_here groups i group (omega arith) ∙ ap Some s.1)
+      ];
       marks_are = rw whole (s.0);
     }

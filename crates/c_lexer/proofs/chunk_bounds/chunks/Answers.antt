@@ -54,12 +54,12 @@ returns c =
     let v = c.cutting.invariant in
     let end : c.cutting.index ≡ length all = let w = v.within in let t = c.cutting-test.false in omega arith in
     let is : AreChunks all c.if-start-all.bounds.items = elim c.if-start-all.branch [
-        | then-start-all+in_ok-push-2 w ↦
-            let chunk = chunk_left all c.cutting.start c.cutting.index (let t = w.if-start-all.true in omega arith) end v.none in
-            let f = follow-push all 0 c.cutting.start c.cutting.index c.cutting.bounds.items v.follow chunk in
-            rw (w.bounds-is, w.in_ok-push-2.ensures.items, ← end) f
-        | else-start-all w ↦
-            let e : c.cutting.start ≡ length all = let t = w.if-start-all.false in let o = v.order in omega arith in
-            rw (w.bounds-is, ← e) (v.follow)
-      ] in
+      | then-start-all+in_ok-push-2 w ↦
+          let chunk = chunk_left all c.cutting.start c.cutting.index (let t = w.if-start-all.true in omega arith) end v.none in
+          let f = follow-push all 0 c.cutting.start c.cutting.index c.cutting.bounds.items v.follow chunk in
+          rw (w.bounds-is, w.in_ok-push-2.ensures.items, ← end) f
+      | else-start-all w ↦
+          let e : c.cutting.start ≡ length all = let t = w.if-start-all.false in let o = v.order in omega arith in
+          rw (w.bounds-is, ← e) (v.follow)
+    ] in
     rw (← c.all-all.ensures.all) is

@@ -10,7 +10,7 @@ pub cutting-init : goal.cutting-init
 cutting-init c =
     let known = c.in_ok-source.ensures.own.here in
     let first = reached_first c.args.mode c.args.file c.args.word.now c.args.bytes.now c.args.names.now c.beginning-here.result c.intern.new.self
-        (rw c.beginning-here.ensures.source known) (c.beginning-here.ensures.stands c.args.word.now) c.in_ok-source.ensures.adds c.in_ok-source.ensures.distinct c.beginning-here.ensures.bounds in
+    (rw c.beginning-here.ensures.source known) (c.beginning-here.ensures.stands c.args.word.now) c.in_ok-source.ensures.adds c.in_ok-source.ensures.distinct c.beginning-here.ensures.bounds in
     record {
       reached = rw c.new-tokens.ensures.items first;
       count = omega (arith, c.new-tokens.ensures.len);
@@ -23,8 +23,8 @@ cutting-preserved c =
     let g = c.in-Ok.ensures in
     let s = c.in_ok-here.ensures.steps c.args.mode r.file g.3 r.known in
     let next = reached_next c.args.mode c.args.file c.args.word.now c.args.bytes.now c.args.names.now rest c.cutting.here c.in_ok-here.here
-        c.cutting.tokens.items c.take.new.tokens.items c.cutting.names c.take.new.names c.in-Ok.piece r g s
-        c.in_ok-here.ensures.adds c.in_ok-here.ensures.once c.in_ok-here.ensures.bounds c.in_ok-here.ensures.offset in
+    c.cutting.tokens.items c.take.new.tokens.items c.cutting.names c.take.new.names c.in-Ok.piece r g s
+    c.in_ok-here.ensures.adds c.in_ok-here.ensures.once c.in_ok-here.ensures.bounds c.in_ok-here.ensures.offset in
     let left : take (length rest - c.len.result) (drop c.len.result rest) ≡ drop (piece_len c.in-Ok.piece) rest = take_rest rest c.len.result ∙ ap (λ k. drop k rest) c.len.ensures in
     record {
       reached = subst (λ l. Reached c.args.mode c.args.file c.args.word.now c.args.bytes.now c.args.names.now l c.in_ok-here.here c.take.new.tokens.items c.take.new.names) (sym left) next;

@@ -36,8 +36,8 @@ returns-then-ended-clause-steps c =
     let e : c.args.piece ≡ MarkerLine c.in-MarkerLine.len true c.in-MarkerLine.marker = c.in-MarkerLine.is ∙ ap (λ b. MarkerLine c.in-MarkerLine.len b c.in-MarkerLine.marker) c.if-ended.true in
     let fits : c.in-MarkerLine.len + 2 ≤ length c.args.bytes.now = rw (← (ap piece_len e)) c.requires.fits in
     if_ok _ _ c.next_line.result c.next_line.ensures.lands (λ next lands mode word says known.
-        behind_marker mode c.args.file c.next_line.new.names word c.args.here next c.args.bytes.now c.args.tokens.now.items
-        c.args.piece c.in-MarkerLine.len c.in-MarkerLine.ended c.in-MarkerLine.marker c.in-MarkerLine.is c.if-ended.true fits says (lands word known))
+    behind_marker mode c.args.file c.next_line.new.names word c.args.here next c.args.bytes.now c.args.tokens.now.items
+    c.args.piece c.in-MarkerLine.len c.in-MarkerLine.ended c.in-MarkerLine.marker c.in-MarkerLine.is c.if-ended.true fits says (lands word known))
 
 pub returns-in_ok-push-in-Spelling-clause-steps : goal.returns-in_ok-push-in-Spelling-clause-steps
 returns-in_ok-push-in-Spelling-clause-steps c = λ mode word says known.

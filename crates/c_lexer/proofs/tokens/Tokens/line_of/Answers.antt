@@ -17,7 +17,7 @@ returns c =
     let end = c.args.self.now.end in
     let kept : c.self.inside.end ≡ end = ap (λ v. v.end) c.self.view_is in
     let e : position_of all end c.args.place.token ≡ (end.source, end.line, end.col) = elim c.else-index-all.branch [
-        | else-index-all-via-then-index-all+else-all-index w ↦ position_between all end _ c.args.place.token c.index_of-index.result _ c.all-all.ensures.rising i.below i.above w.if-index-all.true w.if-all-index.false
-        | else-index-all-via-else-index-all w ↦ position_past all end c.args.place.token c.index_of-index.result i.below w.if-index-all.false
-      ] in
+      | else-index-all-via-then-index-all+else-all-index w ↦ position_between all end _ c.args.place.token c.index_of-index.result _ c.all-all.ensures.rising i.below i.above w.if-index-all.true w.if-all-index.false
+      | else-index-all-via-else-index-all w ↦ position_past all end c.args.place.token c.index_of-index.result i.below w.if-index-all.false
+    ] in
     rw (kept, ← c.all-all.ensures.all) (sym e)
