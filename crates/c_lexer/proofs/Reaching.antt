@@ -11,7 +11,7 @@ use Rattle.c_reading.specs.Pieces.{bytes_of, beginning, behind, behind_all}
 use Rattle.c_reading.specs.Reading.{IsNext, Cuts, Lexeme, lexeme_at, lexemes, fault_at, IsFaulty, IsReading}
 use Rattle.c_reading.specs.Cutting.{cut}
 use Rattle.c_reading.proofs.OnePiece.{cut-sound}
-use Rattle.c_reading.proofs.Readings.{cuts-push, behind-push, lexemes-push, faulty, one_reading, no_reading}
+use Rattle.c_reading.proofs.Readings.{cuts-push, behind-push, lexemes-push, faulty, one_reading, no_reading, one_fault}
 use Rattle.c_lexer.specs.declared.here.Here.{Here}
 use Rattle.c_lexer.specs.declared.fault.Spot.{Spot}
 use Rattle.c_lexer.specs.declared.pieces.Piece.{Piece}
@@ -20,7 +20,7 @@ use Rattle.c_lexer.specs.Pieces.{piece_view, piece_len, Says, GivesPiece}
 use Rattle.c_lexer.specs.Progress.{here_of, InBounds, Steps, Reached, spot_of}
 use Rattle.c_reading.specs.declared.fault.Fault.TheVariants.{BadByte, OpenText, BadNumber, BadMarker}
 use Rattle.c_lexer.specs.Faults.{fault_there}
-use Rattle.c_lexer.specs.Tokens.{TokenList, IsToken, AreTokens, IsSpot, Rises, Lexes, IsFault, Refuses}
+use Rattle.c_lexer.specs.Tokens.{TokenList, IsToken, AreTokens, IsSpot, Rises, Lexes, IsFault, IsThere, Refuses}
 
 -- ---- tokens
 
@@ -208,3 +208,10 @@ made_list mode number word names ps list kept end a e l = record {
   tokens = rw a (l.tokens);
   end = rw (a, e) (l.end);
 }
+
+-- the fault that was found is the one fault
+pub exactly : (mode : Mode) (number : ℕ) (word : List ℕ) (names : List (List ℕ)) (bytes : List ℕ) (fault kind : Fault) (spot : Spot) (ps : List pieces.Piece) → IsFault mode number word names bytes fault spot → IsFaulty mode word ps bytes kind → IsThere mode number word names ps kind (fault_there fault spot)
+exactly mode number word names bytes fault kind spot ps f g =
+    let s = one_fault mode word f.pieces ps bytes fault kind f.faulty g in
+    let there : IsSpot number names (length (lexemes mode (beginning word) ps)) (behind_all (beginning word) ps) spot = subst (λ x. IsSpot number names (length (lexemes mode (beginning word) x)) (behind_all (beginning word) x) spot) s.0 f.there in
+    (spot, ap (λ x. fault_there x spot) s.1, there)

@@ -6,6 +6,7 @@ use Rattle.c_reading.specs.declared.fault.Fault.{Fault}
 use Rattle.c_reading.specs.declared.fault.Fault.TheVariants as fault
 use Rattle.c_reading.specs.Pieces.{Piece, Here, beginning, behind_all}
 use Rattle.c_reading.specs.Reading.{Lexeme, lexemes, IsFaulty}
+use Rattle.c_lexer.specs.Faults.{fault_there}
 use Rattle.c_lexer.specs.declared.fault.LexFault.{LexFault}
 use Rattle.c_lexer.specs.declared.fault.LexFault.TheVariants.{BadByte, OpenText, BadNumber, BadMarker, NoMemory}
 use Rattle.c_lexer.specs.declared.fault.Spot.{Spot}
@@ -76,3 +77,8 @@ abbrev pub number_at : List Token → ℕ → ℕ
 number_at [] k = 0
 number_at (t ∷ ts) zero = t.place.token
 number_at (t ∷ ts) (suc k) = number_at ts k
+
+-- the refusal is this fault, where these pieces end
+abbrev pub IsThere : Mode → ℕ → List ℕ → List (List ℕ) → List Piece → Fault → LexFault → Type 0
+IsThere mode number word names pieces kind fault =
+    (spot : Spot) × (fault ≡ fault_there kind spot) × IsSpot number names (length (lexemes mode (beginning word) pieces)) (behind_all (beginning word) pieces) spot

@@ -1,14 +1,15 @@
 //! Reads a whole source, piece by piece.
 
-ghost use Rattle.std.specs.Prelude.{◌≡◌, ◌+◌, ◌<◌, ◌≤◌, ◌^◌, ◌++◌, [], ◌∷◌, length, drop, List, ℕ, Some, None, IfOk, IfErr, MatchResult, OnErr, slice_get, vec_len, true};
+ghost use Rattle.std.specs.Prelude.{◌≡◌, ◌+◌, ◌<◌, ◌≤◌, ◌^◌, ◌++◌, [], ◌∷◌, length, drop, List, ℕ, Some, None, IfOk, IfErr, MatchResult, OnErr, slice_get, vec_len, true, ◌⊎◌};
 ghost use Rattle.mx_base.specs.Names.{AddsAtMost, HasNoRepeats};
 ghost use Rattle.c_reading.specs.declared.mode.Mode.{Mode as ReadMode};
 ghost use Rattle.c_reading.specs.Pieces.{Piece as ReadPiece, on_next_line};
-ghost use Rattle.c_reading.specs.Reading.{IsReading};
+ghost use Rattle.c_reading.specs.declared.fault.Fault.{Fault as ReadFault};
+ghost use Rattle.c_reading.specs.Reading.{IsReading, IsFaulty};
 ghost use Rattle.c_lexer.specs.Found.{marker_view, marker_line};
 ghost use Rattle.c_lexer.specs.Pieces.{piece_view, piece_len, Says, NumbersLow};
 ghost use Rattle.c_lexer.specs.Progress.{here_of, InBounds, Steps, Lands, spot_of};
-ghost use Rattle.c_lexer.specs.Tokens.{Lexes, Refuses, IsToken};
+ghost use Rattle.c_lexer.specs.Tokens.{Lexes, Refuses, IsThere, IsToken};
 ghost use Rattle.c_lexer.specs.declared.fault.LexFault.TheVariants.{NoMemory};
 
 use crate::fault::{LexFault, Spot};
@@ -170,6 +171,8 @@ pub fn lex(
         MatchResult result (λ tokens. Lexes mode file word.now names.new pieces tokens) (λ fault. fault ≡ NoMemory) }
     // A refusal is the fault of the bytes, which have no reading then.
     ensures fault { IfErr result (λ fault. Refuses mode file word.now names.new bytes.now fault) }
+    ensures exact { (pieces : List ReadPiece) (kind : ReadFault) → IsFaulty mode word.now pieces bytes.now kind →
+        MatchResult result (λ _. ⊥) (λ fault. (fault ≡ NoMemory) ⊎ IsThere mode file word.now names.new pieces kind fault) }
 
     ensures adds { AddsAtMost names.old names.new (length bytes.now + 1) }
     ensures distinct { HasNoRepeats names.new }

@@ -1,12 +1,13 @@
 -- Bytes have at most one reading, and where nothing can be cut off stands their one fault.
-use Rattle.std.proofs.Common.{◌≡◌, ◌≢◌, ℕ, ◌≤◌, Bool, List, [], ◌∷◌, ◌++◌, length, None, Some, refl, ap, sym, ◌∙◌, subst, arith, append_assoc, length-append}
+use Rattle.std.proofs.Common.{◌≡◌, ◌≢◌, ℕ, ◌≤◌, ◌<◌, Bool, List, [], ◌∷◌, ◌++◌, length, None, Some, refl, ap, sym, ◌∙◌, subst, arith, append_assoc, length-append}
 use Rattle.std.proofs.lemmas.List.{nil_from_length, append-nil, append_cancel_left}
 use Rattle.c_reading.specs.declared.fault.Fault.{Fault}
 use Rattle.c_reading.specs.declared.mode.Mode.{Mode}
-use Rattle.c_reading.specs.Pieces.{Piece, bytes_of, Here, beginning, behind, behind_all}
+use Rattle.c_reading.specs.Pieces.{Piece, Space, Comment, LineComment, MarkerLine, Spelling, bytes_of, Here, beginning, behind, behind_all}
 use Rattle.c_reading.specs.Reading.{IsNext, Cuts, IsReading, lexeme_at, lexemes, fault_at, IsFaulty}
 use Rattle.c_reading.specs.Cutting.{cut}
 use Rattle.c_reading.proofs.OnePiece.{cut-complete}
+use Rattle.c_reading.proofs.Longest.{empty_no_spelling}
 
 some_is : {A : Type 0} (x y : A) → Some x ≡ Some y → x ≡ y
 some_is x y h = cc
@@ -81,6 +82,48 @@ pub no_reading : (mode : Mode) (file : List ℕ) (ps qs : List Piece) (bs : List
 no_reading mode file ps qs bs fault f r =
     let n : length f.rest ≤ 0 = f.longest qs [] r in
     f.left (nil_from_length f.rest (omega arith))
+
+-- ---- bytes have at most one fault
+
+-- a piece has bytes
+some_bytes : (mode : Mode) (first : Bool) (p : Piece) (r : List ℕ) → IsNext mode first p r → 0 < length (bytes_of p)
+some_bytes mode first (Space b) r i = omega arith
+some_bytes mode first (Comment []) r i = cc
+some_bytes mode first (Comment (c ∷ cs)) r i = omega arith
+some_bytes mode first (LineComment text) r i = omega arith
+some_bytes mode first (MarkerLine text ended) r i = omega arith
+some_bytes mode first (Spelling []) r i = absurd (empty_no_spelling mode i.2.spelling)
+some_bytes mode first (Spelling (c ∷ cs)) r i = omega arith
+
+-- a piece more leaves less
+less : (mode : Mode) (h : Here) (p : Piece) (ps : List Piece) (bs left : List ℕ) → Cuts mode h (p ∷ ps) bs left → length left < length bs
+less mode h p ps bs left c =
+    let s = some_bytes mode h.first p c.0 c.2 in
+    let t = rest_le mode (behind h p) ps c.0 left c.3 in
+    omega (arith, ap length c.1, length-append (bytes_of p) c.0)
+
+-- what leaves as much is cut alike
+same_cut : (mode : Mode) (h : Here) (ps qs : List Piece) (bs rest left : List ℕ) → Cuts mode h ps bs rest → Cuts mode h qs bs left → length rest ≡ length left → (ps ≡ qs) × (rest ≡ left)
+same_cut mode h [] [] bs rest left c d n = (refl, sym c ∙ d)
+same_cut mode h [] (q ∷ qs) bs rest left c d n = let l = less mode h q qs bs left d in let e = ap length c in absurd (omega arith)
+same_cut mode h (p ∷ ps) [] bs rest left c d n = let l = less mode h p ps bs rest c in let e = ap length d in absurd (omega arith)
+same_cut mode h (p ∷ ps) (q ∷ qs) bs rest left c d n =
+    let e = same_piece mode h.first p q bs c.0 d.0 c.1 d.1 c.2 d.2 in
+    let r = same_rest p q bs c.0 d.0 c.1 d.1 e in
+    let D : Piece → List ℕ → Type 0 = λ x l. Cuts mode (behind h x) qs l left in
+    let k : Cuts mode (behind h p) qs c.0 left = subst (λ x. D x c.0) (sym e) (subst (λ l. D q l) (sym r) d.3) in
+    let t = same_cut mode (behind h p) ps qs c.0 rest left c.3 k n in
+    let f : p ∷ ps ≡ q ∷ qs = let g = t.0 in cc in
+    (f, t.1)
+
+-- bytes have at most one fault
+pub one_fault : (mode : Mode) (file : List ℕ) (ps qs : List Piece) (bs : List ℕ) (fault other : Fault) → IsFaulty mode file ps bs fault → IsFaulty mode file qs bs other → (ps ≡ qs) × (fault ≡ other)
+one_fault mode file ps qs bs fault other f g =
+    let a = f.longest qs g.rest g.cut in
+    let b = g.longest ps f.rest f.cut in
+    let s = same_cut mode (beginning file) ps qs bs f.rest g.rest f.cut g.cut (omega arith) in
+    let k : fault_at mode (behind_all (beginning file) ps).first f.rest ≡ fault_at mode (behind_all (beginning file) qs).first g.rest = ap (λ x. fault_at mode (behind_all (beginning file) x).first f.rest) s.0 ∙ ap (fault_at mode (behind_all (beginning file) qs).first) s.1 in
+    (s.0, f.kind ∙ k ∙ sym g.kind)
 
 -- ---- one piece more
 
