@@ -1,10 +1,10 @@
 -- A list of nodes is seen through its slice.
-use Rattle.std.proofs.Common.{◌≡◌, ℕ, ◌+◌, ◌<◌, ◌≤◌, Bor, List, [], ◌∷◌, ◌++◌, length, get_or, drop, ap, refl, ◌∙◌, sym, add-one, drop-cons, arith}
+use Rattle.std.proofs.Common.{◌≡◌, ℕ, ◌+◌, ◌<◌, ◌≤◌, Bor, List, [], ◌∷◌, ◌++◌, length, get_or, drop, ap, refl, ◌∙◌, sym, add-one, drop-cons}
 use Rattle.std.proofs.lemmas.List.{drop_all}
 use Rattle.c_tree.specs.declared.tree.Tree.{Tree}
 use Rattle.c_tree.specs.declared.tree.Trees.{Trees, Trees', out-Trees, outs-Trees', roll-Trees, rolls-Trees', Row_of-Tree, end_of-Tree, more_of-Tree, items-the_row-Tree, items_shown-the_row-Tree-0, items_hidden-the_row-Tree-0}
 use Rattle.c_tree.specs.declared.declaration.Declarator.TheBlock.{hidden-the_row-Tree-0}
-use Rattle.c_tree.specs.Node.{Node, Nodes, no_more, more}
+use Rattle.c_tree.specs.Node.{Nodes, no_more, more}
 use Rattle.c_tree.specs.Views.{node_of, nodes_of, row_nodes, nodes_in}
 
 row_items : (n : _) (k : Row_of-Tree n) → row_nodes k ≡ nodes_in (items-the_row-Tree n k)

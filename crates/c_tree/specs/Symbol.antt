@@ -1,13 +1,11 @@
 -- A token without its place: words by name, keywords and punctuators by kind alone, constants by kind and spelling.
-use Rattle.std.specs.Prelude.{ℕ, ◌+◌, Bool, true, false, ◌&&◌, List, map, nat_eq}
+use Rattle.std.specs.Prelude.{ℕ, Bool, List, map}
 use Rattle.c_tree.specs.declared.keyword.Keyword.{Keyword}
 use Rattle.c_tree.specs.declared.punctuator.Punctuator.{Punctuator}
 use Rattle.c_tree.specs.declared.token.FloatEnd.{FloatEnd}
-use Rattle.c_tree.specs.declared.token.FloatEnd.TheVariants as ends
 use Rattle.c_tree.specs.declared.token.Token.{Token}
 use Rattle.c_tree.specs.declared.token.TokenKind.{TokenKind}
 use Rattle.c_tree.specs.declared.token.TokenKind.TheVariants as kinds
-use Rattle.c_tree.specs.Codes.{keyword_code, punctuator_code}
 
 -- how an integer constant is written: its value, whether in decimal, whether with `u`, the number of its `l`
 pub record Integer : Type 0 where

@@ -10,7 +10,7 @@ use Rattle.c_tree.specs.declared.operator.CompoundOp.{CompoundOp}
 use Rattle.c_tree.specs.declared.operator.CompoundOp.TheVariants as compound
 use Rattle.c_tree.specs.declared.operator.StructOrUnion.{StructOrUnion}
 use Rattle.c_tree.specs.declared.operator.StructOrUnion.TheVariants as which_word
-use Rattle.c_tree.specs.Symbol.{Symbol, Reserved, Sign}
+use Rattle.c_tree.specs.Symbol.{Symbol}
 use Rattle.c_tree.specs.Phrase.{Phrase, nothing, one, all, ◌⨾◌, phrase_then, sign, keyword}
 use Rattle.c_tree.specs.Syntax.{Syntax, Paren, Init, Primary, Postfix, Unary, Operation, Initializer, Specifier, Declarator, Part, Outer, Statement, Iteration, Jump, PrimarySyntax, PostfixSyntax, UnarySyntax, OperationSyntax, InitializerSyntax, SpecifierSyntax, DeclaratorSyntax, PartSyntax, OuterSyntax, StatementSyntax, IterationSyntax, JumpSyntax, Ident, IntConst, FloatConst, CharConst, StrConst, VaArg, Offsetof, Hole, Index, Call, Member, Arrow, PostInc, PostDec, CompoundLit, PreInc, PreDec, AddressOf, Deref, Plus, Minus, BitNot, Not, SizeofExpr, SizeofType, Cast, Binary, LogAnd, LogOr, Cond, Assign, AssignOp, Comma, BracedInit, Braces, Designated, TypeName, Specs, StructTag, StructBody, EnumTag, EnumBody, StructDeclaration, BitField, Param, Named, Nested, Unnamed, SpecWord, ArrayBound, VoidParams, Params, Enumerator, MemberDesignator, IndexDesignator, Declaration, Function, Empty, Block, ExprStmt, If, Switch, Case, Default, Label, While, Do, For, ForDeclaration, Goto, Continue, Break, Return, MaybeSyntax, absent, present, Syntaxes, no_more, more}
 

@@ -3,6 +3,7 @@
 
 mod declaration;
 mod expression;
+mod heights;
 mod keyword;
 mod operator;
 mod place;
@@ -13,6 +14,7 @@ mod tree;
 
 pub use declaration::{Declarator, Initializer, Outer, Part, Specifier};
 pub use expression::{Operation, Postfix, Primary, Unary};
+pub use heights::height;
 pub use keyword::Keyword;
 pub use operator::{BinaryOp, CompoundOp, StructOrUnion};
 pub use place::Place;

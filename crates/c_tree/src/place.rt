@@ -1,7 +1,7 @@
 //! Places in the sources: where a token or a node stands.
 
 /// A place: a file, and a token in it.
-#[derive(Clone, Copy, PartialEq, Eq)]
+#[derive(Clone, Copy, Debug, PartialEq, Eq)]
 pub struct Place {
     /// The number of the file, from 0, in the order in which the files were handed in.
     pub file: u16,

@@ -1,0 +1,6 @@
+mod SpellingSteps
+mod Taking
+mod Reaching
+mod Positions
+mod Rising
+mod Kept

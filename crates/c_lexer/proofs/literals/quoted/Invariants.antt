@@ -1,0 +1,13 @@
+use Rattle.std.proofs.Common.{◌≡◌, ◌+◌, length}
+use Rattle.c_reading.specs.Spellings.{quoted}
+use Rattle.c_reading.specs.Scans.{plus}
+use Rattle.c_lexer.proofs.literals.quoted.Given as goal
+
+abbrev pub invariant-going : goal.invariant-going
+invariant-going l = record {
+  found : plus l.count (quoted l.quote l.rest) ≡ quoted l.quote l.bytes;
+  left : l.count + length l.rest ≡ length l.bytes;
+}
+
+abbrev pub decreases-going : goal.decreases-going
+decreases-going l = length l.rest

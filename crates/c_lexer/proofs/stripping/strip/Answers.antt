@@ -1,0 +1,39 @@
+use Rattle.std.proofs.Common.{◌≡◌, ◌+◌, ◌≤◌, ◌<◌, ◌++◌, ℕ, List, length, drop, sym, ap, ◌∙◌, subst, arith}
+use Rattle.c_tree.specs.declared.token.Token.{Token}
+use Rattle.c_reading.specs.Strip.{stripped}
+use Rattle.c_reading.proofs.TokenGroups.{strip_dropped, strip_kept, strip_end}
+use Rattle.c_lexer.specs.Tokens.{Rises}
+use Rattle.c_lexer.proofs.Kept.{rises_stripped}
+use Rattle.c_lexer.proofs.stripping.strip.Goals as goal
+
+pub going-preserved-in-Some : goal.going-preserved-in-Some
+going-preserved-in-Some c =
+    let all = c.all-all.result.now in
+    let step = strip_dropped all c.going.index c.in-Some.count _ c.going-test.true (sym c.in-Some.ensures.found) in
+    record {
+      within = c.in-Some.ensures.within;
+      found = ap (λ l. c.going.kept.items ++ l) step ∙ c.going.invariant.found;
+    }
+
+pub going-preserved : goal.going-preserved
+going-preserved c =
+    let all = c.all-all.result.now in
+    let step = strip_kept all c.going.kept.items c.going.index _ c.going-test.true (sym c.in-None.ensures.found) in
+    record {
+      within = let h = c.going-test.true in omega arith;
+      found = rw (c.in_ok-push-in-None.ensures.items, c.renamed.ensures) (step ∙ c.going.invariant.found);
+    }
+
+pub new-requires : goal.new-requires
+new-requires c =
+    let all = c.all-all.result.now in
+    let kept : c.going.kept.items ≡ stripped all = sym (strip_end all c.going.kept.items c.going.index c.going-test.false) ∙ c.going.invariant.found in
+    let high = c.args.tokens.now.end.place.token in
+    let r : Rises 0 (stripped all) high = rises_stripped 0 0 all high c.all-all.ensures.rising in
+    rw (kept, c.end.ensures) r
+
+pub returns-clause-all : goal.returns-clause-all
+returns-clause-all c =
+    let all = c.all-all.result.now in
+    let kept : c.going.kept.items ≡ stripped all = sym (strip_end all c.going.kept.items c.going.index c.going-test.false) ∙ c.going.invariant.found in
+    c.new.ensures.all ∙ kept ∙ ap stripped c.all-all.ensures.all

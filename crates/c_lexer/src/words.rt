@@ -1,0 +1,264 @@
+//! What a word is, by its length and its bytes: a keyword, a word of GNU C with a mark, or a plain name.
+
+ghost use Rattle.std.specs.Prelude.{◌≡◌, unwrap_or, length, bytes_eq};
+ghost use Rattle.c_reading.specs.Words.{find_text, words_of, word_kind, words_2, words_3, words_4, words_5, words_6, words_7, words_8, words_9, words_10, words_11, words_12, words_13, words_16, words_17, words_18, words_19};
+
+use c_tree::{Keyword, Mark, TokenKind};
+
+/// Answers with what stands beside the first word that is the text.
+macro_rules! find {
+    ($text:expr; $($word:literal => $kind:expr,)*) => {
+        $(if is_word($text, $word) {
+            return Some($kind);
+        })*
+    };
+}
+
+/// Whether the text is this word.
+fn is_word(text: &[u8], word: &[u8]) -> bool
+    ensures { result ≡ bytes_eq text.now word.now }
+{
+    text == word
+}
+
+#[tactic(auto, unfolding(c_reading::specs::Words::words_2))]
+fn of_2(text: &[u8]) -> Option<TokenKind>
+    ensures { result ≡ find_text text.now words_2 }
+{
+    find! { text;
+        b"do" => TokenKind::Keyword(Keyword::Do),
+        b"if" => TokenKind::Keyword(Keyword::If),
+    }
+    None
+}
+
+#[tactic(auto, unfolding(c_reading::specs::Words::words_3))]
+fn of_3(text: &[u8]) -> Option<TokenKind>
+    ensures { result ≡ find_text text.now words_3 }
+{
+    find! { text;
+        b"for" => TokenKind::Keyword(Keyword::For),
+        b"int" => TokenKind::Keyword(Keyword::Int),
+        b"asm" => TokenKind::Word(Mark::AsmPlain),
+    }
+    None
+}
+
+#[tactic(auto, unfolding(c_reading::specs::Words::words_4))]
+fn of_4(text: &[u8]) -> Option<TokenKind>
+    ensures { result ≡ find_text text.now words_4 }
+{
+    find! { text;
+        b"auto" => TokenKind::Keyword(Keyword::Auto),
+        b"case" => TokenKind::Keyword(Keyword::Case),
+        b"char" => TokenKind::Keyword(Keyword::Char),
+        b"else" => TokenKind::Keyword(Keyword::Else),
+        b"enum" => TokenKind::Keyword(Keyword::Enum),
+        b"goto" => TokenKind::Keyword(Keyword::Goto),
+        b"long" => TokenKind::Keyword(Keyword::Long),
+        b"void" => TokenKind::Keyword(Keyword::Void),
+    }
+    None
+}
+
+#[tactic(auto, unfolding(c_reading::specs::Words::words_5))]
+fn of_5(text: &[u8]) -> Option<TokenKind>
+    ensures { result ≡ find_text text.now words_5 }
+{
+    find! { text;
+        b"break" => TokenKind::Keyword(Keyword::Break),
+        b"const" => TokenKind::Keyword(Keyword::Const),
+        b"float" => TokenKind::Keyword(Keyword::Float),
+        b"short" => TokenKind::Keyword(Keyword::Short),
+        b"union" => TokenKind::Keyword(Keyword::Union),
+        b"while" => TokenKind::Keyword(Keyword::While),
+        b"_Bool" => TokenKind::Keyword(Keyword::Bool),
+        b"__asm" => TokenKind::Word(Mark::Asm),
+    }
+    None
+}
+
+#[tactic(auto, unfolding(c_reading::specs::Words::words_6))]
+fn of_6(text: &[u8]) -> Option<TokenKind>
+    ensures { result ≡ find_text text.now words_6 }
+{
+    find! { text;
+        b"double" => TokenKind::Keyword(Keyword::Double),
+        b"extern" => TokenKind::Keyword(Keyword::Extern),
+        b"inline" => TokenKind::Keyword(Keyword::Inline),
+        b"return" => TokenKind::Keyword(Keyword::Return),
+        b"signed" => TokenKind::Keyword(Keyword::Signed),
+        b"sizeof" => TokenKind::Keyword(Keyword::Sizeof),
+        b"static" => TokenKind::Keyword(Keyword::Static),
+        b"struct" => TokenKind::Keyword(Keyword::Struct),
+        b"switch" => TokenKind::Keyword(Keyword::Switch),
+    }
+    None
+}
+
+#[tactic(auto, unfolding(c_reading::specs::Words::words_7))]
+fn of_7(text: &[u8]) -> Option<TokenKind>
+    ensures { result ≡ find_text text.now words_7 }
+{
+    find! { text;
+        b"default" => TokenKind::Keyword(Keyword::Default),
+        b"typedef" => TokenKind::Keyword(Keyword::Typedef),
+        b"__asm__" => TokenKind::Word(Mark::AsmBoth),
+        b"__const" => TokenKind::Word(Mark::Const),
+    }
+    None
+}
+
+#[tactic(auto, unfolding(c_reading::specs::Words::words_8))]
+fn of_8(text: &[u8]) -> Option<TokenKind>
+    ensures { result ≡ find_text text.now words_8 }
+{
+    find! { text;
+        b"continue" => TokenKind::Keyword(Keyword::Continue),
+        b"register" => TokenKind::Keyword(Keyword::Register),
+        b"restrict" => TokenKind::Keyword(Keyword::Restrict),
+        b"unsigned" => TokenKind::Keyword(Keyword::Unsigned),
+        b"volatile" => TokenKind::Keyword(Keyword::Volatile),
+        b"__int128" => TokenKind::Keyword(Keyword::Int128),
+        b"_Float32" => TokenKind::Keyword(Keyword::Float32),
+        b"_Float64" => TokenKind::Keyword(Keyword::Float64),
+        b"__func__" => TokenKind::Word(Mark::FunctionName),
+        b"__inline" => TokenKind::Word(Mark::Inline),
+        b"__signed" => TokenKind::Word(Mark::Signed),
+    }
+    None
+}
+
+#[tactic(auto, unfolding(c_reading::specs::Words::words_9))]
+fn of_9(text: &[u8]) -> Option<TokenKind>
+    ensures { result ≡ find_text text.now words_9 }
+{
+    find! { text;
+        b"_Float32x" => TokenKind::Keyword(Keyword::Float32x),
+        b"_Float64x" => TokenKind::Keyword(Keyword::Float64x),
+        b"_Float128" => TokenKind::Keyword(Keyword::Float128),
+        b"__const__" => TokenKind::Word(Mark::ConstBoth),
+    }
+    None
+}
+
+#[tactic(auto, unfolding(c_reading::specs::Words::words_10))]
+fn of_10(text: &[u8]) -> Option<TokenKind>
+    ensures { result ≡ find_text text.now words_10 }
+{
+    find! { text;
+        b"__float128" => TokenKind::Keyword(Keyword::GnuFloat128),
+        b"__inline__" => TokenKind::Word(Mark::InlineBoth),
+        b"__restrict" => TokenKind::Word(Mark::Restrict),
+        b"__signed__" => TokenKind::Word(Mark::SignedBoth),
+        b"__volatile" => TokenKind::Word(Mark::Volatile),
+    }
+    None
+}
+
+#[tactic(auto, unfolding(c_reading::specs::Words::words_11))]
+fn of_11(text: &[u8]) -> Option<TokenKind>
+    ensures { result ≡ find_text text.now words_11 }
+{
+    find! { text;
+        b"__attribute" => TokenKind::Word(Mark::Attribute),
+    }
+    None
+}
+
+#[tactic(auto, unfolding(c_reading::specs::Words::words_12))]
+fn of_12(text: &[u8]) -> Option<TokenKind>
+    ensures { result ≡ find_text text.now words_12 }
+{
+    find! { text;
+        b"__FUNCTION__" => TokenKind::Word(Mark::FunctionName),
+        b"__restrict__" => TokenKind::Word(Mark::RestrictBoth),
+        b"__volatile__" => TokenKind::Word(Mark::VolatileBoth),
+    }
+    None
+}
+
+#[tactic(auto, unfolding(c_reading::specs::Words::words_13))]
+fn of_13(text: &[u8]) -> Option<TokenKind>
+    ensures { result ≡ find_text text.now words_13 }
+{
+    find! { text;
+        b"__attribute__" => TokenKind::Word(Mark::AttributeBoth),
+        b"__extension__" => TokenKind::Word(Mark::ExtensionBoth),
+    }
+    None
+}
+
+#[tactic(auto, unfolding(c_reading::specs::Words::words_16))]
+fn of_16(text: &[u8]) -> Option<TokenKind>
+    ensures { result ≡ find_text text.now words_16 }
+{
+    find! { text;
+        b"__builtin_va_arg" => TokenKind::Keyword(Keyword::BuiltinVaArg),
+    }
+    None
+}
+
+#[tactic(auto, unfolding(c_reading::specs::Words::words_17))]
+fn of_17(text: &[u8]) -> Option<TokenKind>
+    ensures { result ≡ find_text text.now words_17 }
+{
+    find! { text;
+        b"__builtin_va_list" => TokenKind::Keyword(Keyword::BuiltinVaList),
+    }
+    None
+}
+
+#[tactic(auto, unfolding(c_reading::specs::Words::words_18))]
+fn of_18(text: &[u8]) -> Option<TokenKind>
+    ensures { result ≡ find_text text.now words_18 }
+{
+    find! { text;
+        b"__builtin_offsetof" => TokenKind::Keyword(Keyword::BuiltinOffsetof),
+    }
+    None
+}
+
+#[tactic(auto, unfolding(c_reading::specs::Words::words_19))]
+fn of_19(text: &[u8]) -> Option<TokenKind>
+    ensures { result ≡ find_text text.now words_19 }
+{
+    find! { text;
+        b"__PRETTY_FUNCTION__" => TokenKind::Word(Mark::FunctionName),
+    }
+    None
+}
+
+/// What a word is, if it is more than a name.
+#[tactic(auto, unfolding(c_reading::specs::Words::words_of))]
+fn special(text: &[u8]) -> Option<TokenKind>
+    ensures { result ≡ find_text text.now (words_of (length text.now)) }
+{
+    match text.len() {
+        2 => of_2(text),
+        3 => of_3(text),
+        4 => of_4(text),
+        5 => of_5(text),
+        6 => of_6(text),
+        7 => of_7(text),
+        8 => of_8(text),
+        9 => of_9(text),
+        10 => of_10(text),
+        11 => of_11(text),
+        12 => of_12(text),
+        13 => of_13(text),
+        16 => of_16(text),
+        17 => of_17(text),
+        18 => of_18(text),
+        19 => of_19(text),
+        _ => None,
+    }
+}
+
+/// What a word is.
+#[tactic(auto, unfolding(c_reading::specs::Words::word_kind))]
+pub fn word_kind(text: &[u8]) -> TokenKind
+    ensures { result ≡ word_kind text.now }
+{
+    special(text).unwrap_or(TokenKind::Word(Mark::Plain))
+}

@@ -1,0 +1,15 @@
+pub mod Tests
+pub mod Runs
+pub mod Literals
+pub mod Comments
+pub mod Tables
+pub mod ByteFacts
+pub mod Classes
+pub mod Longest
+pub mod OnePiece
+pub mod Readings
+pub mod Examples
+pub mod Scans
+pub mod ClassKinds
+pub mod TokenGroups
+pub mod ChunkSteps
