@@ -59,8 +59,8 @@ pub other_self : (v n : List ℕ) (r : List (List ℕ)) → IsOther v n → othe
 other_self v n r h = ap (λ b. cond (b && not (bytes_eq n v)) (Some (n, r)) None) h.well ∙ ap (λ b. cond (not b) (Some (n, r)) None) h.apart
 
 pub origin_complete : (v : List ℕ) (o : Origin) (r : List (List ℕ)) → bytes_eq v (codes "start") ≡ false → IsOrigin v o → origin_first v (spelled (origin_lexemes v o) ++ r) ≡ Some (o, r)
-origin_complete v Start r no h = rw (apart_sym v (codes "start") no) refl
-origin_complete v (State s) r no h = rw (bytes_self v, h.0.well, h.0.apart, h.1) refl
+origin_complete v Start r apart h = rw (apart_sym v (codes "start") apart) refl
+origin_complete v (State s) r apart h = rw (bytes_self v, h.0.well, h.0.apart, h.1) refl
 
 pub shape_complete : (v : List ℕ) (s : Shape) (r : List (List ℕ)) → IsShape v s → shape_first v (spelled (shape_lexemes v s) ++ r) ≡ Some (s, r)
 shape_complete v (Call g) r h = rw (name_apart g (codes "*") h.well refl, h.well, h.apart, bytes_self v) refl

@@ -93,7 +93,7 @@ turned_well v (x ∷ xs) l h w =
     let k = turned_well v xs l (All-tail (IsLine v) x xs h) w in
     (All-head (IsLine v) x xs h, All-cons (IsLine v) (first_of xs l) (more_of xs l) k.0 k.1)
 
-section_spelled : (v : List ℕ) (o : Origin) (f : Line) (ms : List Line) (r : List (List ℕ))
+pub section_spelled : (v : List ℕ) (o : Origin) (f : Line) (ms : List Line) (r : List (List ℕ))
     → spelled (section_lexemes v (record { origin = o; first = f; more = ms })) ++ r ≡ spelled (origin_lexemes v o) ++ (codes ":" ∷ (spelled (line_lexemes v f) ++ (spelled (flat_map (more_lexemes v) ms) ++ (codes ";" ∷ r))))
 section_spelled v o f ms r =
     let M : List Lexeme = flat_map (more_lexemes v) ms in

@@ -137,7 +137,7 @@ read_nothing names f p tokens trees e = record {
   at_is = refl;
 }
 
-statement_counted : (p : List ℕ) (s : Statement) → length (spelled (statement_lexemes p s)) ≡ token_count s
+pub statement_counted : (p : List ℕ) (s : Statement) → length (spelled (statement_lexemes p s)) ≡ token_count s
 statement_counted p (Call g) = refl
 statement_counted p Dereference = refl
 

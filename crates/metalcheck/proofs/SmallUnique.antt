@@ -1,7 +1,7 @@
 -- A text is cut in one way: the part in front is told by the bytes.
 use Rattle.std.proofs.Common.{◌≡◌, ◌≤◌, ◌<◌, ℕ, zero, suc, ◌+◌, Bool, true, false, cond, not, ◌&&◌, ◌||◌, ◌==◌, List, [], ◌∷◌, ◌++◌, length, take, drop, Option, None, Some, refl, sym, ◌∙◌, ap, subst, arith, append_assoc, length-append}
 use Rattle.std.specs.List.{flat_map, list_all, take_while, prefix_len}
-use Rattle.std.proofs.Math.Seq.{drop-append_seam}
+use Rattle.std.proofs.Math.Seq.{drop-append_seam, take-append_seam}
 use Rattle.std.proofs.lemmas.List.Concat.{flat_map-cons}
 use Rattle.std.proofs.lemmas.List.Sums.{take_while-cons}
 use Rattle.c_tree.specs.declared.punctuator.Punctuator.{Punctuator}
@@ -9,8 +9,10 @@ use Rattle.c_tree.specs.declared.punctuator.Punctuator.TheVariants.{OpenParen, C
 use Rattle.metalcheck.specs.declared.small.text.Part.{Part}
 use Rattle.metalcheck.specs.declared.small.text.Part.TheVariants as parts
 use Rattle.metalcheck.specs.SmallText.{Lexeme, Word, Sign, Quoted, Piece, Space, LineFeed, Spelled, sign_bytes, bytes_of, is_letter, is_word_byte, is_plain, is_word, is_sign, is_piece, is_word_piece, ends_apart, are_apart, IsCut}
-use Rattle.metalcheck.specs.SmallFront.{starts_word, starts_quote, quoted_first, front_first, sign_first, one_byte, arrow_first}
+use Rattle.metalcheck.specs.SmallFront.{inside_quotes, starts_word, starts_quote, quoted_first, front_first, sign_first, one_byte, arrow_first}
 use Rattle.metalcheck.proofs.SmallOptions.{both}
+use Rattle.metalcheck.proofs.SmallOptions.{parts as pair_parts}
+use Rattle.metalcheck.proofs.SmallParts.{inside_quoted}
 
 skip : {A : Type 0} (t : Bool) (x y : A) → t ≡ false → cond t x y ≡ y
 skip t x y h = ap (λ b. cond b x y) h
@@ -55,26 +57,33 @@ front_letter b bs h =
     skip (b == 32) _ _ (letter_apart b 32 h refl) ∙ skip (b == 10) _ _ (letter_apart b 10 h refl) ∙ skip (b == 34) _ _ (letter_apart b 34 h refl)
     ∙ skip (b == 61) _ _ (letter_apart b 61 h refl) ∙ go (is_letter b) _ _ h
 
+abbrev pub part_of : Piece → Part
+part_of Space = parts.Space
+part_of LineFeed = parts.LineFeed
+part_of (Spelled (Word w)) = parts.Word
+part_of (Spelled (Sign p)) = parts.Sign p
+part_of (Spelled (Quoted s)) = parts.Quoted
+
 -- the part that a text begins with is found
-pub front_complete : (p : Piece) (r : List ℕ) → is_piece p ≡ true → (is_word_piece p ≡ true → starts_word r ≡ false) → (x : Part) × (front_first (bytes_of p ++ r) ≡ Some (x, length (bytes_of p)))
-front_complete Space r h k = (parts.Space, refl)
-front_complete LineFeed r h k = (parts.LineFeed, refl)
+pub front_complete : (p : Piece) (r : List ℕ) → is_piece p ≡ true → (is_word_piece p ≡ true → starts_word r ≡ false) → front_first (bytes_of p ++ r) ≡ Some (part_of p, length (bytes_of p))
+front_complete Space r h k = refl
+front_complete LineFeed r h k = refl
 front_complete (Spelled (Word [])) r h k = cc
 front_complete (Spelled (Word (b ∷ bs))) r h k =
     let t = both (is_letter b) (list_all is_word_byte bs) h in
     let all : list_all is_word_byte (b ∷ bs) ≡ true = ap (λ c. c && list_all is_word_byte bs) (letter_byte b t.0) ∙ t.1 in
-    (parts.Word, front_letter b (bs ++ r) t.0 ∙ ap (λ l. Some (parts.Word, length l)) (word_run (b ∷ bs) r all (k refl)))
-front_complete (Spelled (Sign OpenParen)) r h k = (parts.Sign OpenParen, refl)
-front_complete (Spelled (Sign CloseParen)) r h k = (parts.Sign CloseParen, refl)
-front_complete (Spelled (Sign OpenBrace)) r h k = (parts.Sign OpenBrace, refl)
-front_complete (Spelled (Sign CloseBrace)) r h k = (parts.Sign CloseBrace, refl)
-front_complete (Spelled (Sign Star)) r h k = (parts.Sign Star, refl)
-front_complete (Spelled (Sign Semicolon)) r h k = (parts.Sign Semicolon, refl)
-front_complete (Spelled (Sign Colon)) r h k = (parts.Sign Colon, refl)
-front_complete (Spelled (Sign Dot)) r h k = (parts.Sign Dot, refl)
-front_complete (Spelled (Sign Comma)) r h k = (parts.Sign Comma, refl)
-front_complete (Spelled (Sign Bar)) r h k = (parts.Sign Bar, refl)
-front_complete (Spelled (Sign LongArrow)) r h k = (parts.Sign LongArrow, refl)
+    front_letter b (bs ++ r) t.0 ∙ ap (λ l. Some (parts.Word, length l)) (word_run (b ∷ bs) r all (k refl))
+front_complete (Spelled (Sign OpenParen)) r h k = refl
+front_complete (Spelled (Sign CloseParen)) r h k = refl
+front_complete (Spelled (Sign OpenBrace)) r h k = refl
+front_complete (Spelled (Sign CloseBrace)) r h k = refl
+front_complete (Spelled (Sign Star)) r h k = refl
+front_complete (Spelled (Sign Semicolon)) r h k = refl
+front_complete (Spelled (Sign Colon)) r h k = refl
+front_complete (Spelled (Sign Dot)) r h k = refl
+front_complete (Spelled (Sign Comma)) r h k = refl
+front_complete (Spelled (Sign Bar)) r h k = refl
+front_complete (Spelled (Sign LongArrow)) r h k = refl
 front_complete (Spelled (Sign _)) r h k = cc
 front_complete (Spelled (Quoted s)) r h k =
     let joined : (s ++ 34 ∷ []) ++ r ≡ s ++ (34 ∷ r) = append_assoc s (34 ∷ []) r in
@@ -83,7 +92,7 @@ front_complete (Spelled (Quoted s)) r h k =
     let closed : starts_quote (drop (length (take_while is_plain (s ++ (34 ∷ r)))) (s ++ (34 ∷ r))) ≡ true =
     ap (λ n. starts_quote (drop n (s ++ (34 ∷ r)))) counted ∙ ap starts_quote (drop-append_seam s (34 ∷ r)) in
     let len : length (take_while is_plain (s ++ (34 ∷ r))) + 2 ≡ length (34 ∷ (s ++ 34 ∷ [])) = omega (arith, counted, length-append s (34 ∷ [])) in
-    (parts.Quoted, ap quoted_first joined ∙ go (starts_quote (drop (length (take_while is_plain (s ++ (34 ∷ r)))) (s ++ (34 ∷ r)))) _ _ closed ∙ ap (λ n. Some (parts.Quoted, n)) len)
+    ap quoted_first joined ∙ go (starts_quote (drop (length (take_while is_plain (s ++ (34 ∷ r)))) (s ++ (34 ∷ r)))) _ _ closed ∙ ap (λ n. Some (parts.Quoted, n)) len
 
 -- what is no word doesn't begin like one
 no_word_start : (q : Piece) (r : List ℕ) → is_piece q ≡ true → is_word_piece q ≡ false → starts_word (bytes_of q ++ r) ≡ false
@@ -133,12 +142,80 @@ cut_front rest (p ∷ ps) cut some =
     let joined : bytes_of p ++ others ≡ rest = sym (flat_map-cons bytes_of p ps) ∙ cut.joined in
     let f = front_complete p others t.0 (words_apart p ps t.1 a.0) in
     record {
-      part = f.0;
+      part = part_of p;
       len = length (bytes_of p);
-      first = ap front_first (sym joined) ∙ f.1;
+      first = ap front_first (sym joined) ∙ f;
       pieces = ps;
       behind = record { joined = sym (ap (drop (length (bytes_of p))) (sym joined) ∙ drop-append_seam (bytes_of p) others); shaped = t.1; apart = a.1 };
     }
 
 pub filled : (xs : List ℕ) (b : Bool) → b ≡ (length xs == 0) → b ≡ false → 0 < length xs
 filled xs b e h = grind (arith, e, h)
+
+same_piece : (p q : Piece) → part_of p ≡ part_of q → bytes_of p ≡ bytes_of q → p ≡ q
+same_piece Space Space h e = refl
+same_piece LineFeed LineFeed h e = refl
+same_piece (Spelled (Word w)) (Spelled (Word x)) h e = ap (λ w. Spelled (Word w)) e
+same_piece (Spelled (Sign p)) (Spelled (Sign q)) h e = let k : p ≡ q = cc in ap (λ p. Spelled (Sign p)) k
+same_piece (Spelled (Quoted s)) (Spelled (Quoted t)) h e = ap (λ s. Spelled (Quoted s)) (sym (inside_quoted s) ∙ ap inside_quotes e ∙ inside_quoted t)
+same_piece Space LineFeed h e = cc
+same_piece Space (Spelled (Word x)) h e = cc
+same_piece Space (Spelled (Sign q)) h e = cc
+same_piece Space (Spelled (Quoted t)) h e = cc
+same_piece LineFeed Space h e = cc
+same_piece LineFeed (Spelled (Word x)) h e = cc
+same_piece LineFeed (Spelled (Sign q)) h e = cc
+same_piece LineFeed (Spelled (Quoted t)) h e = cc
+same_piece (Spelled (Word w)) Space h e = cc
+same_piece (Spelled (Word w)) LineFeed h e = cc
+same_piece (Spelled (Word w)) (Spelled (Sign q)) h e = cc
+same_piece (Spelled (Word w)) (Spelled (Quoted t)) h e = cc
+same_piece (Spelled (Sign p)) Space h e = cc
+same_piece (Spelled (Sign p)) LineFeed h e = cc
+same_piece (Spelled (Sign p)) (Spelled (Word x)) h e = cc
+same_piece (Spelled (Sign p)) (Spelled (Quoted t)) h e = cc
+same_piece (Spelled (Quoted s)) Space h e = cc
+same_piece (Spelled (Quoted s)) LineFeed h e = cc
+same_piece (Spelled (Quoted s)) (Spelled (Word x)) h e = cc
+same_piece (Spelled (Quoted s)) (Spelled (Sign q)) h e = cc
+
+bytes_some : (p : Piece) → is_piece p ≡ true → 0 < length (bytes_of p)
+bytes_some Space h = omega arith
+bytes_some LineFeed h = omega arith
+bytes_some (Spelled (Word [])) h = cc
+bytes_some (Spelled (Word (b ∷ bs))) h = omega arith
+bytes_some (Spelled (Sign p)) h = sign_some (sign_bytes p) h
+  where
+    sign_some : (s : List ℕ) → is_sign s ≡ true → 0 < length s
+    sign_some [] k = cc
+    sign_some (b ∷ bs) k = omega arith
+bytes_some (Spelled (Quoted s)) h = omega arith
+
+-- a text has at most one cut
+pub cut_unique : (bytes : List ℕ) (ps qs : List Piece) → IsCut bytes ps → IsCut bytes qs → ps ≡ qs
+cut_unique bytes [] [] a b = refl
+cut_unique bytes [] (q ∷ qs) a b =
+    let t = both (is_piece q) (list_all is_piece qs) b.shaped in
+    let joined : bytes_of q ++ flat_map bytes_of qs ≡ [] = sym (flat_map-cons bytes_of q qs) ∙ b.joined ∙ sym a.joined in
+    absurd (omega (arith, ap length joined, length-append (bytes_of q) (flat_map bytes_of qs), bytes_some q t.0))
+cut_unique bytes (p ∷ ps) [] a b =
+    let t = both (is_piece p) (list_all is_piece ps) a.shaped in
+    let joined : bytes_of p ++ flat_map bytes_of ps ≡ [] = sym (flat_map-cons bytes_of p ps) ∙ a.joined ∙ sym b.joined in
+    absurd (omega (arith, ap length joined, length-append (bytes_of p) (flat_map bytes_of ps), bytes_some p t.0))
+cut_unique bytes (p ∷ ps) (q ∷ qs) a b =
+    let t = both (is_piece p) (list_all is_piece ps) a.shaped in
+    let u = both (is_piece q) (list_all is_piece qs) b.shaped in
+    let at = both (not (is_word_piece p) || ends_apart ps) (are_apart ps) a.apart in
+    let bt = both (not (is_word_piece q) || ends_apart qs) (are_apart qs) b.apart in
+    let P : List ℕ = flat_map bytes_of ps in
+    let Q : List ℕ = flat_map bytes_of qs in
+    let first : bytes_of p ++ P ≡ bytes = sym (flat_map-cons bytes_of p ps) ∙ a.joined in
+    let second : bytes_of q ++ Q ≡ bytes = sym (flat_map-cons bytes_of q qs) ∙ b.joined in
+    let e : Some (part_of p, length (bytes_of p)) ≡ Some (part_of q, length (bytes_of q)) =
+        sym (front_complete p P t.0 (words_apart p ps t.1 at.0)) ∙ ap front_first (first ∙ sym second) ∙ front_complete q Q u.0 (words_apart q qs u.1 bt.0) in
+    let k = pair_parts (part_of p, length (bytes_of p)) (part_of q, length (bytes_of q)) e in
+    let front : bytes_of p ≡ bytes_of q =
+        sym (take-append_seam (bytes_of p) P) ∙ ap (take (length (bytes_of p))) (first ∙ sym second) ∙ ap (λ n. take n (bytes_of q ++ Q)) k.1 ∙ take-append_seam (bytes_of q) Q in
+    let back : P ≡ Q = sym (drop-append_seam (bytes_of p) P) ∙ ap (drop (length (bytes_of p))) (first ∙ sym second) ∙ ap (λ n. drop n (bytes_of q ++ Q)) k.1 ∙ drop-append_seam (bytes_of q) Q in
+    let others : ps ≡ qs = cut_unique P ps qs (record { joined = refl; shaped = t.1; apart = at.1 }) (record { joined = sym back; shaped = u.1; apart = bt.1 }) in
+    ap (λ x. x ∷ ps) (same_piece p q k.0 front) ∙ ap (λ l. q ∷ l) others

@@ -62,3 +62,9 @@ pub record IsDereferenceOf (star : Place) (operand : Token) (n : Node) : Type 0 
   pub id : ℕ
   pub operand_id : ℕ
   pub is : n ≡ node id star (Unary (Deref (name_node operand_id operand)))
+
+-- from this token on these statements and a closing brace stand, and nothing behind them
+pub record StatementsStand (names : List (List ℕ)) (f p : List ℕ) (tokens : List Token) (at : ℕ) (statements : List Statement) : Type 0 where
+  pub parameter : is_name p ≡ true
+  pub well : All (IsStatement f p) statements
+  pub spelled_is : spellings names (drop at tokens) ≡ spelled (flat_map (statement_lexemes p) statements) ++ codes "}" ∷ []

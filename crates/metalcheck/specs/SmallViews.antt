@@ -1,6 +1,8 @@
 -- What the reader of small checkers gives, with texts in place of numbers.
-use Rattle.std.specs.Prelude.{◌≡◌, ℕ, List, ◌∷◌, ◌++◌, All, map, flat_map, codes}
+use Rattle.std.specs.Prelude.{◌≡◌, ℕ, true, false, List, ◌∷◌, ◌++◌, All, map, flat_map, codes}
 use Rattle.std.specs.Option.{option_map}
+use Rattle.std.specs.Str.{bytes_eq}
+use Rattle.metalcheck.specs.SmallNames.{is_name}
 use Rattle.std.specs.Borrow.{Bor}
 use Rattle.c_tree.specs.declared.token.Token.{Token}
 use Rattle.path_model.specs.declared.machine.Machine.{Machine}
@@ -67,3 +69,18 @@ pub record IsCheckerOf (names : List (List ℕ)) (ws : List (List ℕ)) (machine
   pub spelled_is : ws ≡ spelled (checker_lexemes checker)
   pub well : IsChecker checker
   pub machine_is : IsMachine names checker machine
+
+-- a name that is not `start`
+pub record IsVariable (v : List ℕ) : Type 0 where
+  pub well : is_name v ≡ true
+  pub no_start : bytes_eq v (codes "start") ≡ false
+
+-- this section stands in front of these
+pub record SectionStands (v : List ℕ) (ws others : List (List ℕ)) (section : Section) : Type 0 where
+  pub well : IsSection v section
+  pub spelled_is : ws ≡ spelled (section_lexemes v section) ++ others
+
+-- these sections and a closing brace stand in front of these
+pub record SectionsStand (v : List ℕ) (ws others : List (List ℕ)) (sections : List Section) : Type 0 where
+  pub well : All (IsSection v) sections
+  pub spelled_is : ws ≡ spelled (flat_map (section_lexemes v) sections) ++ (codes "}" ∷ others)

@@ -1,10 +1,11 @@
 //! Reads the parts of a small checker over its tokens, one function for each line of the grammar. Words, punctuators and
 //! strings are told apart by their spellings alone.
 
-ghost use Rattle.std.specs.Prelude.{◌≡◌, length, IfOk};
+ghost use Rattle.std.specs.Prelude.{◌≡◌, ◌++◌, ℕ, List, flat_map, length, IfOk};
 ghost use Rattle.std.specs.Option.{option_map};
+ghost use Rattle.metalcheck.specs.SmallChecker.{Section, section_rules};
 ghost use Rattle.metalcheck.specs.SmallReading.{after, after_identifier, before_percent, behind_percent, between_quotes, head_first, line_first, literal_first, message_first, name_first, origin_first, other_first, shape_first, spellings, split_message, text_at};
-ghost use Rattle.metalcheck.specs.SmallViews.{and_rest, head_of, line_of, origin_of, rules_in, shape_of, texts_of, ReadsSection, ReadsSections};
+ghost use Rattle.metalcheck.specs.SmallViews.{and_rest, head_of, line_of, origin_of, rules_in, shape_of, texts_of, IsVariable, ReadsSection, ReadsSections, SectionStands, SectionsStand};
 
 use super::names::is_name;
 use super::text::SmallFault;
@@ -286,7 +287,10 @@ fn read_section<'n, 't>(
     tokens: &'t [Token],
     rules: &mut Vec<ReadRule<'n>>,
 ) -> Result<&'t [Token], SmallFault>
-    ensures { IfOk result (λ rest. ReadsSection variable.now (spellings names.now tokens.now) (spellings names.now rest.now) (rules_in names.now rules.old.items) (rules_in names.now rules.new.items)) }
+    ensures ok { IfOk result (λ rest. ReadsSection variable.now (spellings names.now tokens.now) (spellings names.now rest.now) (rules_in names.now rules.old.items) (rules_in names.now rules.new.items)) }
+    ensures only { IfOk result (λ rest. IsVariable variable.now → (section : Section) (others : List (List ℕ)) → SectionStands variable.now (spellings names.now tokens.now) others section →
+        (others ≡ spellings names.now rest.now) × (rules_in names.now rules.new.items ≡ rules_in names.now rules.old.items ++ section_rules section)) }
+    ensures not_small { result ≡ Err SmallFault.NotSmall → IsVariable variable.now → (section : Section) (others : List (List ℕ)) → SectionStands variable.now (spellings names.now tokens.now) others section → ⊥ }
 {
     let (source, rest) = read_origin(names, variable, tokens).ok_or(SmallFault::NotSmall)?;
     let mut rest = after(names, rest, b":").ok_or(SmallFault::NotSmall)?;
@@ -310,7 +314,10 @@ pub fn read_sections<'n, 't>(
     tokens: &'t [Token],
     rules: &mut Vec<ReadRule<'n>>,
 ) -> Result<&'t [Token], SmallFault>
-    ensures { IfOk result (λ rest. ReadsSections variable.now (spellings names.now tokens.now) (spellings names.now rest.now) (rules_in names.now rules.old.items) (rules_in names.now rules.new.items)) }
+    ensures ok { IfOk result (λ rest. ReadsSections variable.now (spellings names.now tokens.now) (spellings names.now rest.now) (rules_in names.now rules.old.items) (rules_in names.now rules.new.items)) }
+    ensures only { IfOk result (λ rest. IsVariable variable.now → (sections : List Section) (others : List (List ℕ)) → SectionsStand variable.now (spellings names.now tokens.now) others sections →
+        (others ≡ spellings names.now rest.now) × (rules_in names.now rules.new.items ≡ rules_in names.now rules.old.items ++ flat_map section_rules sections)) }
+    ensures not_small { result ≡ Err SmallFault.NotSmall → IsVariable variable.now → (sections : List Section) (others : List (List ℕ)) → SectionsStand variable.now (spellings names.now tokens.now) others sections → ⊥ }
 {
     let mut rest = tokens;
     'sections: loop {

@@ -2,9 +2,9 @@
 
 ghost use Rattle.std.specs.Prelude.{◌≡◌, ◌≤◌, ◌<◌, ◌+◌, ◌^◌, true, All, List, ℕ, IfOk, length};
 ghost use Rattle.std.specs.Option.{option_map};
-ghost use Rattle.metalcheck.specs.SmallChecker.{AreRules, Checker, IsMachine, IsMessage, IsRule, IsSmallChecker, IsTarget};
+ghost use Rattle.metalcheck.specs.SmallChecker.{AreRules, Checker, IsChecker, IsMachine, IsMessage, IsRule, IsSmallChecker, IsTarget, checker_lexemes};
 ghost use Rattle.metalcheck.specs.SmallNames.{is_name};
-ghost use Rattle.metalcheck.specs.SmallReading.{spellings, text_at};
+ghost use Rattle.metalcheck.specs.SmallReading.{spelled, spellings, text_at};
 ghost use Rattle.metalcheck.specs.Extension.{IsExtension};
 ghost use Rattle.metalcheck.specs.SmallViews.{IsCheckerOf, IsWellRule, rule_of, rules_in, texts_of};
 
@@ -92,6 +92,7 @@ pub fn rules_of(
 /// The machine of a small checker, from its tokens.
 pub fn read_checker(alloc: Global, tokens: &[Token], names: &Names) -> Result<Machine, SmallFault>
     ensures ok { IfOk result (IsCheckerOf names.now (spellings names.now tokens.now)) }
+    ensures not_small { result ≡ Err SmallFault.NotSmall → (checker : Checker) → IsChecker checker → spellings names.now tokens.now ≡ spelled (checker_lexemes checker) → ⊥ }
 {
     let (head, rest) = read_head(names, tokens).ok_or(SmallFault::NotSmall)?;
     let mut read = Vec::new(alloc);
@@ -119,6 +120,7 @@ pub fn read_small_checker(
     ensures ok { IfOk result (λ machine. (checker : Checker) × IsSmallChecker bytes.now checker × IsMachine names.new checker machine) }
     ensures kept { IsExtension names.old names.new }
     ensures room { length names.new ≤ length names.old + length bytes.now + 1 }
+    ensures not_small { result ≡ Err SmallFault.NotSmall → (checker : Checker) → IsSmallChecker bytes.now checker → ⊥ }
 {
     let tokens = read_text(alloc, bytes, 0, word, names)?;
     read_checker(alloc, tokens.as_slice(), names)

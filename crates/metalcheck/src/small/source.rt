@@ -6,8 +6,8 @@ ghost use Rattle.c_tree.specs.Views.{node_of, nodes_in};
 ghost use Rattle.path_model.specs.Views.{body_of};
 ghost use Rattle.metalcheck.specs.SmallBody.{IsBody, IsStatementNode, name_node};
 ghost use Rattle.metalcheck.specs.SmallReading.{spellings, text_at};
-ghost use Rattle.metalcheck.specs.SmallSource.{IsSmallSource, Source};
-ghost use Rattle.metalcheck.specs.SmallStatements.{IsCallOf, IsDereferenceOf, ReadsStatements, read_count, callee_first, source_head_first, source_head_of, statement_first, statement_of};
+ghost use Rattle.metalcheck.specs.SmallSource.{IsSmallSource, Source, Statement};
+ghost use Rattle.metalcheck.specs.SmallStatements.{IsCallOf, IsDereferenceOf, ReadsStatements, StatementsStand, read_count, callee_first, source_head_first, source_head_of, statement_first, statement_of};
 ghost use Rattle.metalcheck.specs.SmallText.{IsTokenized};
 ghost use Rattle.metalcheck.specs.SmallViews.{and_rest};
 
@@ -210,7 +210,8 @@ fn read_statements<'a>(
     parameter: &[u8],
 ) -> Result<Vec<Tree<'a>, &'a Arena>, SmallFault>
     requires { 8 ≤ length tokens.now }
-    ensures { IfOk result (λ trees. ReadsStatements names.now function.now parameter.now tokens.now 8 (nodes_in trees.items)) }
+    ensures ok { IfOk result (λ trees. ReadsStatements names.now function.now parameter.now tokens.now 8 (nodes_in trees.items)) }
+    ensures not_small { result ≡ Err SmallFault.NotSmall → (statements : List Statement) → StatementsStand names.now function.now parameter.now tokens.now 8 statements → ⊥ }
 {
     let mut trees = Vec::new(arena);
     let mut next = 0;
@@ -239,6 +240,7 @@ pub fn read_source<'a>(
 ) -> Result<Function<'a>, SmallFault>
     ensures ok { (word bytes : List ℕ) → IsTokenized names.now 0 word bytes tokens.now →
         IfOk result (λ function. (s : Source) × IsSmallSource bytes s × IsBody names.now word bytes s (body_of function)) }
+    ensures not_small { result ≡ Err SmallFault.NotSmall → (word bytes : List ℕ) → IsTokenized names.now 0 word bytes tokens.now → (s : Source) → IsSmallSource bytes s → ⊥ }
 {
     let (head, _) = read_source_head(names, tokens).ok_or(SmallFault::NotSmall)?;
     let statements = read_statements(

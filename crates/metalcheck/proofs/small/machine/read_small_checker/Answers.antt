@@ -1,8 +1,10 @@
-use Rattle.std.proofs.Common.{subst}
+use Rattle.std.proofs.Common.{◌≡◌, sym, ap, Err, subst}
 use Rattle.std.proofs.lemmas.Result.{IfOk-weaker}
-use Rattle.metalcheck.specs.SmallReading.{spellings}
+use Rattle.metalcheck.specs.SmallReading.{spelled, spellings}
 use Rattle.metalcheck.specs.SmallViews.{IsCheckerOf}
 use Rattle.metalcheck.proofs.SmallCheckers.{small_checker}
+use Rattle.metalcheck.specs.SmallChecker.{checker_lexemes}
+use Rattle.metalcheck.proofs.SmallWhole.{checker_once}
 use Rattle.metalcheck.proofs.small.machine.read_small_checker.Goals as goal
 
 pub returns-clause-ok : goal.returns-clause-ok
@@ -11,3 +13,16 @@ returns-clause-ok c =
     (λ machine r. small_checker _ 0 c.args.word.now c.args.bytes.now c.in_ok-tokens.tokens.items machine c.in_ok-tokens.ensures.ok
     (subst (λ ts. IsCheckerOf c.read_text.new.names (spellings c.read_text.new.names ts) machine) c.as_slice.ensures.value r))
     c.read_checker.ensures.ok
+
+pub returns-clause-not_small : goal.returns-clause-not_small
+returns-clause-not_small c = λ e k s.
+    c.read_checker.ensures.not_small e k s.well
+    (subst (λ ts. spellings c.read_text.new.names ts ≡ spelled (checker_lexemes k)) (sym c.as_slice.ensures.value)
+     (checker_once c.read_text.new.names 0 c.args.word.now c.args.bytes.now c.in_ok-tokens.tokens.items k c.in_ok-tokens.ensures.ok s))
+
+pub returns-in_err-tokens-clause-not_small : goal.returns-in_err-tokens-clause-not_small
+returns-in_err-tokens-clause-not_small c = λ e k s.
+    let f = c.from_residual.ensures in
+    let g = c.in_err-tokens.ensures.not_small in
+    let same = rw e at f.1 in
+    g (ap Err (sym same)) s.pieces s.cut

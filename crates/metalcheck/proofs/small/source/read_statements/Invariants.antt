@@ -1,10 +1,13 @@
-use Rattle.std.proofs.Common.{◌≤◌, ◌-◌, length}
+use Rattle.std.proofs.Common.{◌≤◌, ◌-◌, List, length}
+use Rattle.metalcheck.specs.SmallSource.{Statement}
+use Rattle.metalcheck.specs.SmallStatements.{StatementsStand}
 use Rattle.metalcheck.proofs.SmallSources.{AreReadTo}
 use Rattle.metalcheck.proofs.small.source.read_statements.Given as goal
 
 abbrev pub invariant-statements : goal.invariant-statements
 invariant-statements l = record {
   read : AreReadTo l.names l.function l.parameter l.tokens l.at l.trees.items;
+  left : (whole : List Statement) → StatementsStand l.names l.function l.parameter l.tokens 8 whole → (statements : List Statement) × StatementsStand l.names l.function l.parameter l.tokens l.at statements;
   within : l.at ≤ length l.tokens;
 }
 
