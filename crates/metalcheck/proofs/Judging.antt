@@ -1,5 +1,5 @@
 -- The two files of a request, one after the other: what is known once the first, and once the second, is read and judged.
-use Rattle.std.proofs.Common.{◌≡◌, ℕ, ◌+◌, ◌-◌, ◌≤◌, min, List, [], ◌∷◌, ◌++◌, length, slice_get, Option, Some, refl, sym, ap, ◌∙◌, subst, arith}
+use Rattle.std.proofs.Common.{◌≡◌, ℕ, ◌+◌, ◌-◌, ◌≤◌, min, List, [], ◌∷◌, ◌++◌, length, slice_get, Option, Some, refl, sym, ap, ◌∙◌, subst, arith, Result, Ok, Err, IfErr}
 use Rattle.mx_base.specs.Names.{HasNoRepeats}
 use Rattle.mx_io.specs.Reads.{Stands}
 use Rattle.path_model.specs.declared.machine.Machine.{Machine}
@@ -12,12 +12,15 @@ use Rattle.path_model.specs.declared.machine.Target.{Target}
 use Rattle.path_model.specs.declared.machine.Target.TheVariants as targets
 use Rattle.path_model.specs.declared.report.Report.{Report}
 use Rattle.metalcheck.specs.declared.fault.Fault.{Fault}
+use Rattle.metalcheck.specs.declared.fault.Fault.TheVariants as faults
+use Rattle.metalcheck.specs.declared.judge.Stopped.{Stopped}
+use Rattle.metalcheck.specs.declared.judge.Stopped.TheVariants as stops
 use Rattle.metalcheck.specs.Judged.{IsJudged}
 use Rattle.metalcheck.specs.Reading.{total_limit, file_limit, HasFault, IsSound, AreSound, IsTurn, FailedAt, FaultyAt}
 use Rattle.metalcheck.specs.SmallBody.{IsBody}
 use Rattle.metalcheck.specs.SmallChecker.{Checker, Origin, Start, State, Shape, Call, Dereference, Line, IsMachine, IsSource, IsPattern, IsTarget, AreRules, rules_of}
 use Rattle.metalcheck.specs.SmallSource as source
-use Rattle.metalcheck.specs.Stages.{IsLoaded, IsChecked}
+use Rattle.metalcheck.specs.Stages.{AnswersStopped, IsLoaded, IsChecked, IsUnread}
 
 -- a machine stays what it is when names are added
 module _ (old new : List (List ℕ)) (kept : (n : ℕ) (t : List ℕ) → slice_get old n ≡ Some t → slice_get new n ≡ Some t) where
@@ -106,3 +109,11 @@ module _ (told : List ℕ → Option (List ℕ)) (c s : List ℕ) (old new : Lis
         body_is = k.has.body_is;
         reports_are = k.has.reports_are;
       }
+
+-- why the bytes of a C file gave nothing is why its file did
+pub unread_stopped : {X : Type 0} (told : Option (List ℕ)) (left : ℕ) (bytes : List ℕ) (r : Result X Stopped) → Stands told bytes → length bytes ≤ min file_limit left → IfErr r (IsUnread bytes) → IfErr r (AnswersStopped told 1 left)
+unread_stopped told left bytes (Ok x) s h u = u
+unread_stopped told left bytes (Err stops.NotRead) s h u = absurd u
+unread_stopped told left bytes (Err (stops.Faulty faults.TooLarge)) s h u = absurd u
+unread_stopped told left bytes (Err (stops.Faulty faults.NotYet)) s h u = (bytes, s, (h, u))
+unread_stopped told left bytes (Err stops.NoMemory) s h u = tt
