@@ -90,7 +90,7 @@ front_complete (Spelled (Quoted s)) r h k =
     let run : take_while is_plain (s ++ (34 ∷ r)) ≡ s = run_stopped is_plain s 34 r h refl in
     let counted : length (take_while is_plain (s ++ (34 ∷ r))) ≡ length s = ap length run in
     let closed : starts_quote (drop (length (take_while is_plain (s ++ (34 ∷ r)))) (s ++ (34 ∷ r))) ≡ true =
-        ap (λ n. starts_quote (drop n (s ++ (34 ∷ r)))) counted ∙ ap starts_quote (drop-append_seam s (34 ∷ r)) in
+    ap (λ n. starts_quote (drop n (s ++ (34 ∷ r)))) counted ∙ ap starts_quote (drop-append_seam s (34 ∷ r)) in
     let len : length (take_while is_plain (s ++ (34 ∷ r))) + 2 ≡ length (34 ∷ (s ++ 34 ∷ [])) = omega (arith, counted, length-append s (34 ∷ [])) in
     ap quoted_first joined ∙ go (starts_quote (drop (length (take_while is_plain (s ++ (34 ∷ r)))) (s ++ (34 ∷ r)))) _ _ closed ∙ ap (λ n. Some (parts.Quoted, n)) len
 
@@ -212,10 +212,10 @@ cut_unique bytes (p ∷ ps) (q ∷ qs) a b =
     let first : bytes_of p ++ P ≡ bytes = sym (flat_map-cons bytes_of p ps) ∙ a.joined in
     let second : bytes_of q ++ Q ≡ bytes = sym (flat_map-cons bytes_of q qs) ∙ b.joined in
     let e : Some (part_of p, length (bytes_of p)) ≡ Some (part_of q, length (bytes_of q)) =
-        sym (front_complete p P t.0 (words_apart p ps t.1 at.0)) ∙ ap front_first (first ∙ sym second) ∙ front_complete q Q u.0 (words_apart q qs u.1 bt.0) in
+    sym (front_complete p P t.0 (words_apart p ps t.1 at.0)) ∙ ap front_first (first ∙ sym second) ∙ front_complete q Q u.0 (words_apart q qs u.1 bt.0) in
     let k = pair_parts (part_of p, length (bytes_of p)) (part_of q, length (bytes_of q)) e in
     let front : bytes_of p ≡ bytes_of q =
-        sym (take-append_seam (bytes_of p) P) ∙ ap (take (length (bytes_of p))) (first ∙ sym second) ∙ ap (λ n. take n (bytes_of q ++ Q)) k.1 ∙ take-append_seam (bytes_of q) Q in
+    sym (take-append_seam (bytes_of p) P) ∙ ap (take (length (bytes_of p))) (first ∙ sym second) ∙ ap (λ n. take n (bytes_of q ++ Q)) k.1 ∙ take-append_seam (bytes_of q) Q in
     let back : P ≡ Q = sym (drop-append_seam (bytes_of p) P) ∙ ap (drop (length (bytes_of p))) (first ∙ sym second) ∙ ap (λ n. drop n (bytes_of q ++ Q)) k.1 ∙ drop-append_seam (bytes_of q) Q in
     let others : ps ≡ qs = cut_unique P ps qs (record { joined = refl; shaped = t.1; apart = at.1 }) (record { joined = sym back; shaped = u.1; apart = bt.1 }) in
     ap (λ x. x ∷ ps) (same_piece p q k.0 front) ∙ ap (λ l. q ∷ l) others
