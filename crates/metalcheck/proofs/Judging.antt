@@ -20,7 +20,7 @@ use Rattle.metalcheck.specs.Reading.{total_limit, file_limit, HasFault, IsSound,
 use Rattle.metalcheck.specs.SmallBody.{IsBody}
 use Rattle.metalcheck.specs.SmallChecker.{Checker, Origin, Start, State, Shape, Call, Dereference, Line, IsMachine, IsSource, IsPattern, IsTarget, AreRules, rules_of}
 use Rattle.metalcheck.specs.SmallSource as source
-use Rattle.metalcheck.specs.Stages.{AnswersStopped, IsLoaded, IsChecked, IsUnread}
+use Rattle.metalcheck.specs.Stages.{AnswersStopped, IsLoaded, IsChecked, IsUnread, failed_after_stop}
 
 -- a machine stays what it is when names are added
 module _ (old new : List (List ℕ)) (kept : (n : ℕ) (t : List ℕ) → slice_get old n ≡ Some t → slice_get new n ≡ Some t) where
@@ -117,3 +117,10 @@ unread_stopped told left bytes (Err stops.NotRead) s h u = absurd u
 unread_stopped told left bytes (Err (stops.Faulty faults.TooLarge)) s h u = absurd u
 unread_stopped told left bytes (Err (stops.Faulty faults.NotYet)) s h u = (bytes, s, (h, u))
 unread_stopped told left bytes (Err stops.NoMemory) s h u = tt
+
+-- and no read failed
+pub unread_failed : {X : Type 0} (old new : List (List ℕ)) (word bytes : List ℕ) (r : Result X Stopped) → new ≡ old → IfErr r (IsUnread bytes) → IfErr r (λ e. new ≡ failed_after_stop old word e)
+unread_failed old new word bytes (Ok x) e u = u
+unread_failed old new word bytes (Err stops.NotRead) e u = absurd u
+unread_failed old new word bytes (Err (stops.Faulty fault)) e u = e
+unread_failed old new word bytes (Err stops.NoMemory) e u = e

@@ -141,7 +141,7 @@ sections_end v rest behind others old new ss var k brace = by k.left k.spelled_i
         ((let x : others ≡ behind = cc in x), sym (r ∙ append-nil new))
     by (s ∷ left) e r =
         let none : None ≡ Some behind =
-            sym (ap (after (codes "}")) (e ∙ sections_then v s left (codes "}" ∷ others)) ∙ section_no_brace v s (spelled (flat_map (section_lexemes v) left) ++ (codes "}" ∷ others)) var) ∙ brace in
+        sym (ap (after (codes "}")) (e ∙ sections_then v s left (codes "}" ∷ others)) ∙ section_no_brace v s (spelled (flat_map (section_lexemes v) left) ++ (codes "}" ∷ others)) var) ∙ brace in
         absurd (let x : ⊥ = cc in x)
 
 pub record NextSection (v : List ℕ) (rest : List (List ℕ)) (old new : List (Origin × Line)) (sections : List Section) (others : List (List ℕ)) : Type 0 where

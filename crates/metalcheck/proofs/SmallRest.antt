@@ -39,7 +39,7 @@ brace_last names f p tokens at [] end h brace =
     (let x : end ≡ [] = cc in x)
 brace_last names f p tokens at (s ∷ ss) end h brace =
     let none : None ≡ Some end =
-        sym (ap (after (codes "}")) (h.spelled_is ∙ statements_then p s ss (codes "}" ∷ [])) ∙ statement_no_brace f p s (spelled (flat_map (statement_lexemes p) ss) ++ codes "}" ∷ []) (All-head (IsStatement f p) s ss h.well)) ∙ brace in
+    sym (ap (after (codes "}")) (h.spelled_is ∙ statements_then p s ss (codes "}" ∷ [])) ∙ statement_no_brace f p s (spelled (flat_map (statement_lexemes p) ss) ++ codes "}" ∷ []) (All-head (IsStatement f p) s ss h.well)) ∙ brace in
     absurd (let x : ⊥ = cc in x)
 
 pub record NextStatement (names : List (List ℕ)) (f p : List ℕ) (tokens : List Token) (at : ℕ) : Type 0 where

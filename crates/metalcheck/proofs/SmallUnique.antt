@@ -212,10 +212,10 @@ cut_unique bytes (p ∷ ps) (q ∷ qs) a b =
     let first : bytes_of p ++ P ≡ bytes = sym (flat_map-cons bytes_of p ps) ∙ a.joined in
     let second : bytes_of q ++ Q ≡ bytes = sym (flat_map-cons bytes_of q qs) ∙ b.joined in
     let e : Some (part_of p, length (bytes_of p)) ≡ Some (part_of q, length (bytes_of q)) =
-        sym (front_complete p P t.0 (words_apart p ps t.1 at.0)) ∙ ap front_first (first ∙ sym second) ∙ front_complete q Q u.0 (words_apart q qs u.1 bt.0) in
+    sym (front_complete p P t.0 (words_apart p ps t.1 at.0)) ∙ ap front_first (first ∙ sym second) ∙ front_complete q Q u.0 (words_apart q qs u.1 bt.0) in
     let k = pair_parts (part_of p, length (bytes_of p)) (part_of q, length (bytes_of q)) e in
     let front : bytes_of p ≡ bytes_of q =
-        sym (take-append_seam (bytes_of p) P) ∙ ap (take (length (bytes_of p))) (first ∙ sym second) ∙ ap (λ n. take n (bytes_of q ++ Q)) k.1 ∙ take-append_seam (bytes_of q) Q in
+    sym (take-append_seam (bytes_of p) P) ∙ ap (take (length (bytes_of p))) (first ∙ sym second) ∙ ap (λ n. take n (bytes_of q ++ Q)) k.1 ∙ take-append_seam (bytes_of q) Q in
     let back : P ≡ Q = sym (drop-append_seam (bytes_of p) P) ∙ ap (drop (length (bytes_of p))) (first ∙ sym second) ∙ ap (λ n. drop n (bytes_of q ++ Q)) k.1 ∙ drop-append_seam (bytes_of q) Q in
     let others : ps ≡ qs = cut_unique P ps qs (record { joined = refl; shaped = t.1; apart = at.1 }) (record { joined = sym back; shaped = u.1; apart = bt.1 }) in
     ap (λ x. x ∷ ps) (same_piece p q k.0 front) ∙ ap (λ l. q ∷ l) others

@@ -1,5 +1,5 @@
 -- Small C files read from left to right over the spellings of their tokens.
-use Rattle.std.specs.Prelude.{◌≡◌, ℕ, ◌&&◌, not, if◌then◌else◌, List, [], ◌∷◌, ◌++◌, All, drop, Option, Some, None, codes, flat_map}
+use Rattle.std.specs.Prelude.{◌≡◌, ℕ, ◌&&◌, not, if◌then◌else◌, List, [], ◌∷◌, ◌++◌, All, drop, Option, Some, None, codes, flat_map, true}
 use Rattle.std.specs.Str.{bytes_eq}
 use Rattle.c_tree.specs.Node as nodes
 use Rattle.c_tree.specs.Node.{Node, node, Nodes, no_more, more, Postfix, Unary, Deref}

@@ -13,7 +13,7 @@ use Rattle.metalcheck.specs.declared.judge.Outcome.TheVariants as outcomes
 use Rattle.metalcheck.specs.declared.judge.Stopped.{Stopped}
 use Rattle.metalcheck.specs.declared.judge.Stopped.TheVariants as stops
 use Rattle.metalcheck.specs.Judged.{AreJudged}
-use Rattle.metalcheck.specs.Reading.{file_limit, HasFault, AreSound, FailedAt, FaultyAt}
+use Rattle.metalcheck.specs.Reading.{file_limit, HasFault, AreSound, FailedAt, FaultyAt, IsSmall}
 use Rattle.metalcheck.specs.SmallBody.{IsBody}
 use Rattle.metalcheck.specs.SmallChecker.{Checker, IsSmallChecker, IsMachine}
 use Rattle.metalcheck.specs.SmallSource.{Source}

@@ -18,6 +18,7 @@ use bumpalo::collections::into_bump_slice;
 use c_tree::{Arena, Kind, Place, Postfix, Primary, Token, Tree, Trees, Unary};
 use mx_base::Names;
 use path_model::Function;
+use std::alloc::AllocError;
 
 /// The names of the function and of its parameter, by number.
 #[derive(Clone, Copy)]
@@ -124,7 +125,7 @@ fn call_tree<'a>(
     parenthesis: Place,
     argument: Token,
     next: &mut u32,
-) -> Result<Tree<'a>, SmallFault>
+) -> Result<Tree<'a>, AllocError>
     ensures { IfOk result (λ tree. IsCallOf callee parenthesis argument (node_of tree)) }
 {
     let callee_id = next_id(next);
@@ -151,7 +152,7 @@ fn dereference_tree<'a>(
     star: Place,
     operand: Token,
     next: &mut u32,
-) -> Result<Tree<'a>, SmallFault>
+) -> Result<Tree<'a>, AllocError>
     ensures { IfOk result (λ tree. IsDereferenceOf star operand (node_of tree)) }
 {
     let operand_id = next_id(next);
@@ -180,7 +181,7 @@ fn statement_tree<'a>(
     at: usize,
     statement: ReadStatement,
     next: &mut u32,
-) -> Result<Tree<'a>, SmallFault>
+) -> Result<Tree<'a>, AllocError>
     requires { at + read_count statement ≤ length tokens.now }
     ensures { (names : List (List ℕ)) → IfOk result (λ tree. IsStatementNode tokens.now at (statement_of names statement) (node_of tree)) }
 {

@@ -1,4 +1,4 @@
-use Rattle.std.proofs.Common.{sym, subst}
+use Rattle.std.proofs.Common.{Err, ap, sym, subst}
 use Rattle.metalcheck.specs.SmallText.{IsTokenized}
 use Rattle.metalcheck.proofs.SmallBodies.{are_simple, parameter_named}
 use Rattle.path_model.specs.Views.{body_of}

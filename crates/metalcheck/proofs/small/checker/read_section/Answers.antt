@@ -27,7 +27,7 @@ lines-smaller c =
     let found : line_first c.args.variable.now (spellings names c.lines.rest.now) ≡ Some (line_of names c.in_ok-line.line, spellings names c.in_ok-line.others.now) = sym (rw c.in_ok-line.ensures.ok_part at c.read_line.ensures) in
     let bar : after (codes "|") (spellings names c.in_ok-line.others.now) ≡ Some (spellings names c.in-Some.behind.now) = sym c.in-Some.ensures in
     let fewer : length (spellings names c.in-Some.behind.now) < length (spellings names c.lines.rest.now) =
-        shorter _ (spelled (line_lexemes c.args.variable.now (line_of names c.in_ok-line.line))) (spellings names c.in_ok-line.others.now) (codes "|") _ (line_sound c.args.variable.now _ _ _ found).0 (after_some _ _ _ bar) in
+    shorter _ (spelled (line_lexemes c.args.variable.now (line_of names c.in_ok-line.line))) (spellings names c.in_ok-line.others.now) (codes "|") _ (line_sound c.args.variable.now _ _ _ found).0 (after_some _ _ _ bar) in
     omega (arith, fewer, length-map c.lines.rest.now (λ t. text_at names t.name), length-map c.in-Some.behind.now (λ t. text_at names t.name))
 
 pub lines-preserved : goal.lines-preserved
@@ -38,7 +38,7 @@ lines-preserved c =
     let bar : after (codes "|") (spellings names c.in_ok-line.others.now) ≡ Some (spellings names c.in-Some.behind.now) = sym c.in-Some.ensures in
     let line = line_sound v _ _ _ found in
     let pushed : rules_in names c.push.new.self.items ≡ rules_in names c.lines.rules.items ++ (origin_of names c.in_ok-source.source, line_of names c.in_ok-line.line) ∷ [] =
-        ap (rules_in names) c.in_ok-push.ensures.items ∙ map-append (rule_of names) c.lines.rules.items _ in
+    ap (rules_in names) c.in_ok-push.ensures.items ∙ map-append (rule_of names) c.lines.rules.items _ in
     record {
       read = section_more _ _ _ _ _ _ _ _ _ _ c.lines.invariant.read line.0 line.1 (after_some _ _ _ bar) pushed;
       left = λ var s others h. lines_bar v _ _ others _ _ _ s (lines_next v _ _ others _ _ _ _ _ s (c.lines.invariant.left var s others h) found pushed) bar;
@@ -59,7 +59,7 @@ returns-in-None-clause-only c = λ var s others h.
     let found : line_first v (spellings names c.lines.rest.now) ≡ Some (line_of names c.in_ok-line.line, spellings names c.in_ok-line.others.now) = sym (rw c.in_ok-line.ensures.ok_part at c.read_line.ensures) in
     let end : after (codes ";") (spellings names c.in_ok-line.others.now) ≡ Some (spellings names c.in_ok-behind-in-None.behind.now) = sym (rw c.in_ok-behind-in-None.ensures.ok_part at c.after-in-None.ensures) in
     let pushed : rules_in names c.push.new.self.items ≡ rules_in names c.lines.rules.items ++ (origin_of names c.in_ok-source.source, line_of names c.in_ok-line.line) ∷ [] =
-        ap (rules_in names) c.in_ok-push.ensures.items ∙ map-append (rule_of names) c.lines.rules.items _ in
+    ap (rules_in names) c.in_ok-push.ensures.items ∙ map-append (rule_of names) c.lines.rules.items _ in
     let e = lines_end v _ others _ _ _ s (lines_next v _ _ others _ _ _ _ _ s (c.lines.invariant.left var s others h) found pushed) (sym c.in-None.ensures) in
     let same : Some others ≡ Some (spellings names c.in_ok-behind-in-None.behind.now) = sym e.0 ∙ end in
     ((let x : others ≡ spellings names c.in_ok-behind-in-None.behind.now = cc in x), e.1)
@@ -92,6 +92,6 @@ returns-in_err-behind-in-None-clause-not_small c = λ _ var s others h.
     let found : line_first v (spellings names c.lines.rest.now) ≡ Some (line_of names c.in_ok-line.line, spellings names c.in_ok-line.others.now) = sym (rw c.in_ok-line.ensures.ok_part at c.read_line.ensures) in
     let none : after (codes ";") (spellings names c.in_ok-line.others.now) ≡ None = sym (rw c.in_err-behind-in-None.ensures.ok_part at c.after-in-None.ensures) in
     let pushed : rules_in names c.push.new.self.items ≡ rules_in names c.lines.rules.items ++ (origin_of names c.in_ok-source.source, line_of names c.in_ok-line.line) ∷ [] =
-        ap (rules_in names) c.in_ok-push.ensures.items ∙ map-append (rule_of names) c.lines.rules.items _ in
+    ap (rules_in names) c.in_ok-push.ensures.items ∙ map-append (rule_of names) c.lines.rules.items _ in
     let e = lines_end v _ others _ _ _ s (lines_next v _ _ others _ _ _ _ _ s (c.lines.invariant.left var s others h) found pushed) (sym c.in-None.ensures) in
     cc (none, e.0)

@@ -36,7 +36,7 @@ pub returns-in_err-rest-clause-not_small : goal.returns-in_err-rest-clause-not_s
 returns-in_err-rest-clause-not_small c = λ err k well e.
     let names = c.args.names.now in
     let head : head_first (spellings names c.args.tokens.now) ≡ Some ((text_at names c.in_ok-head.head.name, text_at names c.in_ok-head.head.variable), spellings names c.in_ok-head.rest.now) =
-        sym (rw c.in_ok-head.ensures.ok_part at c.read_head.ensures) in
+    sym (rw c.in_ok-head.ensures.ok_part at c.read_head.ensures) in
     let b = sections_behind (spellings names c.args.tokens.now) _ _ _ k well e head in
     let f = c.from_residual-in_err-rest.ensures in
     let g = c.in_err-rest.ensures.not_small in

@@ -18,7 +18,7 @@ pub returns-clause-not_small : goal.returns-clause-not_small
 returns-clause-not_small c = λ e k s.
     c.read_checker.ensures.not_small e k s.well
     (subst (λ ts. spellings c.read_text.new.names ts ≡ spelled (checker_lexemes k)) (sym c.as_slice.ensures.value)
-     (checker_once c.read_text.new.names 0 c.args.word.now c.args.bytes.now c.in_ok-tokens.tokens.items k c.in_ok-tokens.ensures.ok s))
+    (checker_once c.read_text.new.names 0 c.args.word.now c.args.bytes.now c.in_ok-tokens.tokens.items k c.in_ok-tokens.ensures.ok s))
 
 pub returns-in_err-tokens-clause-not_small : goal.returns-in_err-tokens-clause-not_small
 returns-in_err-tokens-clause-not_small c = λ e k s.
