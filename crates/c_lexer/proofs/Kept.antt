@@ -1,5 +1,5 @@
 -- The numbers of the tokens that strip keeps rise.
-use Rattle.std.proofs.Common.{◌≡◌, ℕ, zero, suc, ◌+◌, ◌≤◌, List, [], ◌∷◌, Option, None, Some, refl, ap, sym, ◌∙◌, subst, arith}
+use Rattle.std.proofs.Common.{ℕ, zero, suc, ◌+◌, ◌≤◌, List, [], ◌∷◌, Option, None, Some, arith}
 use Rattle.c_tree.specs.declared.token.Token.{Token}
 use Rattle.c_reading.specs.Strip.{dropped_with, kept, stripped_behind, if_dropped}
 use Rattle.c_lexer.specs.Tokens.{Rises}

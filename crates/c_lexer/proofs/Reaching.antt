@@ -1,6 +1,6 @@
 -- From piece to piece: what the lexer has kept stays what the definition gives.
-use Rattle.std.proofs.Common.{◌≡◌, ◌≢◌, ℕ, suc, ◌+◌, ◌-◌, ◌≤◌, ◌<◌, Bool, true, false, cond, List, [], ◌∷◌, ◌++◌, length, take, drop, Option, None, Some, slice_get, Result, Ok, Err, refl, ap, sym, ◌∙◌, subst, arith, length-append, length-drop, append_assoc}
-use Rattle.std.proofs.lemmas.List.{append-nil, length-take-le, drop_at}
+use Rattle.std.proofs.Common.{◌≡◌, ◌≢◌, ℕ, ◌+◌, ◌≤◌, ◌<◌, true, false, List, [], ◌∷◌, ◌++◌, length, take, drop, None, Some, slice_get, Ok, refl, ap, sym, ◌∙◌, subst, arith, length-append, length-drop}
+use Rattle.std.proofs.lemmas.List.{length-take-le, drop_at}
 use Rattle.mx_base.specs.Names.{AddsAtMost, HasNoRepeats}
 use Rattle.mx_base.proofs.NameLaws.{kept_number, adds_both}
 use Rattle.c_tree.specs.declared.token.Token.{Token}
@@ -16,7 +16,7 @@ use Rattle.c_lexer.specs.declared.here.Here.{Here}
 use Rattle.c_lexer.specs.declared.fault.Spot.{Spot}
 use Rattle.c_lexer.specs.declared.pieces.Piece.{Piece}
 use Rattle.c_lexer.specs.declared.pieces.Piece.TheVariants.{Space, Comment, LineComment, MarkerLine, Spelling}
-use Rattle.c_lexer.specs.Pieces.{piece_view, piece_len, Says, GivesPiece}
+use Rattle.c_lexer.specs.Pieces.{piece_view, piece_len, GivesPiece}
 use Rattle.c_lexer.specs.Progress.{here_of, InBounds, Steps, Reached, spot_of}
 use Rattle.c_reading.specs.declared.fault.Fault.TheVariants.{BadByte, OpenText, BadNumber, BadMarker}
 use Rattle.c_lexer.specs.Faults.{fault_there}

@@ -1,5 +1,5 @@
 -- How many tokens there are whose numbers rise.
-use Rattle.std.proofs.Common.{◌≡◌, ℕ, ◌+◌, ◌≤◌, List, [], ◌∷◌, length, arith}
+use Rattle.std.proofs.Common.{ℕ, ◌+◌, ◌≤◌, List, [], ◌∷◌, length, arith}
 use Rattle.c_tree.specs.declared.token.Token.{Token}
 use Rattle.c_lexer.specs.Tokens.{Rises}
 

@@ -1,12 +1,10 @@
 -- Behind a piece: what the lexer keeps is what the definition gives.
-use Rattle.std.proofs.Common.{◌≡◌, ℕ, ◌+◌, ◌≤◌, ◌<◌, Bool, true, false, List, [], ◌∷◌, ◌++◌, length, take, drop, Option, Some, slice_get, slice_index, refl, ap, sym, ◌∙◌, subst, arith, Result, Ok, Err, IfOk, length-drop}
+use Rattle.std.proofs.Common.{◌≡◌, ℕ, ◌+◌, ◌≤◌, Bool, true, false, List, [], ◌∷◌, ◌++◌, length, take, drop, Some, slice_get, slice_index, refl, ap, sym, ◌∙◌, subst, arith, Result, Ok, Err, IfOk, length-drop}
 use Rattle.std.proofs.lemmas.List.{append-nil, length-take-le}
 use Rattle.c_tree.specs.declared.token.Token.{Token}
 use Rattle.c_tree.specs.declared.token.TokenKind.{TokenKind}
 use Rattle.c_reading.specs.declared.mode.Mode.{Mode}
-use Rattle.c_reading.specs.Markers as markers
 use Rattle.c_reading.specs.Markers.{marker_of}
-use Rattle.c_reading.specs.Spellings.{kind_of}
 use Rattle.c_reading.specs.Pieces as pieces
 use Rattle.c_reading.specs.Pieces.{behind, behind_byte, behind_bytes, further, on_next_line}
 use Rattle.c_reading.specs.Reading.{lexeme_at, lexeme_of}
@@ -14,8 +12,8 @@ use Rattle.c_lexer.specs.declared.here.Here.{Here}
 use Rattle.c_lexer.specs.declared.markers.Marker.{Marker}
 use Rattle.c_lexer.specs.declared.pieces.Piece.{Piece}
 use Rattle.c_lexer.specs.declared.pieces.Piece.TheVariants.{Space, Comment, LineComment, MarkerLine, Spelling}
-use Rattle.c_lexer.specs.Found.{marker_view, marker_line}
-use Rattle.c_lexer.specs.Pieces.{piece_view, piece_len, Says}
+use Rattle.c_lexer.specs.Found.{marker_view}
+use Rattle.c_lexer.specs.Pieces.{piece_view, Says}
 use Rattle.c_lexer.specs.Progress.{here_of, Steps, Lands}
 use Rattle.c_lexer.specs.Tokens.{IsToken}
 

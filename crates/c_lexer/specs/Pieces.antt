@@ -1,5 +1,5 @@
 -- The piece that is cut off bytes, seen by the definition.
-use Rattle.std.specs.Prelude.{◌≡◌, ◌≤◌, ◌+◌, ℕ, Bool, cond, List, [], ◌∷◌, length, Option, None, Some, Result, Ok, Err, take, drop, slice_index, ⊤}
+use Rattle.std.specs.Prelude.{◌≡◌, ◌≤◌, ◌+◌, ℕ, Bool, cond, List, length, None, Some, Result, Ok, Err, take, drop, slice_index, ⊤}
 use Rattle.c_reading.specs.declared.mode.Mode.{Mode}
 use Rattle.c_reading.specs.declared.fault.Fault.{Fault}
 use Rattle.c_reading.specs.declared.fault.Fault.TheVariants.{OpenText, BadMarker}

@@ -1,5 +1,5 @@
 -- Tokens as they are kept, and what they stand for.
-use Rattle.std.specs.Prelude.{◌≡◌, ◌+◌, ◌<◌, ◌≤◌, ◌==◌, ℕ, zero, suc, List, [], ◌∷◌, length, Option, Some, slice_get, ⊤, if◌then◌else◌}
+use Rattle.std.specs.Prelude.{◌≡◌, ◌+◌, ◌≤◌, ◌==◌, ℕ, zero, suc, List, [], ◌∷◌, length, Some, slice_get, ⊤, if◌then◌else◌}
 use Rattle.c_tree.specs.declared.token.Token.{Token}
 use Rattle.c_reading.specs.declared.mode.Mode.{Mode}
 use Rattle.c_reading.specs.declared.fault.Fault.{Fault}

@@ -90,7 +90,8 @@ impl Here {
         requires room { self.offset + length bytes.now ≤ 16777216 }
         ensures source { result.source ≡ self.source }
         ensures offset { result.offset ≡ self.offset + length bytes.now }
-        ensures stands { (file : List ℕ) → here_of file result ≡ record (behind_bytes (here_of file self) bytes.now) { first = false } }
+        ensures stands { (file : List ℕ) →
+            here_of file result ≡ record (behind_bytes (here_of file self) bytes.now) { first = false } }
         ensures bounds { InBounds result }
     {
         let mut here = self.behind_bytes(bytes);

@@ -36,7 +36,8 @@ fn next_line(
     requires line { marker_line marker ≤ 2147483647 }
     requires names { length names.old < 2 ^ 31 }
     requires once { HasNoRepeats names.old }
-    ensures lands { IfOk result (λ next. (file : List ℕ) → slice_get names.old here.source ≡ Some file → Lands names.new next (on_next_line (here_of file here) count (Some (marker_view marker.entry)))) }
+    ensures lands { IfOk result (λ next. (file : List ℕ) → slice_get names.old here.source ≡ Some file →
+        Lands names.new next (on_next_line (here_of file here) count (Some (marker_view marker.entry)))) }
     ensures offset { IfOk result (λ next. next.offset ≡ here.offset + count) }
     ensures bounds { IfOk result InBounds }
     ensures adds { AddsAtMost names.old names.new 1 }
@@ -105,7 +106,8 @@ fn take(
     requires count { vec_len tokens.old ≤ here.offset }
     requires names { length names.old < 2 ^ 31 }
     requires once { HasNoRepeats names.old }
-    ensures steps { IfOk result (λ next. (mode : ReadMode) (word : List ℕ) → Says mode piece.entry bytes.now → slice_get names.old here.source ≡ Some word →
+    ensures steps { IfOk result (λ next. (mode : ReadMode) (word : List ℕ) →
+        Says mode piece.entry bytes.now → slice_get names.old here.source ≡ Some word →
         Steps mode file names.new word here next (piece_view piece.entry bytes.now) tokens.old.items tokens.new.items) }
     ensures offset { IfOk result (λ next. next.offset ≡ here.offset + piece_len piece.entry) }
     ensures bounds { IfOk result InBounds }
@@ -166,7 +168,8 @@ pub fn lex(
     requires size { length bytes.now ≤ 16777216 }
     requires room { length bytes.now + length names.old + 1 < 2 ^ 31 }
     // The tokens are those of a reading of the bytes, and each reading has these tokens.
-    ensures reading { IfOk result (λ tokens. (pieces : List ReadPiece) × IsReading mode word.now pieces bytes.now × Lexes mode file word.now names.new pieces tokens) }
+    ensures reading { IfOk result (λ tokens. (pieces : List ReadPiece) × IsReading mode word.now pieces bytes.now ×
+        Lexes mode file word.now names.new pieces tokens) }
     ensures only { (pieces : List ReadPiece) → IsReading mode word.now pieces bytes.now →
         MatchResult result (λ tokens. Lexes mode file word.now names.new pieces tokens) (λ fault. fault ≡ NoMemory) }
     // A refusal is the fault of the bytes, which have no reading then.

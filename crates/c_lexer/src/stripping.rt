@@ -20,7 +20,8 @@ fn group_at(
     closers: &mut Vec<usize>,
 ) -> Result<Option<usize>, AllocError>
     requires { behind < 4294967296 }
-    ensures { IfOk result (λ group. (t : TokenValue) (rest : List TokenValue) → t.kind ≡ kind → length rest ≡ behind → Marks rest (reverse closers.old.items) →
+    ensures { IfOk result (λ group. (t : TokenValue) (rest : List TokenValue) →
+        t.kind ≡ kind → length rest ≡ behind → Marks rest (reverse closers.old.items) →
         Marks (t ∷ rest) (reverse closers.new.items) × (group ≡ group_len (t ∷ rest))) }
 {
     if is_open_paren(kind) {

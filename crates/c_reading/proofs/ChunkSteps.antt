@@ -1,11 +1,11 @@
 -- Chunks, found from the first token to the last.
-use Rattle.std.proofs.Common.{◌≡◌, ℕ, zero, suc, ◌+◌, ◌-◌, ◌≤◌, ◌<◌, Bool, true, false, cond, ◌&&◌, ◌||◌, ◌⊎◌, eqb, List, [], ◌∷◌, ◌++◌, length, take, get_or, inl, inr, refl, ap, sym, ◌∙◌, subst, arith}
+use Rattle.std.proofs.Common.{◌≡◌, ℕ, zero, suc, ◌+◌, ◌≤◌, ◌<◌, Bool, true, false, ◌&&◌, ◌||◌, eqb, List, [], ◌∷◌, ◌++◌, length, take, get_or, inl, inr, refl, ap, sym, ◌∙◌, subst, arith}
 use Rattle.std.proofs.lemmas.List.{take_more}
 use Rattle.std.proofs.lemmas.Bool.{cases_lt}
 use Rattle.c_tree.specs.declared.token.Token.{Token}
 use Rattle.c_tree.specs.declared.token.TokenKind.{TokenKind}
 use Rattle.c_reading.specs.Strip.{is_close_paren}
-use Rattle.c_reading.specs.Chunks.{is_semicolon, is_open_brace, is_close_brace, depth_behind, depth_of, depth_at, kind_at, behind_paren, begins_body, LeavesZero, ClosesBody, EndsChunk, IsChunk, Follow, AreChunks}
+use Rattle.c_reading.specs.Chunks.{is_semicolon, is_open_brace, is_close_brace, depth_behind, depth_of, depth_at, kind_at, behind_paren, begins_body, LeavesZero, EndsChunk, IsChunk, Follow}
 use Rattle.c_reading.specs.Nests.{Nests, ends_here, body_behind}
 use Rattle.c_reading.proofs.Tests.{cases, both, either, same, same_true}
 

@@ -1,7 +1,6 @@
 -- What a spelling is, by its class.
-use Rattle.std.proofs.Common.{◌≡◌, ℕ, ◌+◌, ◌≤◌, Bool, true, false, cond, ◌&&◌, ◌||◌, ◌⊎◌, eqb, List, [], ◌∷◌, ◌++◌, length, take, Option, None, Some, is_some, option_map, inl, inr, refl, ap, sym, ◌∙◌, subst, arith}
+use Rattle.std.proofs.Common.{◌≡◌, ℕ, ◌≤◌, true, false, List, [], ◌∷◌, ◌++◌, length, take, Some, is_some, inl, inr, refl, ap, sym, ◌∙◌}
 use Rattle.std.proofs.lemmas.List.{append-nil}
-use Rattle.std.specs.List.{list_all}
 use Rattle.c_tree.specs.declared.punctuator.Punctuator.{Punctuator}
 use Rattle.c_tree.specs.declared.token.TokenKind.TheVariants as kinds
 use Rattle.c_reading.specs.declared.mode.Mode.{Mode}
@@ -11,9 +10,9 @@ use Rattle.c_reading.specs.Punctuators.{punctuator_of}
 use Rattle.c_reading.specs.Constants.{number_kind}
 use Rattle.c_reading.specs.Spellings.{is_word, is_number, is_literal, begins_number, literal_len, literal_kind, kind_of}
 use Rattle.c_reading.specs.Cutting.{word_len, number_len}
-use Rattle.c_reading.proofs.Tests.{cases, both}
+use Rattle.c_reading.proofs.Tests.{cases}
 use Rattle.c_reading.proofs.ByteFacts.{letter_no_number, number_no_letter, quote_no_number, quote_no_word_byte}
-use Rattle.c_reading.proofs.Classes.{word_first, word-taken, number_begins, number-taken, number-some, literal-there, literal-taken, PlainFirst, punctuator_first}
+use Rattle.c_reading.proofs.Classes.{word-taken, number_begins, number-taken, number-some, literal-there, literal-taken, PlainFirst, punctuator_first}
 use Rattle.c_reading.proofs.Longest.{literal_first}
 
 kind_of-word : (mode : Mode) (s : List ℕ) → is_word s ≡ true → kind_of mode s ≡ Some (word_kind s)

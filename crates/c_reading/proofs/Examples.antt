@@ -1,5 +1,5 @@
 -- The definition on examples, each by computation.
-use Rattle.std.proofs.Common.{◌≡◌, eqb, true, false, List, [], ◌∷◌, length, codes, None, Some, refl}
+use Rattle.std.proofs.Common.{◌≡◌, eqb, true, false, [], ◌∷◌, length, codes, None, Some, refl}
 use Rattle.std.specs.List.{list_all}
 use Rattle.c_tree.specs.declared.token.TokenKind.TheVariants as kinds
 use Rattle.c_tree.specs.declared.token.FloatEnd.TheVariants as ends

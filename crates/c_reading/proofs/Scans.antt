@@ -1,8 +1,8 @@
 -- Steps of a reader that goes on byte by byte.
-use Rattle.std.proofs.Common.{◌≡◌, ℕ, suc, zero, ◌+◌, ◌-◌, ◌*◌, ◌≤◌, ◌<◌, Bool, true, false, cond, eqb, leb, ◌&&◌, List, [], ◌∷◌, length, take, drop, get_or, subst, Option, None, Some, option_map, inl, inr, refl, ap, sym, ◌∙◌, arith, rules}
+use Rattle.std.proofs.Common.{◌≡◌, ℕ, ◌+◌, ◌-◌, ◌*◌, ◌≤◌, ◌<◌, true, false, cond, eqb, leb, ◌&&◌, List, [], ◌∷◌, length, take, drop, get_or, subst, Option, None, Some, option_map, inl, inr, refl, ap, sym, ◌∙◌, arith}
 use Rattle.std.proofs.lemmas.Bool.Decides.{nat_tests}
 use Rattle.c_reading.specs.Bytes.{begins}
-use Rattle.c_reading.specs.Constants.{digit_value, value_after, value_up_to}
+use Rattle.c_reading.specs.Constants.{digit_value, value_after}
 use Rattle.c_reading.specs.Spellings.{quoted}
 use Rattle.c_reading.specs.Cutting.{closing}
 use Rattle.c_reading.specs.Scans.{plus}

@@ -1,8 +1,8 @@
 -- Groups in parentheses, found from the last token to the first.
-use Rattle.std.proofs.Common.{◌≡◌, ℕ, zero, suc, ◌+◌, ◌-◌, ◌≤◌, ◌<◌, Bool, true, false, cond, List, [], ◌∷◌, ◌++◌, length, drop, reverse, Option, None, Some, IfSome, slice_get, set, get_or, append_assoc, length-drop, length-set, inl, inr, refl, ap, sym, ◌∙◌, subst, arith}
+use Rattle.std.proofs.Common.{◌≡◌, ℕ, zero, suc, ◌+◌, ◌-◌, ◌≤◌, ◌<◌, true, false, List, [], ◌∷◌, ◌++◌, length, drop, Option, None, Some, IfSome, slice_get, set, get_or, append_assoc, length-drop, length-set, inl, inr, refl, ap, sym, ◌∙◌, subst, arith}
 use Rattle.c_tree.specs.declared.token.Token.{Token}
 use Rattle.c_reading.specs.Scans.{plus}
-use Rattle.c_reading.specs.Strip.{is_open_paren, is_close_paren, group_end, group_len, is_qualifier, asm_len, dropped_with, kept, if_dropped, stripped_behind, stripped}
+use Rattle.c_reading.specs.Strip.{is_open_paren, is_close_paren, group_end, group_len, is_qualifier, asm_len, dropped_with, kept, stripped_behind}
 use Rattle.c_reading.specs.Groups.{Marked, Marks}
 use Rattle.std.proofs.lemmas.List.{drop_all, drop_more, drop-drop, append-nil}
 use Rattle.std.proofs.lemmas.Bool.{cases_lt}

@@ -1,5 +1,5 @@
 -- What is known at a position of the brackets before it.
-use Rattle.std.specs.Prelude.{◌≡◌, ◌<◌, ◌+◌, ◌==◌, ◌&&◌, ◌||◌, ℕ, Bool, List, if◌then◌else◌}
+use Rattle.std.specs.Prelude.{◌≡◌, ◌<◌, ◌==◌, ◌&&◌, ◌||◌, ℕ, Bool, List, if◌then◌else◌}
 use Rattle.c_tree.specs.declared.token.Token.{Token}
 use Rattle.c_tree.specs.declared.token.TokenKind.{TokenKind}
 use Rattle.c_reading.specs.Chunks.{is_semicolon, is_close_brace, is_open_brace, depth_at, behind_paren, begins_body, LeavesZero}

@@ -1,5 +1,5 @@
-use Rattle.std.proofs.Common.{◌≡◌, ◌≤◌, ◌<◌, ◌+◌, ◌-◌, ℕ, List, [], Some, None, take, drop, inr, refl, sym, ap, ◌∙◌, subst, length, slice_get, vec_len, arith}
-use Rattle.c_lexer.specs.Progress.{Reached, here_of, spot_of}
+use Rattle.std.proofs.Common.{◌≡◌, ◌<◌, ◌+◌, ◌-◌, take, drop, inr, sym, ap, ◌∙◌, subst, length, arith}
+use Rattle.c_lexer.specs.Progress.{Reached, spot_of}
 use Rattle.c_lexer.proofs.Reaching.{reached_first, reached_next, reached_end, reached_fault, tokens_rise, refused, unread, same_tokens, some_left, made_list, exactly}
 use Rattle.std.proofs.lemmas.Grind.{common_steps}
 use Rattle.std.proofs.lemmas.List.{take_rest, nil_from_length}

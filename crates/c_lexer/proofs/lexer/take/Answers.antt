@@ -1,8 +1,5 @@
-use Rattle.std.proofs.Common.{◌≡◌, ◌+◌, ◌≤◌, ℕ, List, Some, Result, Ok, Err, IfOk, true, false, refl, sym, ap, ◌∙◌, subst, length, slice_get, arith}
-use Rattle.c_reading.specs.declared.mode.Mode.{Mode as ReadMode}
-use Rattle.c_lexer.specs.declared.here.Here.{Here}
-use Rattle.c_lexer.specs.Pieces.{piece_view, piece_len, Says}
-use Rattle.c_lexer.specs.Progress.{Steps}
+use Rattle.std.proofs.Common.{◌≡◌, ◌+◌, ◌≤◌, true, false, ap, ◌∙◌, length}
+use Rattle.c_lexer.specs.Pieces.{piece_len}
 use Rattle.c_lexer.proofs.Taking.{behind_space, behind_comment, behind_line_comment, behind_open_marker, behind_marker, behind_spelling, if_ok}
 use Rattle.c_lexer.specs.declared.pieces.Piece.TheVariants.{MarkerLine}
 use Rattle.mx_base.proofs.NameLaws.{kept_number}

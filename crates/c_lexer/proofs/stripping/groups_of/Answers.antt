@@ -1,4 +1,4 @@
-use Rattle.std.proofs.Common.{◌≡◌, ◌+◌, ◌≤◌, ◌<◌, ℕ, List, [], length, reverse, sym, ap, ◌∙◌, arith}
+use Rattle.std.proofs.Common.{◌≡◌, length, reverse, sym, ap, ◌∙◌}
 use Rattle.c_reading.proofs.TokenGroups.{groups_start, groups_step}
 use Rattle.c_lexer.proofs.stripping.groups_of.Goals as goal
 

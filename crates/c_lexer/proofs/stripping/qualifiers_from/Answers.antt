@@ -1,4 +1,4 @@
-use Rattle.std.proofs.Common.{◌≡◌, ◌+◌, ◌≤◌, ◌<◌, ℕ, length, true, false, sym, ap, ◌∙◌, arith}
+use Rattle.std.proofs.Common.{◌+◌, sym, ap, ◌∙◌, arith}
 use Rattle.c_reading.specs.Scans.{plus}
 use Rattle.c_reading.proofs.TokenGroups.{asm_more, asm_stops, asm_past}
 use Rattle.c_lexer.proofs.stripping.qualifiers_from.Goals as goal

@@ -1,5 +1,4 @@
-use Rattle.std.proofs.Common.{◌≡◌, ◌+◌, ◌≤◌, ◌<◌, ◌++◌, ℕ, List, length, drop, sym, ap, ◌∙◌, subst, arith}
-use Rattle.c_tree.specs.declared.token.Token.{Token}
+use Rattle.std.proofs.Common.{◌≡◌, ◌++◌, sym, ap, ◌∙◌, arith}
 use Rattle.c_reading.specs.Strip.{stripped}
 use Rattle.c_reading.proofs.TokenGroups.{strip_dropped, strip_kept, strip_end}
 use Rattle.c_lexer.specs.Tokens.{Rises}

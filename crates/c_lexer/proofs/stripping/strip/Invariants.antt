@@ -1,4 +1,4 @@
-use Rattle.std.proofs.Common.{◌≡◌, ◌+◌, ◌-◌, ◌≤◌, ◌++◌, length, drop}
+use Rattle.std.proofs.Common.{◌≡◌, ◌-◌, ◌≤◌, ◌++◌, length, drop}
 use Rattle.c_reading.specs.Strip.{stripped_behind}
 use Rattle.c_lexer.proofs.stripping.strip.Given as goal
 

@@ -1,4 +1,4 @@
-use Rattle.std.proofs.Common.{◌≡◌, ◌≤◌, ◌<◌, ◌+◌, ◌-◌, ◌/◌, ℕ, length, sym, arith}
+use Rattle.std.proofs.Common.{◌≤◌, ◌<◌, ◌+◌, ◌-◌, ◌/◌, length, arith}
 use Rattle.c_lexer.specs.Tokens.{number_at}
 use Rattle.c_lexer.proofs.Positions.{at_number, smaller_up_to, larger_from}
 use Rattle.c_lexer.proofs.tokens.index_of.Goals as goal

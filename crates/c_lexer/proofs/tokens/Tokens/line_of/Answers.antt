@@ -1,4 +1,4 @@
-use Rattle.std.proofs.Common.{◌≡◌, ◌≤◌, ◌<◌, ◌+◌, ℕ, length, sym, ap, ◌∙◌, arith}
+use Rattle.std.proofs.Common.{◌≡◌, sym, ap}
 use Rattle.c_lexer.specs.Tokens.{position_of}
 use Rattle.c_lexer.proofs.Positions.{position_found, position_between, position_past}
 use Rattle.c_lexer.proofs.tokens.Tokens.line_of.Goals as goal
