@@ -20,4 +20,4 @@ returns-in-Err-NotSmall-clause-stopped c = λ w. c.in-Err-NotSmall.ensures.not_s
 pub returns-in-Err-NotSmall-read_source-clause-stopped : goal.returns-in-Err-NotSmall-read_source-clause-stopped
 returns-in-Err-NotSmall-read_source-clause-stopped c = λ w.
     c.in-Err-NotSmall-read_source.ensures.not_small (ap Err c.in-Err-NotSmall-read_source.field-0-is) c.args.word.now c.args.bytes.now
-        (subst (IsTokenized c.read_text.new.names 0 c.args.word.now c.args.bytes.now) (sym c.deref.ensures.value) c.in-Ok.ensures.ok) w.0 w.1
+    (subst (IsTokenized c.read_text.new.names 0 c.args.word.now c.args.bytes.now) (sym c.deref.ensures.value) c.in-Ok.ensures.ok) w.0 w.1
