@@ -5,8 +5,6 @@ use Rattle.std.specs.Option.{option_map}
 use Rattle.c_tree.specs.declared.tree.Tree.{Tree}
 use Rattle.c_tree.specs.declared.tree.Trees.{Trees}
 use Rattle.c_tree.specs.declared.expression.Primary as primary
-use Rattle.c_tree.specs.declared.expression.Postfix as postfix
-use Rattle.c_tree.specs.declared.expression.Unary as unary
 use Rattle.c_tree.specs.declared.expression.Operation as operation
 use Rattle.c_tree.specs.declared.declaration.Initializer as initializer
 use Rattle.c_tree.specs.declared.declaration.Specifier as specifier
@@ -17,21 +15,17 @@ use Rattle.c_tree.specs.declared.statement.Statement as statement
 use Rattle.c_tree.specs.declared.statement.Iteration as iteration
 use Rattle.c_tree.specs.declared.statement.Jump as jump
 use Rattle.c_tree.specs.Symbol.{symbol_of, symbols_of}
-use Rattle.c_tree.specs.Node.{Node, node, Shape, PrimaryShape, PostfixShape, UnaryShape, OperationShape, InitializerShape, SpecifierShape, DeclaratorShape, PartShape, OuterShape, StatementShape, IterationShape, JumpShape, MaybeNode, Nodes}
+use Rattle.c_tree.specs.Node.{Node, node, Shape, PrimaryShape, OperationShape, InitializerShape, SpecifierShape, DeclaratorShape, PartShape, OuterShape, StatementShape, IterationShape, JumpShape, MaybeNode, Nodes}
 use Rattle.c_tree.specs.Node as nodes
-use Rattle.c_tree.specs.Syntax.{Syntax, Paren, Init, Primary, Postfix, Unary, Operation, Initializer, Specifier, Declarator, Part, Outer, Statement, Iteration, Jump, PrimarySyntax, PostfixSyntax, UnarySyntax, OperationSyntax, InitializerSyntax, SpecifierSyntax, DeclaratorSyntax, PartSyntax, OuterSyntax, StatementSyntax, IterationSyntax, JumpSyntax, Ident, IntConst, FloatConst, CharConst, StrConst, VaArg, Offsetof, Hole, Index, Call, Member, Arrow, PostInc, PostDec, CompoundLit, PreInc, PreDec, AddressOf, Deref, Plus, Minus, BitNot, Not, SizeofExpr, SizeofType, Cast, Binary, LogAnd, LogOr, Cond, Assign, AssignOp, Comma, BracedInit, Braces, Designated, TypeName, Specs, StructTag, StructBody, EnumTag, EnumBody, StructDeclaration, BitField, Param, Named, Nested, Unnamed, SpecWord, ArrayBound, VoidParams, Params, Enumerator, MemberDesignator, IndexDesignator, Declaration, Function, Empty, Block, ExprStmt, If, Switch, Case, Default, Label, While, Do, For, ForDeclaration, Goto, Continue, Break, Return, MaybeSyntax, absent, present, Syntaxes, no_more, more}
-use Rattle.c_tree.specs.Views.{node_of, nodes_of, nodes_in, primary_shape, postfix_shape, unary_shape, operation_shape, initializer_shape, specifier_shape, declarator_shape, part_shape, outer_shape, statement_shape, iteration_shape, jump_shape}
+use Rattle.c_tree.specs.Syntax.{Syntax, Primary, Operation, Initializer, Specifier, Declarator, Part, Outer, Statement, Iteration, Jump, PrimarySyntax, OperationSyntax, InitializerSyntax, SpecifierSyntax, DeclaratorSyntax, PartSyntax, OuterSyntax, StatementSyntax, IterationSyntax, JumpSyntax, Ident, Constant, StrConst, Paren, VaArg, Offsetof, Hole, Index, Call, Member, Arrow, CompoundLit, Unary, SizeofType, Cast, Binary, Cond, Assign, Init, Braces, Designated, TypeName, Specs, StructTag, StructBody, EnumTag, EnumBody, StructDeclaration, BitField, Param, Named, Nested, Unnamed, SpecWord, ArrayBound, VoidParams, Params, Enumerator, MemberDesignator, IndexDesignator, Declaration, Function, Empty, Block, ExprStmt, If, Switch, Case, Default, Label, While, Do, For, ForDeclaration, Goto, Continue, Break, Return, MaybeSyntax, absent, present, Syntaxes, no_more, more}
+use Rattle.c_tree.specs.Views.{node_of, nodes_of, nodes_in, primary_shape, operation_shape, initializer_shape, specifier_shape, declarator_shape, part_shape, outer_shape, statement_shape, iteration_shape, jump_shape}
 
 abbrev mutual
   pub syntax_of : Node → Syntax
   syntax_of (node i p s) = shape_syntax s
 
   pub shape_syntax : Shape → Syntax
-  shape_syntax (nodes.Paren inner) = Paren (syntax_of inner)
-  shape_syntax (nodes.Init name declarator value) = Init (syntax_of name) (syntax_of declarator) (syntax_of value)
   shape_syntax (nodes.Primary k) = Primary (primary_syntax k)
-  shape_syntax (nodes.Postfix k) = Postfix (postfix_syntax k)
-  shape_syntax (nodes.Unary k) = Unary (unary_syntax k)
   shape_syntax (nodes.Operation k) = Operation (operation_syntax k)
   shape_syntax (nodes.Initializer k) = Initializer (initializer_syntax k)
   shape_syntax (nodes.Specifier k) = Specifier (specifier_syntax k)
@@ -44,47 +38,28 @@ abbrev mutual
 
   pub primary_syntax : PrimaryShape → PrimarySyntax
   primary_syntax (nodes.Ident name) = Ident (symbol_of name)
-  primary_syntax (nodes.IntConst constant) = IntConst (symbol_of constant)
-  primary_syntax (nodes.FloatConst constant) = FloatConst (symbol_of constant)
-  primary_syntax (nodes.CharConst constant) = CharConst (symbol_of constant)
+  primary_syntax (nodes.Constant token) = Constant (symbol_of token)
   primary_syntax (nodes.StrConst literals) = StrConst (symbols_of literals)
+  primary_syntax (nodes.Paren inner) = Paren (syntax_of inner)
   primary_syntax (nodes.VaArg list of) = VaArg (syntax_of list) (syntax_of of)
   primary_syntax (nodes.Offsetof of member path) = Offsetof (syntax_of of) (symbol_of member) (syntaxes_of path)
   primary_syntax (nodes.Hole number) = Hole number
 
-  pub postfix_syntax : PostfixShape → PostfixSyntax
-  postfix_syntax (nodes.Index array index) = Index (syntax_of array) (syntax_of index)
-  postfix_syntax (nodes.Call callee _ arguments) = Call (syntax_of callee) (syntaxes_of arguments)
-  postfix_syntax (nodes.Member operand member) = Member (syntax_of operand) (symbol_of member)
-  postfix_syntax (nodes.Arrow operand member) = Arrow (syntax_of operand) (symbol_of member)
-  postfix_syntax (nodes.PostInc operand) = PostInc (syntax_of operand)
-  postfix_syntax (nodes.PostDec operand) = PostDec (syntax_of operand)
-  postfix_syntax (nodes.CompoundLit of braces) = CompoundLit (syntax_of of) (syntax_of braces)
-
-  pub unary_syntax : UnaryShape → UnarySyntax
-  unary_syntax (nodes.PreInc operand) = PreInc (syntax_of operand)
-  unary_syntax (nodes.PreDec operand) = PreDec (syntax_of operand)
-  unary_syntax (nodes.AddressOf operand) = AddressOf (syntax_of operand)
-  unary_syntax (nodes.Deref operand) = Deref (syntax_of operand)
-  unary_syntax (nodes.Plus operand) = Plus (syntax_of operand)
-  unary_syntax (nodes.Minus operand) = Minus (syntax_of operand)
-  unary_syntax (nodes.BitNot operand) = BitNot (syntax_of operand)
-  unary_syntax (nodes.Not operand) = Not (syntax_of operand)
-  unary_syntax (nodes.SizeofExpr operand) = SizeofExpr (syntax_of operand)
-  unary_syntax (nodes.SizeofType of) = SizeofType (syntax_of of)
-  unary_syntax (nodes.Cast to operand) = Cast (syntax_of to) (syntax_of operand)
-
   pub operation_syntax : OperationShape → OperationSyntax
+  operation_syntax (nodes.Index array index) = Index (syntax_of array) (syntax_of index)
+  operation_syntax (nodes.Call callee _ arguments) = Call (syntax_of callee) (syntaxes_of arguments)
+  operation_syntax (nodes.Member operand member) = Member (syntax_of operand) (symbol_of member)
+  operation_syntax (nodes.Arrow operand member) = Arrow (syntax_of operand) (symbol_of member)
+  operation_syntax (nodes.CompoundLit of braces) = CompoundLit (syntax_of of) (syntax_of braces)
+  operation_syntax (nodes.Unary op operand) = Unary op (syntax_of operand)
+  operation_syntax (nodes.SizeofType of) = SizeofType (syntax_of of)
+  operation_syntax (nodes.Cast to operand) = Cast (syntax_of to) (syntax_of operand)
   operation_syntax (nodes.Binary op left right) = Binary op (syntax_of left) (syntax_of right)
-  operation_syntax (nodes.LogAnd left right) = LogAnd (syntax_of left) (syntax_of right)
-  operation_syntax (nodes.LogOr left right) = LogOr (syntax_of left) (syntax_of right)
   operation_syntax (nodes.Cond condition then otherwise) = Cond (syntax_of condition) (syntax_of then) (syntax_of otherwise)
-  operation_syntax (nodes.Assign left right) = Assign (syntax_of left) (syntax_of right)
-  operation_syntax (nodes.AssignOp op left right) = AssignOp op (syntax_of left) (syntax_of right)
-  operation_syntax (nodes.Comma left right) = Comma (syntax_of left) (syntax_of right)
+  operation_syntax (nodes.Assign op left right) = Assign op (syntax_of left) (syntax_of right)
 
   pub initializer_syntax : InitializerShape → InitializerSyntax
-  initializer_syntax (nodes.BracedInit name declarator braces) = BracedInit (syntax_of name) (syntax_of declarator) (syntax_of braces)
+  initializer_syntax (nodes.Init name declarator initial) = Init (syntax_of name) (syntax_of declarator) (syntax_of initial)
   initializer_syntax (nodes.Braces elements comma) = Braces (syntaxes_of elements) comma
   initializer_syntax (nodes.Designated designators initial) = Designated (syntaxes_of designators) (syntax_of initial)
 
@@ -152,12 +127,6 @@ view t = syntax_of (node_of t)
 
 abbrev pub primary_view : primary.Primary → PrimarySyntax
 primary_view k = primary_syntax (primary_shape k)
-
-abbrev pub postfix_view : postfix.Postfix → PostfixSyntax
-postfix_view k = postfix_syntax (postfix_shape k)
-
-abbrev pub unary_view : unary.Unary → UnarySyntax
-unary_view k = unary_syntax (unary_shape k)
 
 abbrev pub operation_view : operation.Operation → OperationSyntax
 operation_view k = operation_syntax (operation_shape k)

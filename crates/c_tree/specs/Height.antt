@@ -1,15 +1,11 @@
 -- The height of a tree: 1 for a leaf, for a node one more than its highest child. The nodes of a list are children of
 -- one node, and a part (of a declarator, of specifiers) is as high as its own highest child.
 use Rattle.std.specs.Prelude.{ℕ, ◌+◌, max}
-use Rattle.c_tree.specs.Syntax.{Syntax, Paren, Init, Primary, Postfix, Unary, Operation, Initializer, Specifier, Declarator, Part, Outer, Statement, Iteration, Jump, PrimarySyntax, PostfixSyntax, UnarySyntax, OperationSyntax, InitializerSyntax, SpecifierSyntax, DeclaratorSyntax, PartSyntax, OuterSyntax, StatementSyntax, IterationSyntax, JumpSyntax, Ident, IntConst, FloatConst, CharConst, StrConst, VaArg, Offsetof, Hole, Index, Call, Member, Arrow, PostInc, PostDec, CompoundLit, PreInc, PreDec, AddressOf, Deref, Plus, Minus, BitNot, Not, SizeofExpr, SizeofType, Cast, Binary, LogAnd, LogOr, Cond, Assign, AssignOp, Comma, BracedInit, Braces, Designated, TypeName, Specs, StructTag, StructBody, EnumTag, EnumBody, StructDeclaration, BitField, Param, Named, Nested, Unnamed, SpecWord, ArrayBound, VoidParams, Params, Enumerator, MemberDesignator, IndexDesignator, Declaration, Function, Empty, Block, ExprStmt, If, Switch, Case, Default, Label, While, Do, For, ForDeclaration, Goto, Continue, Break, Return, MaybeSyntax, absent, present, Syntaxes, no_more, more}
+use Rattle.c_tree.specs.Syntax.{Syntax, Primary, Operation, Initializer, Specifier, Declarator, Part, Outer, Statement, Iteration, Jump, PrimarySyntax, OperationSyntax, InitializerSyntax, SpecifierSyntax, DeclaratorSyntax, PartSyntax, OuterSyntax, StatementSyntax, IterationSyntax, JumpSyntax, Ident, Constant, StrConst, Paren, VaArg, Offsetof, Hole, Index, Call, Member, Arrow, CompoundLit, Unary, SizeofType, Cast, Binary, Cond, Assign, Init, Braces, Designated, TypeName, Specs, StructTag, StructBody, EnumTag, EnumBody, StructDeclaration, BitField, Param, Named, Nested, Unnamed, SpecWord, ArrayBound, VoidParams, Params, Enumerator, MemberDesignator, IndexDesignator, Declaration, Function, Empty, Block, ExprStmt, If, Switch, Case, Default, Label, While, Do, For, ForDeclaration, Goto, Continue, Break, Return, MaybeSyntax, absent, present, Syntaxes, no_more, more}
 
 abbrev mutual
   pub height_of : Syntax → ℕ
-  height_of (Paren inner) = height_of inner + 1
-  height_of (Init name declarator value) = max (max (height_of name) (height_of declarator)) (height_of value) + 1
   height_of (Primary k) = primary_height k
-  height_of (Postfix k) = postfix_height k
-  height_of (Unary k) = unary_height k
   height_of (Operation k) = operation_height k
   height_of (Initializer k) = initializer_height k
   height_of (Specifier k) = specifier_height k
@@ -22,47 +18,28 @@ abbrev mutual
 
   pub primary_height : PrimarySyntax → ℕ
   primary_height (Ident _) = 1
-  primary_height (IntConst _) = 1
-  primary_height (FloatConst _) = 1
-  primary_height (CharConst _) = 1
+  primary_height (Constant _) = 1
   primary_height (StrConst _) = 1
+  primary_height (Paren inner) = height_of inner + 1
   primary_height (VaArg list of) = max (height_of list) (height_of of) + 1
   primary_height (Offsetof of _ path) = max (height_of of) (height_in path) + 1
   primary_height (Hole _) = 1
 
-  pub postfix_height : PostfixSyntax → ℕ
-  postfix_height (Index array index) = max (height_of array) (height_of index) + 1
-  postfix_height (Call callee arguments) = max (height_of callee) (height_in arguments) + 1
-  postfix_height (Member operand _) = height_of operand + 1
-  postfix_height (Arrow operand _) = height_of operand + 1
-  postfix_height (PostInc operand) = height_of operand + 1
-  postfix_height (PostDec operand) = height_of operand + 1
-  postfix_height (CompoundLit of braces) = max (height_of of) (height_of braces) + 1
-
-  pub unary_height : UnarySyntax → ℕ
-  unary_height (PreInc operand) = height_of operand + 1
-  unary_height (PreDec operand) = height_of operand + 1
-  unary_height (AddressOf operand) = height_of operand + 1
-  unary_height (Deref operand) = height_of operand + 1
-  unary_height (Plus operand) = height_of operand + 1
-  unary_height (Minus operand) = height_of operand + 1
-  unary_height (BitNot operand) = height_of operand + 1
-  unary_height (Not operand) = height_of operand + 1
-  unary_height (SizeofExpr operand) = height_of operand + 1
-  unary_height (SizeofType of) = height_of of + 1
-  unary_height (Cast to operand) = max (height_of to) (height_of operand) + 1
-
   pub operation_height : OperationSyntax → ℕ
+  operation_height (Index array index) = max (height_of array) (height_of index) + 1
+  operation_height (Call callee arguments) = max (height_of callee) (height_in arguments) + 1
+  operation_height (Member operand _) = height_of operand + 1
+  operation_height (Arrow operand _) = height_of operand + 1
+  operation_height (CompoundLit of braces) = max (height_of of) (height_of braces) + 1
+  operation_height (Unary _ operand) = height_of operand + 1
+  operation_height (SizeofType of) = height_of of + 1
+  operation_height (Cast to operand) = max (height_of to) (height_of operand) + 1
   operation_height (Binary _ left right) = max (height_of left) (height_of right) + 1
-  operation_height (LogAnd left right) = max (height_of left) (height_of right) + 1
-  operation_height (LogOr left right) = max (height_of left) (height_of right) + 1
   operation_height (Cond condition then otherwise) = max (max (height_of condition) (height_of then)) (height_of otherwise) + 1
-  operation_height (Assign left right) = max (height_of left) (height_of right) + 1
-  operation_height (AssignOp _ left right) = max (height_of left) (height_of right) + 1
-  operation_height (Comma left right) = max (height_of left) (height_of right) + 1
+  operation_height (Assign _ left right) = max (height_of left) (height_of right) + 1
 
   pub initializer_height : InitializerSyntax → ℕ
-  initializer_height (BracedInit name declarator braces) = max (max (height_of name) (height_of declarator)) (height_of braces) + 1
+  initializer_height (Init name declarator initial) = max (max (height_of name) (height_of declarator)) (height_of initial) + 1
   initializer_height (Braces elements _) = height_in elements + 1
   initializer_height (Designated designators initial) = max (height_in designators) (height_of initial) + 1
 

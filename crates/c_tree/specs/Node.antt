@@ -1,8 +1,9 @@
 -- Trees as values that keep the ids and the places of their nodes, and whole tokens.
 use Rattle.std.specs.Prelude.{ℕ, Bool, List, Option}
+use Rattle.c_tree.specs.declared.operator.AssignOp.{AssignOp}
 use Rattle.c_tree.specs.declared.operator.BinaryOp.{BinaryOp}
-use Rattle.c_tree.specs.declared.operator.CompoundOp.{CompoundOp}
 use Rattle.c_tree.specs.declared.operator.StructOrUnion.{StructOrUnion}
+use Rattle.c_tree.specs.declared.operator.UnaryOp.{UnaryOp}
 use Rattle.c_tree.specs.declared.place.Place.{Place}
 use Rattle.c_tree.specs.declared.token.Token.{Token}
 
@@ -13,11 +14,7 @@ mutual
 
   -- the kinds, with the names that they have in `Syntax`
   pub data Shape : Type 0 where
-    Paren : Node → Shape
-    Init : Node → Node → Node → Shape
     Primary : PrimaryShape → Shape
-    Postfix : PostfixShape → Shape
-    Unary : UnaryShape → Shape
     Operation : OperationShape → Shape
     Initializer : InitializerShape → Shape
     Specifier : SpecifierShape → Shape
@@ -30,47 +27,28 @@ mutual
 
   pub data PrimaryShape : Type 0 where
     Ident : Token → PrimaryShape
-    IntConst : Token → PrimaryShape
-    FloatConst : Token → PrimaryShape
-    CharConst : Token → PrimaryShape
+    Constant : Token → PrimaryShape
     StrConst : List Token → PrimaryShape
+    Paren : Node → PrimaryShape
     VaArg : Node → Node → PrimaryShape
     Offsetof : Node → Token → Nodes → PrimaryShape
     Hole : ℕ → PrimaryShape
 
-  pub data PostfixShape : Type 0 where
-    Index : Node → Node → PostfixShape
-    Call : Node → Place → Nodes → PostfixShape
-    Member : Node → Token → PostfixShape
-    Arrow : Node → Token → PostfixShape
-    PostInc : Node → PostfixShape
-    PostDec : Node → PostfixShape
-    CompoundLit : Node → Node → PostfixShape
-
-  pub data UnaryShape : Type 0 where
-    PreInc : Node → UnaryShape
-    PreDec : Node → UnaryShape
-    AddressOf : Node → UnaryShape
-    Deref : Node → UnaryShape
-    Plus : Node → UnaryShape
-    Minus : Node → UnaryShape
-    BitNot : Node → UnaryShape
-    Not : Node → UnaryShape
-    SizeofExpr : Node → UnaryShape
-    SizeofType : Node → UnaryShape
-    Cast : Node → Node → UnaryShape
-
   pub data OperationShape : Type 0 where
+    Index : Node → Node → OperationShape
+    Call : Node → Place → Nodes → OperationShape
+    Member : Node → Token → OperationShape
+    Arrow : Node → Token → OperationShape
+    CompoundLit : Node → Node → OperationShape
+    Unary : UnaryOp → Node → OperationShape
+    SizeofType : Node → OperationShape
+    Cast : Node → Node → OperationShape
     Binary : BinaryOp → Node → Node → OperationShape
-    LogAnd : Node → Node → OperationShape
-    LogOr : Node → Node → OperationShape
     Cond : Node → Node → Node → OperationShape
-    Assign : Node → Node → OperationShape
-    AssignOp : CompoundOp → Node → Node → OperationShape
-    Comma : Node → Node → OperationShape
+    Assign : AssignOp → Node → Node → OperationShape
 
   pub data InitializerShape : Type 0 where
-    BracedInit : Node → Node → Node → InitializerShape
+    Init : Node → Node → Node → InitializerShape
     Braces : Nodes → Bool → InitializerShape
     Designated : Nodes → Node → InitializerShape
 

@@ -1,18 +1,15 @@
 -- Syntax trees as values: what a tree says, without ids, places and memory. Equal trees are equal values.
 use Rattle.std.specs.Prelude.{ℕ, Bool, List, Option}
+use Rattle.c_tree.specs.declared.operator.AssignOp.{AssignOp}
 use Rattle.c_tree.specs.declared.operator.BinaryOp.{BinaryOp}
-use Rattle.c_tree.specs.declared.operator.CompoundOp.{CompoundOp}
 use Rattle.c_tree.specs.declared.operator.StructOrUnion.{StructOrUnion}
+use Rattle.c_tree.specs.declared.operator.UnaryOp.{UnaryOp}
 use Rattle.c_tree.specs.Symbol.{Symbol}
 
 -- The groups are the clauses of ISO 9899:1990; a kind has its parts in the order of its line of the grammar.
 mutual
   pub data Syntax : Type 0 where
-    Paren : Syntax → Syntax
-    Init : Syntax → Syntax → Syntax → Syntax
     Primary : PrimarySyntax → Syntax
-    Postfix : PostfixSyntax → Syntax
-    Unary : UnarySyntax → Syntax
     Operation : OperationSyntax → Syntax
     Initializer : InitializerSyntax → Syntax
     Specifier : SpecifierSyntax → Syntax
@@ -26,51 +23,30 @@ mutual
   -- primary expressions (6.3.1)
   pub data PrimarySyntax : Type 0 where
     Ident : Symbol → PrimarySyntax
-    IntConst : Symbol → PrimarySyntax
-    FloatConst : Symbol → PrimarySyntax
-    CharConst : Symbol → PrimarySyntax
+    Constant : Symbol → PrimarySyntax
     StrConst : List Symbol → PrimarySyntax
+    Paren : Syntax → PrimarySyntax
     VaArg : Syntax → Syntax → PrimarySyntax
     Offsetof : Syntax → Symbol → Syntaxes → PrimarySyntax
     Hole : ℕ → PrimarySyntax
 
-  -- postfix expressions (6.3.2)
-  pub data PostfixSyntax : Type 0 where
-    Index : Syntax → Syntax → PostfixSyntax
-    Call : Syntax → Syntaxes → PostfixSyntax
-    Member : Syntax → Symbol → PostfixSyntax
-    Arrow : Syntax → Symbol → PostfixSyntax
-    PostInc : Syntax → PostfixSyntax
-    PostDec : Syntax → PostfixSyntax
-    CompoundLit : Syntax → Syntax → PostfixSyntax
-
-  -- unary operators (6.3.3) and casts (6.3.4)
-  pub data UnarySyntax : Type 0 where
-    PreInc : Syntax → UnarySyntax
-    PreDec : Syntax → UnarySyntax
-    AddressOf : Syntax → UnarySyntax
-    Deref : Syntax → UnarySyntax
-    Plus : Syntax → UnarySyntax
-    Minus : Syntax → UnarySyntax
-    BitNot : Syntax → UnarySyntax
-    Not : Syntax → UnarySyntax
-    SizeofExpr : Syntax → UnarySyntax
-    SizeofType : Syntax → UnarySyntax
-    Cast : Syntax → Syntax → UnarySyntax
-
-  -- operators between operands (6.3.5 to 6.3.17)
+  -- operators on operands (6.3.2 to 6.3.17)
   pub data OperationSyntax : Type 0 where
+    Index : Syntax → Syntax → OperationSyntax
+    Call : Syntax → Syntaxes → OperationSyntax
+    Member : Syntax → Symbol → OperationSyntax
+    Arrow : Syntax → Symbol → OperationSyntax
+    CompoundLit : Syntax → Syntax → OperationSyntax
+    Unary : UnaryOp → Syntax → OperationSyntax
+    SizeofType : Syntax → OperationSyntax
+    Cast : Syntax → Syntax → OperationSyntax
     Binary : BinaryOp → Syntax → Syntax → OperationSyntax
-    LogAnd : Syntax → Syntax → OperationSyntax
-    LogOr : Syntax → Syntax → OperationSyntax
     Cond : Syntax → Syntax → Syntax → OperationSyntax
-    Assign : Syntax → Syntax → OperationSyntax
-    AssignOp : CompoundOp → Syntax → Syntax → OperationSyntax
-    Comma : Syntax → Syntax → OperationSyntax
+    Assign : AssignOp → Syntax → Syntax → OperationSyntax
 
-  -- what is braced in an initialization (6.5.7)
+  -- initializers (6.5.7)
   pub data InitializerSyntax : Type 0 where
-    BracedInit : Syntax → Syntax → Syntax → InitializerSyntax
+    Init : Syntax → Syntax → Syntax → InitializerSyntax
     Braces : Syntaxes → Bool → InitializerSyntax
     Designated : Syntaxes → Syntax → InitializerSyntax
 
@@ -92,7 +68,7 @@ mutual
     Nested : List Symbol → Syntax → Syntaxes → DeclaratorSyntax
     Unnamed : List Symbol → Syntaxes → DeclaratorSyntax
 
-  -- parts of specifiers, declarators and initializers, which are no nodes of their own for the height
+  -- parts of specifiers, declarators and designators, which are no nodes of their own for the height
   pub data PartSyntax : Type 0 where
     SpecWord : Symbol → PartSyntax
     ArrayBound : List Symbol → MaybeSyntax → PartSyntax

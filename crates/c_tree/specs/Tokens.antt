@@ -6,43 +6,63 @@ use Rattle.c_tree.specs.declared.punctuator.Punctuator.{Punctuator}
 use Rattle.c_tree.specs.declared.punctuator.Punctuator.TheVariants as marks
 use Rattle.c_tree.specs.declared.operator.BinaryOp.{BinaryOp}
 use Rattle.c_tree.specs.declared.operator.BinaryOp.TheVariants as binary
-use Rattle.c_tree.specs.declared.operator.CompoundOp.{CompoundOp}
-use Rattle.c_tree.specs.declared.operator.CompoundOp.TheVariants as compound
+use Rattle.c_tree.specs.declared.operator.AssignOp.{AssignOp}
+use Rattle.c_tree.specs.declared.operator.AssignOp.TheVariants as assign
+use Rattle.c_tree.specs.declared.operator.UnaryOp.{UnaryOp}
+use Rattle.c_tree.specs.declared.operator.UnaryOp.TheVariants as unary
 use Rattle.c_tree.specs.declared.operator.StructOrUnion.{StructOrUnion}
 use Rattle.c_tree.specs.declared.operator.StructOrUnion.TheVariants as which_word
 use Rattle.c_tree.specs.Symbol.{Symbol}
 use Rattle.c_tree.specs.Phrase.{Phrase, nothing, one, all, ◌⨾◌, phrase_then, sign, keyword}
-use Rattle.c_tree.specs.Syntax.{Syntax, Paren, Init, Primary, Postfix, Unary, Operation, Initializer, Specifier, Declarator, Part, Outer, Statement, Iteration, Jump, PrimarySyntax, PostfixSyntax, UnarySyntax, OperationSyntax, InitializerSyntax, SpecifierSyntax, DeclaratorSyntax, PartSyntax, OuterSyntax, StatementSyntax, IterationSyntax, JumpSyntax, Ident, IntConst, FloatConst, CharConst, StrConst, VaArg, Offsetof, Hole, Index, Call, Member, Arrow, PostInc, PostDec, CompoundLit, PreInc, PreDec, AddressOf, Deref, Plus, Minus, BitNot, Not, SizeofExpr, SizeofType, Cast, Binary, LogAnd, LogOr, Cond, Assign, AssignOp, Comma, BracedInit, Braces, Designated, TypeName, Specs, StructTag, StructBody, EnumTag, EnumBody, StructDeclaration, BitField, Param, Named, Nested, Unnamed, SpecWord, ArrayBound, VoidParams, Params, Enumerator, MemberDesignator, IndexDesignator, Declaration, Function, Empty, Block, ExprStmt, If, Switch, Case, Default, Label, While, Do, For, ForDeclaration, Goto, Continue, Break, Return, MaybeSyntax, absent, present, Syntaxes, no_more, more}
+use Rattle.c_tree.specs.Syntax.{Syntax, Primary, Operation, Initializer, Specifier, Declarator, Part, Outer, Statement, Iteration, Jump, PrimarySyntax, OperationSyntax, InitializerSyntax, SpecifierSyntax, DeclaratorSyntax, PartSyntax, OuterSyntax, StatementSyntax, IterationSyntax, JumpSyntax, Ident, Constant, StrConst, Paren, VaArg, Offsetof, Hole, Index, Call, Member, Arrow, CompoundLit, Unary, SizeofType, Cast, Binary, Cond, Assign, Init, Braces, Designated, TypeName, Specs, StructTag, StructBody, EnumTag, EnumBody, StructDeclaration, BitField, Param, Named, Nested, Unnamed, SpecWord, ArrayBound, VoidParams, Params, Enumerator, MemberDesignator, IndexDesignator, Declaration, Function, Empty, Block, ExprStmt, If, Switch, Case, Default, Label, While, Do, For, ForDeclaration, Goto, Continue, Break, Return, MaybeSyntax, absent, present, Syntaxes, no_more, more}
 
-abbrev pub sign_of : BinaryOp → Punctuator
-sign_of binary.Multiply = marks.Star
-sign_of binary.Divide = marks.Slash
-sign_of binary.Remainder = marks.Percent
-sign_of binary.Add = marks.Plus
-sign_of binary.Subtract = marks.Minus
-sign_of binary.ShiftLeft = marks.ShiftLeft
-sign_of binary.ShiftRight = marks.ShiftRight
-sign_of binary.Less = marks.Less
-sign_of binary.Greater = marks.Greater
-sign_of binary.LessEqual = marks.LessEqual
-sign_of binary.GreaterEqual = marks.GreaterEqual
-sign_of binary.Equal = marks.Equal
-sign_of binary.NotEqual = marks.NotEqual
-sign_of binary.BitAnd = marks.Ampersand
-sign_of binary.BitXor = marks.Caret
-sign_of binary.BitOr = marks.Bar
+-- an operator and its operand
+abbrev pub unary_phrase : UnaryOp → Phrase → Phrase
+unary_phrase unary.PostInc operand = operand ⨾ sign marks.Increment
+unary_phrase unary.PostDec operand = operand ⨾ sign marks.Decrement
+unary_phrase unary.PreInc operand = sign marks.Increment ⨾ operand
+unary_phrase unary.PreDec operand = sign marks.Decrement ⨾ operand
+unary_phrase unary.AddressOf operand = sign marks.Ampersand ⨾ operand
+unary_phrase unary.Deref operand = sign marks.Star ⨾ operand
+unary_phrase unary.Plus operand = sign marks.Plus ⨾ operand
+unary_phrase unary.Minus operand = sign marks.Minus ⨾ operand
+unary_phrase unary.BitNot operand = sign marks.Tilde ⨾ operand
+unary_phrase unary.Not operand = sign marks.Exclamation ⨾ operand
+unary_phrase unary.Sizeof operand = keyword words.Sizeof ⨾ operand
 
-abbrev pub assign_sign_of : CompoundOp → Punctuator
-assign_sign_of compound.Multiply = marks.StarAssign
-assign_sign_of compound.Divide = marks.SlashAssign
-assign_sign_of compound.Remainder = marks.PercentAssign
-assign_sign_of compound.Add = marks.PlusAssign
-assign_sign_of compound.Subtract = marks.MinusAssign
-assign_sign_of compound.ShiftLeft = marks.ShiftLeftAssign
-assign_sign_of compound.ShiftRight = marks.ShiftRightAssign
-assign_sign_of compound.BitAnd = marks.AmpersandAssign
-assign_sign_of compound.BitXor = marks.CaretAssign
-assign_sign_of compound.BitOr = marks.BarAssign
+abbrev pub binary_sign : BinaryOp → Punctuator
+binary_sign binary.Multiply = marks.Star
+binary_sign binary.Divide = marks.Slash
+binary_sign binary.Remainder = marks.Percent
+binary_sign binary.Add = marks.Plus
+binary_sign binary.Subtract = marks.Minus
+binary_sign binary.ShiftLeft = marks.ShiftLeft
+binary_sign binary.ShiftRight = marks.ShiftRight
+binary_sign binary.Less = marks.Less
+binary_sign binary.Greater = marks.Greater
+binary_sign binary.LessEqual = marks.LessEqual
+binary_sign binary.GreaterEqual = marks.GreaterEqual
+binary_sign binary.Equal = marks.Equal
+binary_sign binary.NotEqual = marks.NotEqual
+binary_sign binary.BitAnd = marks.Ampersand
+binary_sign binary.BitXor = marks.Caret
+binary_sign binary.BitOr = marks.Bar
+binary_sign binary.LogAnd = marks.AndAnd
+binary_sign binary.LogOr = marks.OrOr
+binary_sign binary.Comma = marks.Comma
+
+abbrev pub assign_sign : AssignOp → Punctuator
+assign_sign assign.Plain = marks.Assign
+assign_sign assign.Multiply = marks.StarAssign
+assign_sign assign.Divide = marks.SlashAssign
+assign_sign assign.Remainder = marks.PercentAssign
+assign_sign assign.Add = marks.PlusAssign
+assign_sign assign.Subtract = marks.MinusAssign
+assign_sign assign.ShiftLeft = marks.ShiftLeftAssign
+assign_sign assign.ShiftRight = marks.ShiftRightAssign
+assign_sign assign.BitAnd = marks.AmpersandAssign
+assign_sign assign.BitXor = marks.CaretAssign
+assign_sign assign.BitOr = marks.BarAssign
 
 abbrev pub word_of : StructOrUnion → Keyword
 word_of which_word.Struct = words.Struct
@@ -62,11 +82,7 @@ tag_if None = nothing
 
 abbrev mutual
   pub phrase_of : Syntax → Phrase
-  phrase_of (Paren inner) = sign marks.OpenParen ⨾ phrase_of inner ⨾ sign marks.CloseParen
-  phrase_of (Init _ declarator value) = phrase_of declarator ⨾ sign marks.Assign ⨾ phrase_of value
   phrase_of (Primary k) = primary_phrase k
-  phrase_of (Postfix k) = postfix_phrase k
-  phrase_of (Unary k) = unary_phrase k
   phrase_of (Operation k) = operation_phrase k
   phrase_of (Initializer k) = initializer_phrase k
   phrase_of (Specifier k) = specifier_phrase k
@@ -79,47 +95,28 @@ abbrev mutual
 
   pub primary_phrase : PrimarySyntax → Phrase
   primary_phrase (Ident name) = one name
-  primary_phrase (IntConst constant) = one constant
-  primary_phrase (FloatConst constant) = one constant
-  primary_phrase (CharConst constant) = one constant
+  primary_phrase (Constant token) = one token
   primary_phrase (StrConst literals) = all literals
+  primary_phrase (Paren inner) = sign marks.OpenParen ⨾ phrase_of inner ⨾ sign marks.CloseParen
   primary_phrase (VaArg list of) = keyword words.BuiltinVaArg ⨾ sign marks.OpenParen ⨾ phrase_of list ⨾ sign marks.Comma ⨾ phrase_of of ⨾ sign marks.CloseParen
   primary_phrase (Offsetof of member path) = keyword words.BuiltinOffsetof ⨾ sign marks.OpenParen ⨾ phrase_of of ⨾ sign marks.Comma ⨾ one member ⨾ row_phrase path ⨾ sign marks.CloseParen
   primary_phrase (Hole _) = nothing
 
-  pub postfix_phrase : PostfixSyntax → Phrase
-  postfix_phrase (Index array index) = phrase_of array ⨾ sign marks.OpenBracket ⨾ phrase_of index ⨾ sign marks.CloseBracket
-  postfix_phrase (Call callee arguments) = phrase_of callee ⨾ sign marks.OpenParen ⨾ list_phrase arguments ⨾ sign marks.CloseParen
-  postfix_phrase (Member operand member) = phrase_of operand ⨾ sign marks.Dot ⨾ one member
-  postfix_phrase (Arrow operand member) = phrase_of operand ⨾ sign marks.Arrow ⨾ one member
-  postfix_phrase (PostInc operand) = phrase_of operand ⨾ sign marks.Increment
-  postfix_phrase (PostDec operand) = phrase_of operand ⨾ sign marks.Decrement
-  postfix_phrase (CompoundLit of braces) = sign marks.OpenParen ⨾ phrase_of of ⨾ sign marks.CloseParen ⨾ phrase_of braces
-
-  pub unary_phrase : UnarySyntax → Phrase
-  unary_phrase (PreInc operand) = sign marks.Increment ⨾ phrase_of operand
-  unary_phrase (PreDec operand) = sign marks.Decrement ⨾ phrase_of operand
-  unary_phrase (AddressOf operand) = sign marks.Ampersand ⨾ phrase_of operand
-  unary_phrase (Deref operand) = sign marks.Star ⨾ phrase_of operand
-  unary_phrase (Plus operand) = sign marks.Plus ⨾ phrase_of operand
-  unary_phrase (Minus operand) = sign marks.Minus ⨾ phrase_of operand
-  unary_phrase (BitNot operand) = sign marks.Tilde ⨾ phrase_of operand
-  unary_phrase (Not operand) = sign marks.Exclamation ⨾ phrase_of operand
-  unary_phrase (SizeofExpr operand) = keyword words.Sizeof ⨾ phrase_of operand
-  unary_phrase (SizeofType of) = keyword words.Sizeof ⨾ sign marks.OpenParen ⨾ phrase_of of ⨾ sign marks.CloseParen
-  unary_phrase (Cast to operand) = sign marks.OpenParen ⨾ phrase_of to ⨾ sign marks.CloseParen ⨾ phrase_of operand
-
   pub operation_phrase : OperationSyntax → Phrase
-  operation_phrase (Binary op left right) = phrase_of left ⨾ sign (sign_of op) ⨾ phrase_of right
-  operation_phrase (LogAnd left right) = phrase_of left ⨾ sign marks.AndAnd ⨾ phrase_of right
-  operation_phrase (LogOr left right) = phrase_of left ⨾ sign marks.OrOr ⨾ phrase_of right
+  operation_phrase (Index array index) = phrase_of array ⨾ sign marks.OpenBracket ⨾ phrase_of index ⨾ sign marks.CloseBracket
+  operation_phrase (Call callee arguments) = phrase_of callee ⨾ sign marks.OpenParen ⨾ list_phrase arguments ⨾ sign marks.CloseParen
+  operation_phrase (Member operand member) = phrase_of operand ⨾ sign marks.Dot ⨾ one member
+  operation_phrase (Arrow operand member) = phrase_of operand ⨾ sign marks.Arrow ⨾ one member
+  operation_phrase (CompoundLit of braces) = sign marks.OpenParen ⨾ phrase_of of ⨾ sign marks.CloseParen ⨾ phrase_of braces
+  operation_phrase (Unary op operand) = unary_phrase op (phrase_of operand)
+  operation_phrase (SizeofType of) = keyword words.Sizeof ⨾ sign marks.OpenParen ⨾ phrase_of of ⨾ sign marks.CloseParen
+  operation_phrase (Cast to operand) = sign marks.OpenParen ⨾ phrase_of to ⨾ sign marks.CloseParen ⨾ phrase_of operand
+  operation_phrase (Binary op left right) = phrase_of left ⨾ sign (binary_sign op) ⨾ phrase_of right
   operation_phrase (Cond condition then otherwise) = phrase_of condition ⨾ sign marks.Question ⨾ phrase_of then ⨾ sign marks.Colon ⨾ phrase_of otherwise
-  operation_phrase (Assign left right) = phrase_of left ⨾ sign marks.Assign ⨾ phrase_of right
-  operation_phrase (AssignOp op left right) = phrase_of left ⨾ sign (assign_sign_of op) ⨾ phrase_of right
-  operation_phrase (Comma left right) = phrase_of left ⨾ sign marks.Comma ⨾ phrase_of right
+  operation_phrase (Assign op left right) = phrase_of left ⨾ sign (assign_sign op) ⨾ phrase_of right
 
   pub initializer_phrase : InitializerSyntax → Phrase
-  initializer_phrase (BracedInit _ declarator braces) = phrase_of declarator ⨾ sign marks.Assign ⨾ phrase_of braces
+  initializer_phrase (Init _ declarator initial) = phrase_of declarator ⨾ sign marks.Assign ⨾ phrase_of initial
   initializer_phrase (Braces elements comma) = sign marks.OpenBrace ⨾ list_phrase elements ⨾ comma_if comma ⨾ sign marks.CloseBrace
   initializer_phrase (Designated designators initial) = row_phrase designators ⨾ sign marks.Assign ⨾ phrase_of initial
 

@@ -1,11 +1,11 @@
 -- The node that a tree of the program is.
-use Rattle.std.specs.Prelude.{List, [], ◌∷◌}
+use Rattle.std.specs.Prelude.{List, [], ◌∷◌, Option, None, Some}
+use Rattle.std.specs.Borrow.{Bor}
+use Rattle.std.specs.Option.{option_map}
 use Rattle.c_tree.specs.declared.tree.Tree.{Tree}
 use Rattle.c_tree.specs.declared.tree.Trees.{Trees, Trees', Row_of-Tree, end_of-Tree, more_of-Tree}
 use Rattle.c_tree.specs.declared.tree.Kind as kinds
 use Rattle.c_tree.specs.declared.expression.Primary as primary
-use Rattle.c_tree.specs.declared.expression.Postfix as postfix
-use Rattle.c_tree.specs.declared.expression.Unary as unary
 use Rattle.c_tree.specs.declared.expression.Operation as operation
 use Rattle.c_tree.specs.declared.declaration.Initializer as initializer
 use Rattle.c_tree.specs.declared.declaration.Specifier as specifier
@@ -16,15 +16,16 @@ use Rattle.c_tree.specs.declared.statement.Statement as statement
 use Rattle.c_tree.specs.declared.statement.Iteration as iteration
 use Rattle.c_tree.specs.declared.statement.Jump as jump
 use Rattle.c_tree.specs.declared.declaration.Part.{Held-Part-ArrayBound-1, None', Some'}
-use Rattle.c_tree.specs.Node.{Node, node, Shape, Paren, Init, Primary, Postfix, Unary, Operation, Initializer, Specifier, Declarator, Part, Outer, Statement, Iteration, Jump, PrimaryShape, PostfixShape, UnaryShape, OperationShape, InitializerShape, SpecifierShape, DeclaratorShape, PartShape, OuterShape, StatementShape, IterationShape, JumpShape, Ident, IntConst, FloatConst, CharConst, StrConst, VaArg, Offsetof, Hole, Index, Call, Member, Arrow, PostInc, PostDec, CompoundLit, PreInc, PreDec, AddressOf, Deref, Plus, Minus, BitNot, Not, SizeofExpr, SizeofType, Cast, Binary, LogAnd, LogOr, Cond, Assign, AssignOp, Comma, BracedInit, Braces, Designated, TypeName, Specs, StructTag, StructBody, EnumTag, EnumBody, StructDeclaration, BitField, Param, Named, Nested, Unnamed, SpecWord, ArrayBound, VoidParams, Params, Enumerator, MemberDesignator, IndexDesignator, Declaration, Function, Empty, Block, ExprStmt, If, Switch, Case, Default, Label, While, Do, For, ForDeclaration, Goto, Continue, Break, Return, MaybeNode, absent, present, Nodes, no_more, more}
+use Rattle.c_tree.specs.declared.token.Token.{Token}
+use Rattle.c_tree.specs.Node.{Node, node, Shape, Primary, Operation, Initializer, Specifier, Declarator, Part, Outer, Statement, Iteration, Jump, PrimaryShape, OperationShape, InitializerShape, SpecifierShape, DeclaratorShape, PartShape, OuterShape, StatementShape, IterationShape, JumpShape, Ident, Constant, StrConst, Paren, VaArg, Offsetof, Hole, Index, Call, Member, Arrow, CompoundLit, Unary, SizeofType, Cast, Binary, Cond, Assign, Init, Braces, Designated, TypeName, Specs, StructTag, StructBody, EnumTag, EnumBody, StructDeclaration, BitField, Param, Named, Nested, Unnamed, SpecWord, ArrayBound, VoidParams, Params, Enumerator, MemberDesignator, IndexDesignator, Declaration, Function, Empty, Block, ExprStmt, If, Switch, Case, Default, Label, While, Do, For, ForDeclaration, Goto, Continue, Break, Return, MaybeNode, absent, present, Nodes, no_more, more}
+
+-- a token that may be missing
+abbrev pub maybe_token : Option (Bor Token) → Option Token
+maybe_token o = option_map (λ t. t.now) o
 
 abbrev mutual
   pub shape_of : kinds.Kind → Shape
-  shape_of (kinds.Paren' _ i p inner) = Paren (node i p (shape_of inner))
-  shape_of (kinds.Init' _ i p name _ j q declarator _ k r value) = Init (node i p (shape_of name)) (node j q (shape_of declarator)) (node k r (shape_of value))
   shape_of (kinds.Primary k) = Primary (primary_shape k)
-  shape_of (kinds.Postfix k) = Postfix (postfix_shape k)
-  shape_of (kinds.Unary k) = Unary (unary_shape k)
   shape_of (kinds.Operation k) = Operation (operation_shape k)
   shape_of (kinds.Initializer k) = Initializer (initializer_shape k)
   shape_of (kinds.Specifier k) = Specifier (specifier_shape k)
@@ -36,74 +37,55 @@ abbrev mutual
   shape_of (kinds.Jump k) = Jump (jump_shape k)
 
   pub primary_shape : primary.Primary → PrimaryShape
-  primary_shape (primary.Ident name) = Ident name
-  primary_shape (primary.IntConst constant) = IntConst constant
-  primary_shape (primary.FloatConst constant) = FloatConst constant
-  primary_shape (primary.CharConst constant) = CharConst constant
+  primary_shape (primary.Ident name) = Ident name.now
+  primary_shape (primary.Constant token) = Constant token.now
   primary_shape (primary.StrConst literals) = StrConst literals.now
+  primary_shape (primary.Paren' _ i p inner) = Paren (node i p (shape_of inner))
   primary_shape (primary.VaArg' _ i p list _ j q of) = VaArg (node i p (shape_of list)) (node j q (shape_of of))
-  primary_shape (primary.Offsetof' _ i p of member path) = Offsetof (node i p (shape_of of)) member (nodes_of path)
+  primary_shape (primary.Offsetof' _ i p of member path) = Offsetof (node i p (shape_of of)) member.now (nodes_of path)
   primary_shape (primary.Hole number) = Hole number
 
-  pub postfix_shape : postfix.Postfix → PostfixShape
-  postfix_shape (postfix.Index' _ i p array _ j q index) = Index (node i p (shape_of array)) (node j q (shape_of index))
-  postfix_shape (postfix.Call' _ i p callee place arguments) = Call (node i p (shape_of callee)) place (nodes_of arguments)
-  postfix_shape (postfix.Member' _ i p operand member) = Member (node i p (shape_of operand)) member
-  postfix_shape (postfix.Arrow' _ i p operand member) = Arrow (node i p (shape_of operand)) member
-  postfix_shape (postfix.PostInc' _ i p operand) = PostInc (node i p (shape_of operand))
-  postfix_shape (postfix.PostDec' _ i p operand) = PostDec (node i p (shape_of operand))
-  postfix_shape (postfix.CompoundLit' _ i p of _ j q braces) = CompoundLit (node i p (shape_of of)) (node j q (shape_of braces))
-
-  pub unary_shape : unary.Unary → UnaryShape
-  unary_shape (unary.PreInc' _ i p operand) = PreInc (node i p (shape_of operand))
-  unary_shape (unary.PreDec' _ i p operand) = PreDec (node i p (shape_of operand))
-  unary_shape (unary.AddressOf' _ i p operand) = AddressOf (node i p (shape_of operand))
-  unary_shape (unary.Deref' _ i p operand) = Deref (node i p (shape_of operand))
-  unary_shape (unary.Plus' _ i p operand) = Plus (node i p (shape_of operand))
-  unary_shape (unary.Minus' _ i p operand) = Minus (node i p (shape_of operand))
-  unary_shape (unary.BitNot' _ i p operand) = BitNot (node i p (shape_of operand))
-  unary_shape (unary.Not' _ i p operand) = Not (node i p (shape_of operand))
-  unary_shape (unary.SizeofExpr' _ i p operand) = SizeofExpr (node i p (shape_of operand))
-  unary_shape (unary.SizeofType' _ i p of) = SizeofType (node i p (shape_of of))
-  unary_shape (unary.Cast' _ i p to _ j q operand) = Cast (node i p (shape_of to)) (node j q (shape_of operand))
-
   pub operation_shape : operation.Operation → OperationShape
+  operation_shape (operation.Index' _ i p array _ j q index) = Index (node i p (shape_of array)) (node j q (shape_of index))
+  operation_shape (operation.Call' _ i p callee place arguments) = Call (node i p (shape_of callee)) place (nodes_of arguments)
+  operation_shape (operation.Member' _ i p operand member) = Member (node i p (shape_of operand)) member.now
+  operation_shape (operation.Arrow' _ i p operand member) = Arrow (node i p (shape_of operand)) member.now
+  operation_shape (operation.CompoundLit' _ i p of _ j q braces) = CompoundLit (node i p (shape_of of)) (node j q (shape_of braces))
+  operation_shape (operation.Unary' op _ i p operand) = Unary op (node i p (shape_of operand))
+  operation_shape (operation.SizeofType' _ i p of) = SizeofType (node i p (shape_of of))
+  operation_shape (operation.Cast' _ i p to _ j q operand) = Cast (node i p (shape_of to)) (node j q (shape_of operand))
   operation_shape (operation.Binary' op _ i p left _ j q right) = Binary op (node i p (shape_of left)) (node j q (shape_of right))
-  operation_shape (operation.LogAnd' _ i p left _ j q right) = LogAnd (node i p (shape_of left)) (node j q (shape_of right))
-  operation_shape (operation.LogOr' _ i p left _ j q right) = LogOr (node i p (shape_of left)) (node j q (shape_of right))
   operation_shape (operation.Cond' _ i p condition _ j q then _ k r otherwise) = Cond (node i p (shape_of condition)) (node j q (shape_of then)) (node k r (shape_of otherwise))
-  operation_shape (operation.Assign' _ i p left _ j q right) = Assign (node i p (shape_of left)) (node j q (shape_of right))
-  operation_shape (operation.AssignOp' op _ i p left _ j q right) = AssignOp op (node i p (shape_of left)) (node j q (shape_of right))
-  operation_shape (operation.Comma' _ i p left _ j q right) = Comma (node i p (shape_of left)) (node j q (shape_of right))
+  operation_shape (operation.Assign' op _ i p left _ j q right) = Assign op (node i p (shape_of left)) (node j q (shape_of right))
 
   pub initializer_shape : initializer.Initializer → InitializerShape
-  initializer_shape (initializer.BracedInit' _ i p name _ j q declarator _ k r braces) = BracedInit (node i p (shape_of name)) (node j q (shape_of declarator)) (node k r (shape_of braces))
+  initializer_shape (initializer.Init' _ i p name _ j q declarator _ k r initial) = Init (node i p (shape_of name)) (node j q (shape_of declarator)) (node k r (shape_of initial))
   initializer_shape (initializer.Braces elements comma) = Braces (nodes_of elements) comma
   initializer_shape (initializer.Designated' designators _ i p initial) = Designated (nodes_of designators) (node i p (shape_of initial))
 
   pub specifier_shape : specifier.Specifier → SpecifierShape
   specifier_shape (specifier.TypeName' _ i p specs declarator) = TypeName (node i p (shape_of specs)) (maybe_node declarator)
   specifier_shape (specifier.Specs items) = Specs (nodes_of items)
-  specifier_shape (specifier.StructTag which tag) = StructTag which tag
-  specifier_shape (specifier.StructBody which tag members) = StructBody which tag (nodes_of members)
-  specifier_shape (specifier.EnumTag tag) = EnumTag tag
-  specifier_shape (specifier.EnumBody tag enumerators comma) = EnumBody tag (nodes_of enumerators) comma
+  specifier_shape (specifier.StructTag which tag) = StructTag which tag.now
+  specifier_shape (specifier.StructBody which tag members) = StructBody which (maybe_token tag) (nodes_of members)
+  specifier_shape (specifier.EnumTag tag) = EnumTag tag.now
+  specifier_shape (specifier.EnumBody tag enumerators comma) = EnumBody (maybe_token tag) (nodes_of enumerators) comma
   specifier_shape (specifier.StructDeclaration' _ i p specs declarators) = StructDeclaration (node i p (shape_of specs)) (nodes_of declarators)
   specifier_shape (specifier.BitField' declarator _ i p width) = BitField (maybe_node declarator) (node i p (shape_of width))
   specifier_shape (specifier.Param' _ i p specs declarator) = Param (node i p (shape_of specs)) (maybe_node declarator)
 
   pub declarator_shape : declarator.Declarator → DeclaratorShape
-  declarator_shape (declarator.Named pointers name suffixes) = Named pointers.now name (nodes_of suffixes)
+  declarator_shape (declarator.Named pointers name suffixes) = Named pointers.now name.now (nodes_of suffixes)
   declarator_shape (declarator.Nested' pointers _ i p inner suffixes) = Nested pointers.now (node i p (shape_of inner)) (nodes_of suffixes)
   declarator_shape (declarator.Unnamed pointers suffixes) = Unnamed pointers.now (nodes_of suffixes)
 
   pub part_shape : part.Part → PartShape
-  part_shape (part.SpecWord word) = SpecWord word
+  part_shape (part.SpecWord word) = SpecWord word.now
   part_shape (part.ArrayBound' words bound) = ArrayBound words.now (maybe_node bound)
   part_shape part.VoidParams = VoidParams
   part_shape (part.Params params variadic) = Params (nodes_of params) variadic
-  part_shape (part.Enumerator' name value) = Enumerator name (maybe_node value)
-  part_shape (part.MemberDesignator member) = MemberDesignator member
+  part_shape (part.Enumerator' name value) = Enumerator name.now (maybe_node value)
+  part_shape (part.MemberDesignator member) = MemberDesignator member.now
   part_shape (part.IndexDesignator' _ i p index) = IndexDesignator (node i p (shape_of index))
 
   pub outer_shape : outer.Outer → OuterShape
@@ -118,7 +100,7 @@ abbrev mutual
   statement_shape (statement.Switch' _ i p value _ j q body) = Switch (node i p (shape_of value)) (node j q (shape_of body))
   statement_shape (statement.Case' _ i p value _ j q body) = Case (node i p (shape_of value)) (node j q (shape_of body))
   statement_shape (statement.Default' _ i p body) = Default (node i p (shape_of body))
-  statement_shape (statement.Label' label _ i p body) = Label label (node i p (shape_of body))
+  statement_shape (statement.Label' label _ i p body) = Label label.now (node i p (shape_of body))
 
   pub iteration_shape : iteration.Iteration → IterationShape
   iteration_shape (iteration.While' _ i p condition _ j q body) = While (node i p (shape_of condition)) (node j q (shape_of body))
@@ -127,7 +109,7 @@ abbrev mutual
   iteration_shape (iteration.ForDeclaration' _ i p declaration condition step _ j q body) = ForDeclaration (node i p (shape_of declaration)) (maybe_node condition) (maybe_node step) (node j q (shape_of body))
 
   pub jump_shape : jump.Jump → JumpShape
-  jump_shape (jump.Goto label) = Goto label
+  jump_shape (jump.Goto label) = Goto label.now
   jump_shape jump.Continue = Continue
   jump_shape jump.Break = Break
   jump_shape (jump.Return' value) = Return (maybe_node value)

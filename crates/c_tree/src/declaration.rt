@@ -4,15 +4,15 @@ use crate::operator::StructOrUnion;
 use crate::token::Token;
 use crate::tree::{Tree, Trees};
 
-/// What is braced in an initialization (6.5.7).
+/// Initializers (6.5.7).
 #[cycle(tree)]
 #[derive(Clone, Copy)]
 pub enum Initializer<'a> {
-    /// A declared name with a braced initializer: `declarator = { .. }`. `name` is an identifier of its own, whose token is the declared one.
-    BracedInit {
+    /// A declared name with an initializer: `declarator = initial`. Where the initial is an expression, matching reads it as the assignment `name = initial`. `name` is an identifier of its own, whose token is the declared one.
+    Init {
         name: &'a Tree<'a>,
         declarator: &'a Tree<'a>,
-        braces: &'a Tree<'a>,
+        initial: &'a Tree<'a>,
     },
     /// `{ elements }`; `comma` is a comma behind the last.
     Braces {
@@ -42,21 +42,21 @@ pub enum Specifier<'a> {
     /// `struct tag` or `union tag`, without a body.
     StructTag {
         which: StructOrUnion,
-        tag: Token,
+        tag: &'a Token,
     },
     /// A struct or union with its members.
     StructBody {
         which: StructOrUnion,
-        tag: Option<Token>,
+        tag: Option<&'a Token>,
         members: Trees<'a>,
     },
     /// `enum tag`, without a body.
     EnumTag {
-        tag: Token,
+        tag: &'a Token,
     },
     /// An enumeration with its enumerators; `comma` is a comma behind the last.
     EnumBody {
-        tag: Option<Token>,
+        tag: Option<&'a Token>,
         enumerators: Trees<'a>,
         comma: bool,
     },
@@ -84,7 +84,7 @@ pub enum Declarator<'a> {
     /// A declarator whose name stands outside parentheses.
     Named {
         pointers: &'a [Token],
-        name: Token,
+        name: &'a Token,
         suffixes: Trees<'a>,
     },
     /// A declarator in parentheses.
@@ -106,7 +106,7 @@ pub enum Declarator<'a> {
 pub enum Part<'a> {
     /// A storage word, a qualifier, a word of a type, `inline`, or the name of a type.
     SpecWord {
-        word: Token,
+        word: &'a Token,
     },
     /// `[bound]`, with qualifiers or `static` before the bound.
     ArrayBound {
@@ -122,12 +122,12 @@ pub enum Part<'a> {
     },
     /// `name` or `name = value`
     Enumerator {
-        name: Token,
+        name: &'a Token,
         value: Option<&'a Tree<'a>>,
     },
     /// `.member`
     MemberDesignator {
-        member: Token,
+        member: &'a Token,
     },
     /// `[index]`
     IndexDesignator {
@@ -139,7 +139,7 @@ pub enum Part<'a> {
 #[cycle(tree)]
 #[derive(Clone, Copy)]
 pub enum Outer<'a> {
-    /// A declaration: its declarators, those with an initializer as `Init` or `BracedInit`.
+    /// A declaration: its declarators, those with an initializer as `Init`.
     Declaration {
         specs: &'a Tree<'a>,
         declarators: Trees<'a>,

@@ -1,11 +1,11 @@
 //! The height of a tree.
 
 ghost use Rattle.std.specs.Prelude.{◌≡◌, ◌<◌, ◌^◌};
-ghost use Rattle.c_tree.specs.Forget.{view, maybe_view, list_view, primary_view, postfix_view, unary_view, operation_view, initializer_view, specifier_view, declarator_view, part_view, outer_view, statement_view, iteration_view, jump_view};
-ghost use Rattle.c_tree.specs.Height.{height_of, height_maybe, height_in, primary_height, postfix_height, unary_height, operation_height, initializer_height, specifier_height, declarator_height, part_height, outer_height, statement_height, iteration_height, jump_height};
+ghost use Rattle.c_tree.specs.Forget.{view, maybe_view, list_view, primary_view, operation_view, initializer_view, specifier_view, declarator_view, part_view, outer_view, statement_view, iteration_view, jump_view};
+ghost use Rattle.c_tree.specs.Height.{height_of, height_maybe, height_in, primary_height, operation_height, initializer_height, specifier_height, declarator_height, part_height, outer_height, statement_height, iteration_height, jump_height};
 
 use crate::declaration::{Declarator, Initializer, Outer, Part, Specifier};
-use crate::expression::{Operation, Postfix, Primary, Unary};
+use crate::expression::{Operation, Primary};
 use crate::statement::{Iteration, Jump, Statement};
 use crate::tree::{Kind, Tree, Trees};
 
@@ -16,15 +16,7 @@ pub fn height(tree: &Tree) -> u32
     ensures { result ≡ height_of (view tree.now) }
 {
     match &tree.kind {
-        Kind::Paren { inner } => height(inner) + 1,
-        Kind::Init {
-            name,
-            declarator,
-            value,
-        } => height(name).max(height(declarator)).max(height(value)) + 1,
         Kind::Primary(kind) => height_of_primary(kind),
-        Kind::Postfix(kind) => height_of_postfix(kind),
-        Kind::Unary(kind) => height_of_unary(kind),
         Kind::Operation(kind) => height_of_operation(kind),
         Kind::Initializer(kind) => height_of_initializer(kind),
         Kind::Specifier(kind) => height_of_specifier(kind),
@@ -44,53 +36,12 @@ fn height_of_primary(kind: &Primary) -> u32
 {
     match kind {
         Primary::Ident { .. }
-        | Primary::IntConst { .. }
-        | Primary::FloatConst { .. }
-        | Primary::CharConst { .. }
+        | Primary::Constant { .. }
         | Primary::StrConst { .. }
         | Primary::Hole { .. } => 1,
+        Primary::Paren { inner } => height(inner) + 1,
         Primary::VaArg { list, of } => height(list).max(height(of)) + 1,
         Primary::Offsetof { of, path, .. } => height(of).max(highest(path)) + 1,
-    }
-}
-
-#[cycle(height)]
-fn height_of_postfix(kind: &Postfix) -> u32
-    requires { postfix_height (postfix_view kind.now) < 2 ^ 32 }
-    ensures { result ≡ postfix_height (postfix_view kind.now) }
-{
-    match kind {
-        Postfix::Index { array, index } => height(array).max(height(index)) + 1,
-        Postfix::Call {
-            callee,
-            arguments,
-            ..
-        } => height(callee).max(highest(arguments)) + 1,
-        Postfix::Member { operand, .. }
-        | Postfix::Arrow { operand, .. }
-        | Postfix::PostInc { operand }
-        | Postfix::PostDec { operand } => height(operand) + 1,
-        Postfix::CompoundLit { of, braces } => height(of).max(height(braces)) + 1,
-    }
-}
-
-#[cycle(height)]
-fn height_of_unary(kind: &Unary) -> u32
-    requires { unary_height (unary_view kind.now) < 2 ^ 32 }
-    ensures { result ≡ unary_height (unary_view kind.now) }
-{
-    match kind {
-        Unary::PreInc { operand }
-        | Unary::PreDec { operand }
-        | Unary::AddressOf { operand }
-        | Unary::Deref { operand }
-        | Unary::Plus { operand }
-        | Unary::Minus { operand }
-        | Unary::BitNot { operand }
-        | Unary::Not { operand }
-        | Unary::SizeofExpr { operand } => height(operand) + 1,
-        Unary::SizeofType { of } => height(of) + 1,
-        Unary::Cast { to, operand } => height(to).max(height(operand)) + 1,
     }
 }
 
@@ -100,12 +51,22 @@ fn height_of_operation(kind: &Operation) -> u32
     ensures { result ≡ operation_height (operation_view kind.now) }
 {
     match kind {
-        Operation::Binary { left, right, .. }
-        | Operation::LogAnd { left, right }
-        | Operation::LogOr { left, right }
-        | Operation::Assign { left, right }
-        | Operation::AssignOp { left, right, .. }
-        | Operation::Comma { left, right } => height(left).max(height(right)) + 1,
+        Operation::Index { array, index } => height(array).max(height(index)) + 1,
+        Operation::Call {
+            callee,
+            arguments,
+            ..
+        } => height(callee).max(highest(arguments)) + 1,
+        Operation::Member { operand, .. }
+        | Operation::Arrow { operand, .. }
+        | Operation::Unary { operand, .. } => height(operand) + 1,
+        Operation::CompoundLit { of, braces } => height(of).max(height(braces)) + 1,
+        Operation::SizeofType { of } => height(of) + 1,
+        Operation::Cast { to, operand } => height(to).max(height(operand)) + 1,
+        Operation::Binary { left, right, .. } | Operation::Assign { left, right, .. } => height(
+            left,
+        ).max(height(right))
+            + 1,
         Operation::Cond {
             condition,
             then,
@@ -120,11 +81,11 @@ fn height_of_initializer(kind: &Initializer) -> u32
     ensures { result ≡ initializer_height (initializer_view kind.now) }
 {
     match kind {
-        Initializer::BracedInit {
+        Initializer::Init {
             name,
             declarator,
-            braces,
-        } => height(name).max(height(declarator)).max(height(braces)) + 1,
+            initial,
+        } => height(name).max(height(declarator)).max(height(initial)) + 1,
         Initializer::Braces { elements, .. } => highest(elements) + 1,
         Initializer::Designated {
             designators,

@@ -13,10 +13,10 @@ mod token;
 mod tree;
 
 pub use declaration::{Declarator, Initializer, Outer, Part, Specifier};
-pub use expression::{Operation, Postfix, Primary, Unary};
+pub use expression::{Operation, Primary};
 pub use heights::height;
 pub use keyword::Keyword;
-pub use operator::{BinaryOp, CompoundOp, StructOrUnion};
+pub use operator::{AssignOp, BinaryOp, StructOrUnion, UnaryOp};
 pub use place::Place;
 pub use punctuator::Punctuator;
 pub use statement::{Iteration, Jump, Statement};

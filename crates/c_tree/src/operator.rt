@@ -1,6 +1,33 @@
 //! Operators and words that tell nodes of one kind apart.
 
-/// An operator between two operands that are both evaluated (ISO 9899:1990, 6.3.5 to 6.3.12).
+/// An operator with one operand (ISO 9899:1990, 6.3.2.4 and 6.3.3).
+#[derive(Clone, Copy, PartialEq, Eq)]
+pub enum UnaryOp {
+    /// `operand++`
+    PostInc,
+    /// `operand--`
+    PostDec,
+    /// `++operand`
+    PreInc,
+    /// `--operand`
+    PreDec,
+    /// `&operand`
+    AddressOf,
+    /// `*operand`
+    Deref,
+    /// `+operand`
+    Plus,
+    /// `-operand`
+    Minus,
+    /// `~operand`
+    BitNot,
+    /// `!operand`
+    Not,
+    /// `sizeof operand`
+    Sizeof,
+}
+
+/// An operator between two operands (ISO 9899:1990, 6.3.5 to 6.3.14 and 6.3.17).
 #[derive(Clone, Copy, PartialEq, Eq)]
 pub enum BinaryOp {
     /// `*`
@@ -35,11 +62,19 @@ pub enum BinaryOp {
     BitXor,
     /// `|`
     BitOr,
+    /// `&&`
+    LogAnd,
+    /// `||`
+    LogOr,
+    /// `,`
+    Comma,
 }
 
-/// The operator of a compound assignment (ISO 9899:1990, 6.3.16.2).
+/// An operator that assigns (ISO 9899:1990, 6.3.16).
 #[derive(Clone, Copy, PartialEq, Eq)]
-pub enum CompoundOp {
+pub enum AssignOp {
+    /// `=`
+    Plain,
     /// `*=`
     Multiply,
     /// `/=`

@@ -37,7 +37,7 @@ pub enum Statement<'a> {
     },
     /// `label: body`
     Label {
-        label: Token,
+        label: &'a Token,
         body: &'a Tree<'a>,
     },
 }
@@ -77,7 +77,7 @@ pub enum Iteration<'a> {
 #[derive(Clone, Copy)]
 pub enum Jump<'a> {
     /// `goto label;`
-    Goto { label: Token },
+    Goto { label: &'a Token },
     /// `continue;`
     Continue,
     /// `break;`

@@ -3,7 +3,7 @@
 ghost use Rattle.std.specs.Prelude.{◌≡◌};
 
 use crate::declaration::{Declarator, Initializer, Outer, Part, Specifier};
-use crate::expression::{Operation, Postfix, Primary, Unary};
+use crate::expression::{Operation, Primary};
 use crate::place::Place;
 use crate::statement::{Iteration, Jump, Statement};
 use bumpalo::Bump;
@@ -34,19 +34,7 @@ pub struct Trees<'a> {
 #[cycle(tree)]
 #[derive(Clone, Copy)]
 pub enum Kind<'a> {
-    /// `(inner)`, which comparing and matching see through.
-    Paren {
-        inner: &'a Tree<'a>,
-    },
-    /// A declared name with an expression for initializer: `declarator = value`, which comparing and matching read as the assignment `name = value`. `name` is an identifier of its own, whose token is the declared one.
-    Init {
-        name: &'a Tree<'a>,
-        declarator: &'a Tree<'a>,
-        value: &'a Tree<'a>,
-    },
     Primary(Primary<'a>),
-    Postfix(Postfix<'a>),
-    Unary(Unary<'a>),
     Operation(Operation<'a>),
     Initializer(Initializer<'a>),
     Specifier(Specifier<'a>),

@@ -40,9 +40,6 @@ decreases-height_of_outer l = 2 * goal.size-height_of_outer l
 abbrev pub decreases-height_of_part : goal.decreases-height_of_part
 decreases-height_of_part l = 2 * goal.size-height_of_part l
 
-abbrev pub decreases-height_of_postfix : goal.decreases-height_of_postfix
-decreases-height_of_postfix l = 2 * goal.size-height_of_postfix l
-
 abbrev pub decreases-height_of_primary : goal.decreases-height_of_primary
 decreases-height_of_primary l = 2 * goal.size-height_of_primary l
 
@@ -51,9 +48,6 @@ decreases-height_of_specifier l = 2 * goal.size-height_of_specifier l
 
 abbrev pub decreases-height_of_statement : goal.decreases-height_of_statement
 decreases-height_of_statement l = 2 * goal.size-height_of_statement l
-
-abbrev pub decreases-height_of_unary : goal.decreases-height_of_unary
-decreases-height_of_unary l = 2 * goal.size-height_of_unary l
 
 abbrev pub decreases-highest : goal.decreases-highest
 decreases-highest l = 2 * goal.size-highest l
