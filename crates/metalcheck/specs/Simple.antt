@@ -2,7 +2,8 @@
 -- statement after the other, with the state of the parameter alone. What this gives is the list of all reports.
 use Rattle.std.specs.Prelude.{◌≡◌, ◌≢◌, ◌≤◌, ◌<◌, ℕ, ◌+◌, ◌&&◌, is_some, List, [], ◌++◌, find, slice_get, get_or, Option, Some, None}
 use Rattle.std.specs.List.{cons_option}
-use Rattle.c_tree.specs.Node.{Node, node, Nodes, no_more, more, Primary, Postfix, Unary, Ident, Call, Deref}
+use Rattle.c_tree.specs.declared.operator.UnaryOp.TheVariants as operators
+use Rattle.c_tree.specs.Node.{Node, node, Nodes, no_more, more, Primary, Ident, Call, Operation, Unary}
 use Rattle.c_tree.specs.declared.place.Place.{Place}
 use Rattle.c_tree.specs.declared.token.Token.{Token}
 use Rattle.path_model.specs.declared.machine.Machine.{Machine}
@@ -16,8 +17,8 @@ use Rattle.path_model.specs.States.{fits, matched, chosen}
 
 -- `callee(parameter)` with another name for callee, or `*parameter`
 pub data IsSimple (parameter : Token) : Node → Type 0 where
-  IsCall : {i j k : ℕ} {p q r o : Place} {callee argument : Token} → callee.name ≢ parameter.name → argument.name ≡ parameter.name → IsSimple parameter (node i p (Postfix (Call (node j q (Primary (Ident callee))) o (more (node k r (Primary (Ident argument))) no_more))))
-  IsDereference : {i j : ℕ} {p q : Place} {operand : Token} → operand.name ≡ parameter.name → IsSimple parameter (node i p (Unary (Deref (node j q (Primary (Ident operand))))))
+  IsCall : {i j k : ℕ} {p q r o : Place} {callee argument : Token} → callee.name ≢ parameter.name → argument.name ≡ parameter.name → IsSimple parameter (node i p (Operation (Call (node j q (Primary (Ident callee))) o (more (node k r (Primary (Ident argument))) no_more))))
+  IsDereference : {i j : ℕ} {p q : Place} {operand : Token} → operand.name ≡ parameter.name → IsSimple parameter (node i p (Operation (Unary operators.Deref (node j q (Primary (Ident operand))))))
 
 -- a statement begins at a token of the first file, not before a given one; the token's file has a name
 pub record IsPlaced (size : ℕ) (tokens : List Token) (floor : ℕ) (place : Place) : Type 0 where

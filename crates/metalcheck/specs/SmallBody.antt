@@ -1,6 +1,7 @@
 -- What a small C file is in the program: its tokens, and a tree for each statement.
 use Rattle.std.specs.Prelude.{◌≡◌, ℕ, ◌+◌, List, [], ◌∷◌, slice_get, Some}
-use Rattle.c_tree.specs.Node.{Node, node, Nodes, no_more, more, Primary, Postfix, Unary, Ident, Call, Deref}
+use Rattle.c_tree.specs.declared.operator.UnaryOp.TheVariants as operators
+use Rattle.c_tree.specs.Node.{Node, node, Nodes, no_more, more, Primary, Ident, Call, Operation, Unary}
 use Rattle.c_tree.specs.declared.place.Place.{Place}
 use Rattle.c_tree.specs.declared.token.Token.{Token}
 use Rattle.path_model.specs.Events.{Body}
@@ -22,7 +23,7 @@ pub record IsCall (tokens : List Token) (at : ℕ) (n : Node) : Type 0 where
   pub callee_id : ℕ
   pub argument_id : ℕ
   pub opening : Place
-  pub is : n ≡ node id callee.place (Postfix (Call (name_node callee_id callee) opening (more (name_node argument_id argument) no_more)))
+  pub is : n ≡ node id callee.place (Operation (Call (name_node callee_id callee) opening (more (name_node argument_id argument) no_more)))
 
 -- a dereference of a name
 pub record IsDereference (tokens : List Token) (at : ℕ) (n : Node) : Type 0 where
@@ -32,7 +33,7 @@ pub record IsDereference (tokens : List Token) (at : ℕ) (n : Node) : Type 0 wh
   pub operand_at : slice_get tokens (at + 1) ≡ Some operand
   pub id : ℕ
   pub operand_id : ℕ
-  pub is : n ≡ node id star.place (Unary (Deref (name_node operand_id operand)))
+  pub is : n ≡ node id star.place (Operation (Unary operators.Deref (name_node operand_id operand)))
 
 -- the statement's tree, where its first token has this number
 abbrev pub IsStatementNode : List Token → ℕ → Statement → Node → Type 0

@@ -2,7 +2,8 @@
 use Rattle.std.specs.Prelude.{◌≡◌, ℕ, ◌&&◌, not, if◌then◌else◌, List, [], ◌∷◌, ◌++◌, All, drop, Option, Some, None, codes, flat_map, true}
 use Rattle.std.specs.Str.{bytes_eq}
 use Rattle.c_tree.specs.Node as nodes
-use Rattle.c_tree.specs.Node.{Node, node, Nodes, no_more, more, Postfix, Unary, Deref}
+use Rattle.c_tree.specs.declared.operator.UnaryOp.TheVariants as operators
+use Rattle.c_tree.specs.Node.{Node, node, Nodes, no_more, more, Operation, Unary}
 use Rattle.c_tree.specs.declared.place.Place.{Place}
 use Rattle.c_tree.specs.declared.punctuator.Punctuator.TheVariants.{CloseBrace}
 use Rattle.c_tree.specs.declared.token.Token.{Token}
@@ -55,13 +56,13 @@ pub record IsCallOf (callee : Token) (opening : Place) (argument : Token) (n : N
   pub id : ℕ
   pub callee_id : ℕ
   pub argument_id : ℕ
-  pub is : n ≡ node id callee.place (Postfix (nodes.Call (name_node callee_id callee) opening (more (name_node argument_id argument) no_more)))
+  pub is : n ≡ node id callee.place (Operation (nodes.Call (name_node callee_id callee) opening (more (name_node argument_id argument) no_more)))
 
 -- a dereference of this name behind a star at that place
 pub record IsDereferenceOf (star : Place) (operand : Token) (n : Node) : Type 0 where
   pub id : ℕ
   pub operand_id : ℕ
-  pub is : n ≡ node id star (Unary (Deref (name_node operand_id operand)))
+  pub is : n ≡ node id star (Operation (Unary operators.Deref (name_node operand_id operand)))
 
 -- from this token on these statements and a closing brace stand, and nothing behind them
 pub record StatementsStand (names : List (List ℕ)) (f p : List ℕ) (tokens : List Token) (at : ℕ) (statements : List Statement) : Type 0 where

@@ -9,7 +9,7 @@ ghost use Rattle.path_model.specs.Objects.{path_of, declared_by};
 ghost use Rattle.path_model.specs.Views.{body_of};
 ghost use Rattle.metalcheck.specs.Simple.{AreSimple, IsThere, Adds, found, report_with};
 
-use c_tree::{Kind, Postfix, Primary, Token, Tree, Trees, Unary};
+use c_tree::{Kind, Operation, Primary, Token, Tree, Trees, UnaryOp};
 use mx_base::{Names, Text};
 use path_model::{Function, Machine, Message, Pattern, Report, Rule, Source, Target};
 use std::alloc::{AllocError, Global};
@@ -37,8 +37,8 @@ fn matches_at(pattern: Pattern, node: &Tree) -> bool
 {
     match pattern {
         Pattern::Call(name) => match &node.kind {
-            Kind::Postfix(
-                Postfix::Call {
+            Kind::Operation(
+                Operation::Call {
                     callee,
                     arguments,
                     ..
@@ -47,7 +47,7 @@ fn matches_at(pattern: Pattern, node: &Tree) -> bool
             _ => false,
         },
         Pattern::Dereference => match &node.kind {
-            Kind::Unary(Unary::Deref { .. }) => true,
+            Kind::Operation(Operation::Unary { op: UnaryOp::Deref, .. }) => true,
             _ => false,
         },
     }

@@ -1,6 +1,7 @@
 -- Events, and the evaluations that give them. An expression is evaluated operands first, from left to right, and then itself.
 use Rattle.std.specs.Prelude.{◌≡◌, List, [], ◌∷◌, ◌++◌}
-use Rattle.c_tree.specs.Node.{Node, node, Postfix, Unary, Call, Deref, Nodes, no_more, more}
+use Rattle.c_tree.specs.declared.operator.UnaryOp.TheVariants as operators
+use Rattle.c_tree.specs.Node.{Node, node, Call, Nodes, no_more, more, Operation, Unary}
 use Rattle.c_tree.specs.declared.place.Place.{Place}
 use Rattle.c_tree.specs.declared.token.Token.{Token}
 
@@ -16,8 +17,8 @@ pub data Event : Type 0 where
 -- the events of an evaluation, and then these
 abbrev mutual
   pub value_then : Node → List Event → List Event
-  value_then (node i p (Postfix (Call callee parenthesis arguments))) es = value_then callee (values_then arguments (Evaluated (node i p (Postfix (Call callee parenthesis arguments))) ∷ es))
-  value_then (node i p (Unary (Deref operand))) es = value_then operand (Evaluated (node i p (Unary (Deref operand))) ∷ es)
+  value_then (node i p (Operation (Call callee parenthesis arguments))) es = value_then callee (values_then arguments (Evaluated (node i p (Operation (Call callee parenthesis arguments))) ∷ es))
+  value_then (node i p (Operation (Unary operators.Deref operand))) es = value_then operand (Evaluated (node i p (Operation (Unary operators.Deref operand))) ∷ es)
   value_then n es = Evaluated n ∷ es
 
   pub values_then : Nodes → List Event → List Event

@@ -2,7 +2,8 @@
 -- and dereferences for selectors.
 use Rattle.std.specs.Prelude.{ℕ, Bool, true, false, ◌&&◌, ◌==◌, nat_lt, if◌then◌else◌, List, [], ◌∷◌, ◌++◌, length, slice_get, unwrap_or, Option, Some, None}
 use Rattle.std.specs.Option.{option_and_then}
-use Rattle.c_tree.specs.Node.{Node, node, Primary, Unary, Ident, Deref}
+use Rattle.c_tree.specs.declared.operator.UnaryOp.TheVariants as operators
+use Rattle.c_tree.specs.Node.{Node, node, Primary, Ident, Operation, Unary}
 use Rattle.c_tree.specs.declared.token.Token.{Token}
 
 -- a parameter, by the place of its declared name, and its name
@@ -50,7 +51,7 @@ selected s o = if nat_lt (length o.selectors) depth then Some (record o { select
 -- the object of a tree: a variable's path, and what a path points to; any other tree has none
 abbrev pub object_of : Token → Node → Option Object
 object_of parameter (node i p (Primary (Ident t))) = option_and_then (λ x. Some (path_of x)) (variable_of parameter t)
-object_of parameter (node i p (Unary (Deref e))) = option_and_then (selected Star) (object_of parameter e)
+object_of parameter (node i p (Operation (Unary operators.Deref e))) = option_and_then (selected Star) (object_of parameter e)
 object_of parameter _ = None
 
 abbrev pub name_text : List (List ℕ) → Variable → List ℕ

@@ -2,7 +2,8 @@
 -- `start` throughout, since no rule of the early form leaves it.
 use Rattle.std.specs.Prelude.{ℕ, Bool, true, false, ◌&&◌, ◌==◌, if◌then◌else◌, List, [], ◌∷◌, find, Option, Some, None}
 use Rattle.std.specs.Option.{option_and_then, option_map_or}
-use Rattle.c_tree.specs.Node.{Node, node, Primary, Postfix, Unary, Ident, Call, Deref, Nodes, no_more, more}
+use Rattle.c_tree.specs.declared.operator.UnaryOp.TheVariants as operators
+use Rattle.c_tree.specs.Node.{Node, node, Primary, Ident, Call, Nodes, no_more, more, Operation, Unary}
 use Rattle.path_model.specs.declared.machine.Machine.{Machine}
 use Rattle.path_model.specs.declared.machine.Pattern.{Pattern}
 use Rattle.path_model.specs.declared.machine.Pattern.TheVariants as patterns
@@ -38,11 +39,11 @@ only (more n (more m ns)) = None
 
 -- the argument of a call of the named function with one argument
 abbrev pub argument_of : ℕ → Node → Option Node
-argument_of name (node i p (Postfix (Call callee parenthesis arguments))) = if is_named name callee then only arguments else None
+argument_of name (node i p (Operation (Call callee parenthesis arguments))) = if is_named name callee then only arguments else None
 argument_of name _ = None
 
 abbrev pub operand_of : Node → Option Node
-operand_of (node i p (Unary (Deref operand))) = Some operand
+operand_of (node i p (Operation (Unary operators.Deref operand))) = Some operand
 operand_of _ = None
 
 -- what the state variable of a pattern stands for, where the pattern matches at this node

@@ -15,7 +15,7 @@ use super::checker::{after, name_first, text};
 use super::names::is_name;
 use super::text::SmallFault;
 use bumpalo::collections::into_bump_slice;
-use c_tree::{Arena, Kind, Place, Postfix, Primary, Token, Tree, Trees, Unary};
+use c_tree::{Arena, Kind, Operation, Place, Primary, Token, Tree, Trees, UnaryOp};
 use mx_base::Names;
 use path_model::Function;
 use std::alloc::AllocError;
@@ -108,8 +108,8 @@ fn next_id(next: &mut u32) -> u32 {
 }
 
 /// A name by itself.
-fn name_tree<'a>(name: Token, id: u32) -> Tree<'a>
-    ensures { node_of result ≡ name_node id name }
+fn name_tree<'a>(name: &'a Token, id: u32) -> Tree<'a>
+    ensures { node_of result ≡ name_node id name.now }
 {
     Tree {
         id,
@@ -121,12 +121,12 @@ fn name_tree<'a>(name: Token, id: u32) -> Tree<'a>
 /// A call of one name with another.
 fn call_tree<'a>(
     arena: &'a Arena,
-    callee: Token,
+    callee: &'a Token,
     parenthesis: Place,
-    argument: Token,
+    argument: &'a Token,
     next: &mut u32,
 ) -> Result<Tree<'a>, AllocError>
-    ensures { IfOk result (λ tree. IsCallOf callee parenthesis argument (node_of tree)) }
+    ensures { IfOk result (λ tree. IsCallOf callee.now parenthesis argument.now (node_of tree)) }
 {
     let callee_id = next_id(next);
     let argument_id = next_id(next);
@@ -136,7 +136,7 @@ fn call_tree<'a>(
     Ok(Tree {
         id: next_id(next),
         first: callee.place,
-        kind: Kind::Postfix(Postfix::Call {
+        kind: Kind::Operation(Operation::Call {
             callee: called,
             open: parenthesis,
             arguments: Trees {
@@ -150,17 +150,20 @@ fn call_tree<'a>(
 fn dereference_tree<'a>(
     arena: &'a Arena,
     star: Place,
-    operand: Token,
+    operand: &'a Token,
     next: &mut u32,
 ) -> Result<Tree<'a>, AllocError>
-    ensures { IfOk result (λ tree. IsDereferenceOf star operand (node_of tree)) }
+    ensures { IfOk result (λ tree. IsDereferenceOf star operand.now (node_of tree)) }
 {
     let operand_id = next_id(next);
     let operand = arena.try_alloc(name_tree(operand, operand_id))?;
     Ok(Tree {
         id: next_id(next),
         first: star,
-        kind: Kind::Unary(Unary::Deref { operand }),
+        kind: Kind::Operation(Operation::Unary {
+            op: UnaryOp::Deref,
+            operand,
+        }),
     })
 }
 
@@ -177,7 +180,7 @@ fn token_count(statement: ReadStatement) -> usize
 /// The tree of a statement that begins at this token.
 fn statement_tree<'a>(
     arena: &'a Arena,
-    tokens: &[Token],
+    tokens: &'a [Token],
     at: usize,
     statement: ReadStatement,
     next: &mut u32,
@@ -188,15 +191,15 @@ fn statement_tree<'a>(
     match statement {
         ReadStatement::Call(_) => call_tree(
             arena,
-            tokens[at],
+            &tokens[at],
             tokens[at + 1].place,
-            tokens[at + 2],
+            &tokens[at + 2],
             next,
         ),
         ReadStatement::Dereference => dereference_tree(
             arena,
             tokens[at].place,
-            tokens[at + 1],
+            &tokens[at + 1],
             next,
         ),
     }
@@ -205,7 +208,7 @@ fn statement_tree<'a>(
 /// The trees of the statements behind the head, up to a closing brace that stands last.
 fn read_statements<'a>(
     arena: &'a Arena,
-    tokens: &[Token],
+    tokens: &'a [Token],
     names: &Names,
     function: &[u8],
     parameter: &[u8],
