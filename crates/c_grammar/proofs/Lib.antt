@@ -1,1 +1,6 @@
 pub mod Examples
+pub mod Codes
+pub mod Options
+pub mod Front
+pub mod Steps
+pub mod Readers
