@@ -4,3 +4,4 @@ pub mod Options
 pub mod Front
 pub mod Steps
 pub mod Readers
+pub mod SoundSpecifiers
