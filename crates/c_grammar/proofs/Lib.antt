@@ -5,3 +5,4 @@ pub mod Front
 pub mod Steps
 pub mod Readers
 pub mod SoundSpecifiers
+pub mod SoundDeclarators
