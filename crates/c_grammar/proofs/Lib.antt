@@ -6,3 +6,5 @@ pub mod Steps
 pub mod Readers
 pub mod SoundSpecifiers
 pub mod SoundDeclarators
+pub mod SoundExpressions
+pub mod Sound
