@@ -8,3 +8,5 @@ pub mod SoundSpecifiers
 pub mod SoundDeclarators
 pub mod SoundExpressions
 pub mod Sound
+pub mod Longer
+pub mod CompleteSpecifiers

@@ -2,6 +2,7 @@
 // caller's proof.
 
 ghost use Rattle.c_grammar.specs.Theorems.{
+  ReadingIsComplete,
   ReadingIsSound,
 };
 
@@ -9,4 +10,10 @@ ghost use Rattle.c_grammar.specs.Theorems.{
 /// that were taken.
 pub fn reading_is_sound()
     ensures { ReadingIsSound }
+{}
+
+/// Each tree of the grammar that isn't higher than what the plain reader was given is found in front of its tokens, where
+/// what follows them doesn't go on with it.
+pub fn reading_is_complete()
+    ensures { ReadingIsComplete }
 {}
