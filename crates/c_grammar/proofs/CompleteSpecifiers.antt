@@ -1,5 +1,5 @@
 -- Each row of specifiers is read, where what follows doesn't go on with it.
-use Rattle.std.proofs.Common.{◌≡◌, ℕ, zero, suc, ◌+◌, ◌≤◌, Bool, true, false, cond, ◌||◌, List, [], ◌∷◌, ◌++◌, length, Option, None, Some, ap, refl, ◌∙◌, sym, subst, arith}
+use Rattle.std.proofs.Common.{◌≡◌, ℕ, zero, suc, ◌+◌, ◌<◌, ◌≤◌, Bool, true, false, cond, not, ◌&&◌, ◌||◌, List, [], ◌∷◌, ◌++◌, length, Option, None, Some, ap, refl, ◌∙◌, sym, subst, arith}
 use Rattle.c_tree.specs.declared.keyword.Keyword.{Keyword}
 use Rattle.c_tree.specs.declared.keyword.Keyword.TheVariants as words
 use Rattle.c_tree.specs.declared.operator.StructOrUnion.TheVariants as which_word
@@ -10,11 +10,11 @@ use Rattle.c_tree.specs.Phrase.{phrase_then}
 use Rattle.c_tree.specs.Tokens.{row_phrase, tokens_then}
 use Rattle.c_grammar.specs.Symbols.{begins, take_symbol, is_word}
 use Rattle.c_grammar.specs.Names.{Names}
-use Rattle.c_grammar.specs.Specifiers.{Place, is_tag_word, is_storage, is_inline, is_qualifier, is_type_word, is_specifier, begins_tag, goes_on, types, type_words_of, other_types_of, type_words, other_types, is_one_type, has_one_type, is_among, as_often, occurrences, fit}
+use Rattle.c_grammar.specs.Specifiers.{Place, is_tag_word, is_storage, is_inline, is_qualifier, is_type_word, is_specifier, begins_tag, goes_on, types, type_words_of, other_types_of, type_words, other_types, is_one_type, has_one_type, is_among, as_often, occurrences, storages, inlines, are_allowed, may_inline, fit}
 use Rattle.c_grammar.specs.Grammar.{IsItem, AreItems, AreSpecifiers, IsTag}
 use Rattle.c_grammar.specs.Found.{◌>>=◌, if_there, Found, made}
 use Rattle.c_grammar.specs.SpecifierSteps.{read_item, read_items, read_specifiers, read_tag}
-use Rattle.c_grammar.proofs.Options.{made_low, both, neither}
+use Rattle.c_grammar.proofs.Options.{made_low, neither}
 use Rattle.c_grammar.proofs.Front.{take_symbol_here, take_symbol_none}
 use Rattle.c_grammar.proofs.Longer.{count}
 
@@ -23,6 +23,7 @@ pub record Tagged (tagged : List Symbol → Option Found) (e : Syntax) (r : List
   pub front : Symbol
   pub behind : List Symbol
   pub tokens : tokens_then e r ≡ front ∷ behind
+  pub longer : length r ≤ length behind
   pub begins : begins_tag front ≡ true
   pub found : tagged (front ∷ behind) ≡ Some (e, r)
 
@@ -98,3 +99,89 @@ items-complete IsTagged goes tagged n names (suc f) typed (more e es) r k st w h
       i.found,
       items-complete IsTagged goes tagged n names f (typed || types e) es r k st w.1 (omega arith) s g (omega arith),
     ) refl
+
+-- a type stays
+typed_stays : (es : Syntaxes) → typed_by true es ≡ true
+typed_stays no_more = refl
+typed_stays (more e es) = typed_stays es
+
+typed_before : (b : Bool) (es : Syntaxes) → typed_by b es ≡ false → b ≡ false
+typed_before true es h = let a = typed_stays es in cc
+typed_before false es h = refl
+
+no_type : (e : Syntax) → types e ≡ false → (type_words_of e ≡ []) × (other_types_of e ≡ 0)
+no_type (Part (SpecWord (Word name))) h = cc
+no_type (Part (SpecWord (Reserved k))) h = let F : Bool → List Keyword = λ b. cond b (k ∷ []) [] in (ap F h, refl)
+no_type (Specifier k) h = cc
+no_type _ h = (refl, refl)
+
+no_types : (typed : Bool) (es : Syntaxes) → typed_by typed es ≡ false → (type_words es ≡ []) × (other_types es ≡ 0)
+unfolding type_words other_types
+no_types typed no_more h = (refl, refl)
+no_types typed (more e es) h =
+    let a = no_types (typed || types e) es h in
+    let b = neither typed (types e) (typed_before (typed || types e) es h) in
+    let t = no_type e b.1 in
+    let F : List Keyword → List Keyword = λ x. x ++ type_words es in
+    (ap F t.0 ∙ a.0, omega (arith, t.1, a.1))
+
+no_basic : is_one_type [] 0 ≡ false
+unfolding is_among as_often occurrences
+no_basic = refl
+
+first_of : (a b c : Bool) → (a && b && c) ≡ true → a ≡ true
+first_of true b c h = refl
+first_of false b c h = cc
+
+-- specifiers that fit have a type
+pub fit_typed : (place : Place) (items : Syntaxes) → fit place items ≡ true → typed_by false items ≡ true
+fit_typed place items h = by (typed_by false items) refl
+  where
+    by : (b : Bool) → typed_by false items ≡ b → b ≡ true
+    by true e = refl
+    by false e =
+        let a = no_types false items e in
+        let one : has_one_type items ≡ true = first_of (has_one_type items) (are_allowed place (storages items)) (may_inline place || not (inlines items)) h in
+        let F : List Keyword → ℕ → Bool = λ ks n. is_one_type ks n in
+        let q : has_one_type items ≡ is_one_type [] 0 = ap (λ ks. F ks (other_types items)) a.0 ∙ ap (λ n. F [] n) a.1 in
+        let z = no_basic in
+        cc
+
+longer_item : (IsTagged : Syntax → Type 0) (goes : Symbol → Bool) (tagged : List Symbol → Option Found) (n : ℕ) (names : Names) (typed : Bool) (e : Syntax) (r : List Symbol)
+    → KnowsTagged IsTagged goes tagged n → IsItem IsTagged names typed e → height_of e ≤ n → begins goes r ≡ false → length r < length (tokens_then e r)
+longer_item IsTagged goes tagged n names typed (Part (SpecWord word)) r k w h s = omega arith
+longer_item IsTagged goes tagged n names typed (Specifier k2) r k w h s = let t = k (Specifier k2) r w h s in rw t.tokens (omega (arith, t.longer))
+longer_item IsTagged goes tagged n names typed _ r k w h s = absurd w
+
+longer_items : (IsTagged : Syntax → Type 0) (goes : Symbol → Bool) (tagged : List Symbol → Option Found) (n : ℕ) (names : Names) (typed : Bool) (es : Syntaxes) (r : List Symbol)
+    → KnowsTagged IsTagged goes tagged n → StopsAtSpecifiers goes names → AreItems IsTagged names typed es → height_in es ≤ n → begins goes r ≡ false
+    → count es ≤ length (phrase_then (row_phrase es) r)
+longer_items IsTagged goes tagged n names typed no_more r k st w h s = omega arith
+longer_items IsTagged goes tagged n names typed (more e es) r k st w h s =
+    let X = phrase_then (row_phrase es) r in
+    let a = longer_items IsTagged goes tagged n names (typed || types e) es r k st w.1 (omega arith) s in
+    let b = longer_item IsTagged goes tagged n names typed e X k w.0 (omega arith) (next IsTagged goes tagged n names (typed || types e) es r k st w.1 (omega arith) s) in
+    omega (arith, a, b)
+
+pub all_specifiers-complete : (IsTagged : Syntax → Type 0) (goes : Symbol → Bool) (tagged : List Symbol → Option Found) (n m : ℕ) (place : Place) (names : Names) (items : Syntaxes) (r : List Symbol)
+    → KnowsTagged IsTagged goes tagged n → StopsAtSpecifiers goes names → AreSpecifiers IsTagged place names (Specifier (Specs items)) → height_in items ≤ n → height_of (Specifier (Specs items)) ≤ m
+    → begins goes r ≡ false → begins (goes_on names true) r ≡ false → read_specifiers tagged m place names (tokens_then (Specifier (Specs items)) r) ≡ Some (Specifier (Specs items), r)
+all_specifiers-complete IsTagged goes tagged n m place names items r k st w h hm s g =
+    let F : Bool → Bool = λ b. begins (goes_on names b) r in
+    let a = items-complete IsTagged goes tagged n names (length (phrase_then (row_phrase items) r)) false items r k st w.0 h s (ap F (fit_typed place items w.1) ∙ g) (longer_items IsTagged goes tagged n names false items r k st w.0 h s) in
+    rw (a, w.1) (made_low m (Specifier (Specs items)) r hm)
+pub tag-knows : (n : ℕ) → KnowsTagged IsTag (λ t. false) read_tag n
+tag-knows n (Specifier (StructTag which_word.Struct tag)) r w h s = record { front = Reserved words.Struct; behind = tag ∷ r; tokens = refl; longer = omega arith; begins = refl; found = rw (take_symbol_here is_word tag r w) refl }
+tag-knows n (Specifier (StructTag which_word.Union tag)) r w h s = record { front = Reserved words.Union; behind = tag ∷ r; tokens = refl; longer = omega arith; begins = refl; found = rw (take_symbol_here is_word tag r w) refl }
+tag-knows n (Specifier (EnumTag tag)) r w h s = record { front = Reserved words.Enum; behind = tag ∷ r; tokens = refl; longer = omega arith; begins = refl; found = rw (take_symbol_here is_word tag r w) refl }
+tag-knows n _ r w h s = absurd w
+
+none_begins_nothing : (r : List Symbol) → begins (λ t. false) r ≡ false
+none_begins_nothing [] = refl
+none_begins_nothing (t ∷ r) = refl
+
+pub specifiers-complete : (m : ℕ) (place : Place) (names : Names) (e : Syntax) (r : List Symbol)
+    → AreSpecifiers IsTag place names e → height_of e ≤ m → begins (goes_on names true) r ≡ false → read_specifiers read_tag m place names (tokens_then e r) ≡ Some (e, r)
+specifiers-complete m place names (Specifier (Specs items)) r w h g =
+    all_specifiers-complete IsTag (λ t. false) read_tag m m place names items r (tag-knows m) (λ typed t x. refl) w (omega arith) h (none_begins_nothing r) g
+specifiers-complete m place names _ r w h g = absurd w
