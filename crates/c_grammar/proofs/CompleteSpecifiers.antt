@@ -3,19 +3,20 @@ use Rattle.std.proofs.Common.{◌≡◌, ℕ, zero, suc, ◌+◌, ◌<◌, ◌�
 use Rattle.c_tree.specs.declared.keyword.Keyword.{Keyword}
 use Rattle.c_tree.specs.declared.keyword.Keyword.TheVariants as words
 use Rattle.c_tree.specs.declared.operator.StructOrUnion.TheVariants as which_word
-use Rattle.c_tree.specs.Symbol.{Symbol, Word, Reserved}
+use Rattle.c_tree.specs.declared.punctuator.Punctuator.{Punctuator}
+use Rattle.c_tree.specs.Symbol.{Symbol, Word, Reserved, Sign}
 use Rattle.c_tree.specs.Syntax.{Syntax, Specifier, Part, SpecifierSyntax, StructTag, EnumTag, Specs, SpecWord, Syntaxes, no_more, more}
 use Rattle.c_tree.specs.Height.{height_of, height_in}
 use Rattle.c_tree.specs.Phrase.{phrase_then}
 use Rattle.c_tree.specs.Tokens.{row_phrase, tokens_then}
-use Rattle.c_grammar.specs.Symbols.{begins, take_symbol, is_word}
+use Rattle.c_grammar.specs.Symbols.{is_sign, is_word, after_sign, begins, take_symbol}
 use Rattle.c_grammar.specs.Names.{Names}
-use Rattle.c_grammar.specs.Specifiers.{Place, is_tag_word, is_storage, is_inline, is_qualifier, is_type_word, is_specifier, begins_tag, goes_on, types, type_words_of, other_types_of, type_words, other_types, is_one_type, has_one_type, is_among, as_often, occurrences, storages, inlines, are_allowed, may_inline, fit}
+use Rattle.c_grammar.specs.Specifiers.{Place, is_tag_word, is_storage, is_inline, is_qualifier, is_type_word, is_specifier, begins_tag, goes_on, begins_specifiers, types, type_words_of, other_types_of, type_words, other_types, is_one_type, has_one_type, is_among, as_often, occurrences, storages, inlines, are_allowed, may_inline, fit}
 use Rattle.c_grammar.specs.Grammar.{IsItem, AreItems, AreSpecifiers, IsTag}
 use Rattle.c_grammar.specs.Found.{◌>>=◌, if_there, Found, made}
 use Rattle.c_grammar.specs.SpecifierSteps.{read_item, read_items, read_specifiers, read_tag}
 use Rattle.c_grammar.proofs.Options.{made_low, neither}
-use Rattle.c_grammar.proofs.Front.{take_symbol_here, take_symbol_none}
+use Rattle.c_grammar.proofs.Front.{after_none, take_symbol_here, take_symbol_none}
 use Rattle.c_grammar.proofs.Longer.{count}
 
 -- How a tree begins with a tag word, and that it is read there.
@@ -185,3 +186,22 @@ pub specifiers-complete : (m : ℕ) (place : Place) (names : Names) (e : Syntax)
 specifiers-complete m place names (Specifier (Specs items)) r w h g =
     all_specifiers-complete IsTag (λ t. false) read_tag m m place names items r (tag-knows m) (λ typed t x. refl) w (omega arith) h (none_begins_nothing r) g
 specifiers-complete m place names _ r w h g = absurd w
+
+-- where specifiers stand, they begin
+pub specifiers_begin : (place : Place) (names : Names) (e : Syntax) (r : List Symbol) → AreSpecifiers IsTag place names e → begins (begins_specifiers names) (tokens_then e r) ≡ true
+specifiers_begin place names (Specifier (Specs no_more)) r w = let a = fit_typed place no_more w.1 in cc
+specifiers_begin place names (Specifier (Specs (more e es))) r w =
+    let X = phrase_then (row_phrase es) r in
+    let i = item IsTag (λ t. false) read_tag (height_of e) names false e X (tag-knows (height_of e)) w.0.0 (omega arith) (none_begins_nothing X) in
+    rw i.tokens i.goes
+specifiers_begin place names _ r w = absurd w
+
+specifier_no_sign : (p : Punctuator) (names : Names) (typed : Bool) (t : Symbol) → goes_on names typed t ≡ true → is_sign p t ≡ false
+specifier_no_sign p names typed (Sign q) h = cc
+specifier_no_sign p names typed _ h = refl
+
+-- no specifier begins with a punctuator
+pub item_no_sign : (p : Punctuator) (names : Names) (typed : Bool) (e : Syntax) (r : List Symbol) → IsItem IsTag names typed e → after_sign p (tokens_then e r) ≡ None
+item_no_sign p names typed e r w =
+    let i = item IsTag (λ t. false) read_tag (height_of e) names typed e r (tag-knows (height_of e)) w (omega arith) (none_begins_nothing r) in
+    rw i.tokens (after_none (is_sign p) (i.front ∷ i.behind) (specifier_no_sign p names typed i.front i.goes))

@@ -9,4 +9,6 @@ pub mod SoundDeclarators
 pub mod SoundExpressions
 pub mod Sound
 pub mod Longer
+pub mod Begins
 pub mod CompleteSpecifiers
+pub mod CompleteDeclarators
