@@ -11,12 +11,12 @@ use Rattle.c_tree.specs.Tokens.{phrase_of, maybe_phrase, row_phrase, list_phrase
 use Rattle.c_grammar.specs.Symbols.{is_sign, is_keyword, is_word, after_sign, after_keyword, begins, take_symbol, run_of, after_run, AreAll}
 use Rattle.c_grammar.specs.Levels.{assignment_level}
 use Rattle.c_grammar.specs.Names.{Names, is_type, declared}
-use Rattle.c_grammar.specs.Specifiers.{Place, InTypeName, InParam, begins_specifiers, goes_on, fit}
+use Rattle.c_grammar.specs.Specifiers.{Place, InTypeName, InParam, is_storage, is_inline, is_qualifier, is_type_word, is_tag_word, begins_specifiers, goes_on, fit}
 use Rattle.c_grammar.specs.Nonterminal.{Form, WithName, Abstract, Either, may_name, may_omit, Expression, Specifiers, DeclaratorIn, Parameter}
 use Rattle.c_grammar.specs.Grammar.{IsTag, AreItems, IsMaybeDeclarator, IsTypeName, IsDeclarator, AreSuffixes, IsSuffix, IsBound, IsParam, AreParams, IsList, ArePointers, is_bound_word, is_pointer_word, is_taken_as_type}
 use Rattle.c_grammar.specs.Found.{◌>>=◌, if_there, Found, Reader}
 use Rattle.c_grammar.specs.Following.{goes_on_declaring}
-use Rattle.c_grammar.specs.DeclaratorSteps.{read_bound, read_params, after_void, read_param_list, begins_suffix, read_suffix, read_suffixes, pointers_of, after_pointers, begins_params, take_name, after_nesting, read_declarator, begins_declarator, read_type_name, read_param}
+use Rattle.c_grammar.specs.DeclaratorSteps.{read_bound, read_params, after_void, read_param_list, begins_suffix, read_suffix, read_suffixes, pointers_of, after_pointers, begins_params, take_name, after_nesting, read_direct, read_declarator, begins_declarator, read_type_name, read_param}
 use Rattle.c_grammar.proofs.Options.{made_low, neither}
 use Rattle.c_grammar.proofs.Front.{after_none, take_symbol_here, take_symbol_none, run_of-here, after_run-here}
 use Rattle.c_grammar.proofs.Readers.{Knows}
@@ -143,3 +143,221 @@ pub suffixes-complete : (inner : Reader) (n : ℕ) (names : Names) (es : Syntaxe
 suffixes-complete inner n names es r k w h s =
     let a = longer_suffixes names es r w in
     suffixes-more inner n names (length (phrase_then (row_phrase es) r)) es r k w h s (omega (arith, a))
+
+-- what follows a declarator goes on with no part of it
+four : (a b c d : Bool) → (a || b || c || d) ≡ false → (a ≡ false) × (b ≡ false) × (c ≡ false) × (d ≡ false)
+four false false false false h = (refl, refl, refl, refl)
+four true b c d h = cc
+four false true c d h = cc
+four false false true d h = cc
+four false false false true h = cc
+
+ends : (names : Names) (t : Symbol) → goes_on_declaring names t ≡ false → (goes_on names true t ≡ false) × (is_word t ≡ false) × (is_sign marks.Star t ≡ false) × (begins_suffix t ≡ false)
+ends names t h = four (goes_on names true t) (is_word t) (is_sign marks.Star t) (begins_suffix t) h
+
+-- what begins with neither
+narrower : (p q : Symbol → Bool) (ts : List Symbol) → ((t : Symbol) → p t ≡ false → q t ≡ false) → begins p ts ≡ false → begins q ts ≡ false
+narrower p q [] d h = refl
+narrower p q (t ∷ ts) d h = d t h
+
+ends_specifiers : (names : Names) (r : List Symbol) → begins (goes_on_declaring names) r ≡ false → begins (goes_on names true) r ≡ false
+ends_specifiers names r h = narrower (goes_on_declaring names) (goes_on names true) r (λ t x. (ends names t x).0) h
+
+ends_word : (names : Names) (r : List Symbol) → begins (goes_on_declaring names) r ≡ false → begins is_word r ≡ false
+ends_word names r h = narrower (goes_on_declaring names) is_word r (λ t x. (ends names t x).1) h
+
+ends_suffix : (names : Names) (r : List Symbol) → begins (goes_on_declaring names) r ≡ false → begins begins_suffix r ≡ false
+ends_suffix names r h = narrower (goes_on_declaring names) begins_suffix r (λ t x. (ends names t x).3) h
+
+no_pointer_word : (names : Names) (t : Symbol) → goes_on_declaring names t ≡ false → is_pointer_word t ≡ false
+no_pointer_word names (Reserved k) h =
+    let a = (ends names (Reserved k) h).0 in
+    let b = neither (is_storage k || is_inline k || is_qualifier k || is_type_word k) (is_tag_word k) a in
+    (four (is_storage k) (is_inline k) (is_qualifier k) (is_type_word k) b.0).2
+no_pointer_word names (Word name) h = (ends names (Word name) h).2
+no_pointer_word names (Sign p) h = (ends names (Sign p) h).2
+no_pointer_word names _ h = refl
+
+ends_pointers : (names : Names) (r : List Symbol) → begins (goes_on_declaring names) r ≡ false → begins is_pointer_word r ≡ false
+ends_pointers names r h = narrower (goes_on_declaring names) is_pointer_word r (no_pointer_word names) h
+
+no_declarator : (form : Form) (names : Names) (t : Symbol) → goes_on_declaring names t ≡ false → begins_declarator form t ≡ false
+no_declarator form names t h =
+    let a = ends names t h in
+    none (is_sign marks.Star t) (begins_suffix t) (may_name form) (is_word t) a.2 a.3 a.1
+  where
+    none : (a b c d : Bool) → a ≡ false → b ≡ false → d ≡ false → (a || b || (c && d)) ≡ false
+    none false false true false x y z = refl
+    none false false false d x y z = refl
+    none true b c d x y z = x
+    none false true c d x y z = y
+    none false false true true x y z = z
+
+ends_declarator : (form : Form) (names : Names) (r : List Symbol) → begins (goes_on_declaring names) r ≡ false → begins (begins_declarator form) r ≡ false
+ends_declarator form names r h = narrower (goes_on_declaring names) (begins_declarator form) r (no_declarator form names) h
+
+no_star : (t : Symbol) → is_pointer_word t ≡ false → is_sign marks.Star t ≡ false
+no_star (Reserved k) h = refl
+no_star (Sign p) h = h
+no_star _ h = refl
+
+-- the pointers in front are found
+pointers-complete : (pointers rest : List Symbol) → ArePointers pointers → begins is_pointer_word rest ≡ false → (pointers_of (pointers ++ rest) ≡ pointers) × (after_pointers (pointers ++ rest) ≡ rest)
+pointers-complete [] rest w h =
+    let a = after_none (is_sign marks.Star) rest (narrower is_pointer_word (is_sign marks.Star) rest no_star h) in
+    (rw a refl, rw a refl)
+pointers-complete (Sign marks.Star ∷ ps) rest w h = (ap (λ x. Sign marks.Star ∷ x) (run_of-here is_pointer_word ps rest w.1 h), after_run-here is_pointer_word ps rest w.1 h)
+pointers-complete (Sign _ ∷ ps) rest w h = let a = w.0 in cc
+pointers-complete (_ ∷ ps) rest w h = let a = w.0 in cc
+
+word_no_pointer : (t : Symbol) → is_word t ≡ true → is_pointer_word t ≡ false
+word_no_pointer (Word name) h = refl
+word_no_pointer _ h = cc
+
+-- behind the pointers
+direct-complete : (inner : Reader) (m : ℕ) (form : Form) (names : Names) (pointers rest : List Symbol) (y : Option Found) → ArePointers pointers → begins is_pointer_word rest ≡ false
+    → read_direct inner m form names pointers rest ≡ y → read_declarator inner m form names (pointers ++ rest) ≡ y
+direct-complete inner m form names pointers rest y w s h = let a = pointers-complete pointers rest w s in rw (a.0, a.1) h
+
+named-complete : (inner : Reader) (n : ℕ) (form : Form) (names : Names) (pointers : List Symbol) (name : Symbol) (es : Syntaxes) (r : List Symbol) → Knows inner n → IsDeclarator form names (Declarator (Named pointers name es))
+    → height_of (Declarator (Named pointers name es)) ≤ suc n → begins (goes_on_declaring names) r ≡ false
+    → read_declarator inner (suc n) form names (tokens_then (Declarator (Named pointers name es)) r) ≡ Some (Declarator (Named pointers name es), r)
+named-complete inner n form names pointers name es r k w h s =
+    let Z = phrase_then (row_phrase es) r in
+    direct-complete inner (suc n) form names pointers (name ∷ Z) (Some (Declarator (Named pointers name es), r)) w.1 (word_no_pointer name w.2)
+    (rw (w.0, take_symbol_here is_word name Z w.2, suffixes-complete inner n names es r k w.3 (omega arith) (ends_suffix names r s)) (made_low (suc n) (Declarator (Named pointers name es)) r h))
+
+cond_none : {A : Type 0} (b : Bool) → ◌≡◌ {A = Option A} (cond b None None) None
+cond_none true = refl
+cond_none false = refl
+
+-- what begins a declarator without a name begins no parameters
+abstract_no_params : (names : Names) (t : Symbol) → begins_declarator Abstract t ≡ true → begins_params names t ≡ false
+abstract_no_params names (Sign marks.Star) h = refl
+abstract_no_params names (Sign marks.OpenBracket) h = refl
+abstract_no_params names (Sign marks.OpenParen) h = refl
+abstract_no_params names _ h = cc
+
+star_no_params : (names : Names) (t : Symbol) → is_sign marks.Star t ≡ true → begins_params names t ≡ false
+star_no_params names (Sign marks.Star) h = refl
+star_no_params names _ h = cc
+
+ordinary_no_params : (names : Names) (name : ℕ) → is_type names name ≡ false → begins_params names (Word name) ≡ false
+ordinary_no_params names name h = let F : Bool → Bool = λ b. false || ((not false && b) || false) in ap F h
+
+-- nor does one in parentheses that may have a name
+either_no_params : (names : Names) (e : Syntax) (r : List Symbol) → IsDeclarator Either names e → is_taken_as_type Either names e ≡ false → begins (begins_params names) (tokens_then e r) ≡ false
+either_no_params names (Declarator (Named [] (Word name) es)) r w h = ordinary_no_params names name h
+either_no_params names (Declarator (Named [] _ es)) r w h = let a = w.2 in cc
+either_no_params names (Declarator (Named (t ∷ ts) name es)) r w h = star_no_params names t w.1.0
+either_no_params names (Declarator (Nested [] inner es)) r w h = refl
+either_no_params names (Declarator (Nested (t ∷ ts) inner es)) r w h = star_no_params names t w.0.0
+either_no_params names (Declarator (Unnamed [] no_more)) r w h = let a = w.3 in cc
+either_no_params names (Declarator (Unnamed [] (more (Part (ArrayBound words bound)) es))) r w h = refl
+either_no_params names (Declarator (Unnamed [] (more (Part VoidParams) es))) r w h = refl
+either_no_params names (Declarator (Unnamed [] (more (Part (Params params variadic)) es))) r w h = refl
+either_no_params names (Declarator (Unnamed [] (more _ es))) r w h = absurd w.2.0
+either_no_params names (Declarator (Unnamed (t ∷ ts) es)) r w h = star_no_params names t w.1.0
+either_no_params names _ r w h = absurd w
+
+nested_no_params : (form : Form) (names : Names) (e : Syntax) (r : List Symbol) → IsDeclarator form names e → is_taken_as_type form names e ≡ false → (may_omit form && begins (begins_params names) (tokens_then e r)) ≡ false
+nested_no_params WithName names e r w h = refl
+nested_no_params Abstract names e r w h = differ (begins_declarator Abstract) (begins_params names) (tokens_then e r) (abstract_no_params names) (declarator_begins Abstract names e r w)
+nested_no_params Either names e r w h = either_no_params names e r w h
+
+nested-complete : (inner : Reader) (n : ℕ) (form : Form) (names : Names) (pointers : List Symbol) (e : Syntax) (es : Syntaxes) (r : List Symbol) → Knows inner n → IsDeclarator form names (Declarator (Nested pointers e es))
+    → height_of (Declarator (Nested pointers e es)) ≤ suc n → begins (goes_on_declaring names) r ≡ false
+    → read_declarator inner (suc n) form names (tokens_then (Declarator (Nested pointers e es)) r) ≡ Some (Declarator (Nested pointers e es), r)
+nested-complete inner n form names pointers e es r k w h s =
+    let Z = phrase_then (row_phrase es) r in
+    let X = tokens_then e (Sign marks.CloseParen ∷ Z) in
+    let a : take_name form (Sign marks.OpenParen ∷ X) ≡ None = cond_none (may_name form) in
+    let F : Bool → Option (List Symbol) = λ b. cond b None (Some X) in
+    let b : after_nesting form names (Sign marks.OpenParen ∷ X) ≡ Some X = ap F (nested_no_params form names e (Sign marks.CloseParen ∷ Z) w.1 w.2) in
+    direct-complete inner (suc n) form names pointers (Sign marks.OpenParen ∷ X) (Some (Declarator (Nested pointers e es), r)) w.0 refl
+    (rw (a, b, k (DeclaratorIn form) names e (Sign marks.CloseParen ∷ Z) w.1 (omega arith) refl, suffixes-complete inner n names es r k w.3 (omega arith) (ends_suffix names r s))
+    (made_low (suc n) (Declarator (Nested pointers e es)) r h))
+
+-- where what follows a declarator without a name, or its suffixes, has this property
+suffixes_begin : (p : Symbol → Bool) (names : Names) (es : Syntaxes) (r : List Symbol) → p (Sign marks.OpenBracket) ≡ false → p (Sign marks.OpenParen) ≡ false → AreSuffixes names es → begins p r ≡ false → begins p (phrase_then (row_phrase es) r) ≡ false
+suffixes_begin p names no_more r a b w s = s
+suffixes_begin p names (more (Part (ArrayBound words bound)) es) r a b w s = a
+suffixes_begin p names (more (Part VoidParams) es) r a b w s = b
+suffixes_begin p names (more (Part (Params params variadic)) es) r a b w s = b
+suffixes_begin p names (more _ es) r a b w s = absurd w.0
+
+wider : (p q : Symbol → Bool) (ts : List Symbol) → ((t : Symbol) → p t ≡ true → q t ≡ true) → begins p ts ≡ true → begins q ts ≡ true
+wider p q [] d h = h
+wider p q (t ∷ ts) d h = d t h
+
+or_true : (a b : Bool) → b ≡ true → (a || b) ≡ true
+or_true true b h = refl
+or_true false b h = h
+
+params_begin : (names : Names) (es : Syntaxes) (variadic : Bool) (r : List Symbol) → AreParams names es → IsList es variadic
+    → begins (begins_params names) (phrase_then (list_phrase es) (phrase_then (ellipsis_if variadic) (Sign marks.CloseParen ∷ r))) ≡ true
+params_begin names no_more false r w l = refl
+params_begin names no_more true r w l = absurd l
+params_begin names (more e es) variadic r w l =
+    let X = tokens_then e (phrase_then (more_phrase es) (phrase_then (ellipsis_if variadic) (Sign marks.CloseParen ∷ r))) in
+    wider (begins_specifiers names) (begins_params names) X (λ t h. or_true (is_sign marks.CloseParen t) (begins_specifiers names t) h) (param_begins names e _ w.0)
+
+no_nesting : (form : Form) (names : Names) (ts : List Symbol) → may_omit form ≡ true → begins (begins_params names) ts ≡ true → after_nesting form names (Sign marks.OpenParen ∷ ts) ≡ None
+no_nesting form names ts o h = rw (o, h) refl
+
+unnamed_no_nesting : (form : Form) (names : Names) (es : Syntaxes) (r : List Symbol) → may_omit form ≡ true → AreSuffixes names es → begins (goes_on_declaring names) r ≡ false → after_nesting form names (phrase_then (row_phrase es) r) ≡ None
+unnamed_no_nesting form names no_more r o w s =
+    let a = after_none (is_sign marks.OpenParen) r (narrower begins_suffix (is_sign marks.OpenParen) r (λ t h. (neither (is_sign marks.OpenBracket t) (is_sign marks.OpenParen t) h).1) (ends_suffix names r s)) in
+    rw a refl
+unnamed_no_nesting form names (more (Part (ArrayBound words bound)) es) r o w s = refl
+unnamed_no_nesting form names (more (Part VoidParams) es) r o w s = no_nesting form names (Reserved words.Void ∷ Sign marks.CloseParen ∷ phrase_then (row_phrase es) r) o refl
+unnamed_no_nesting form names (more (Part (Params params variadic)) es) r o w s =
+    no_nesting form names (phrase_then (list_phrase params) (phrase_then (ellipsis_if variadic) (Sign marks.CloseParen ∷ phrase_then (row_phrase es) r))) o (params_begin names params variadic (phrase_then (row_phrase es) r) w.0.0 w.0.1)
+unnamed_no_nesting form names (more _ es) r o w s = absurd w.0
+
+unnamed-complete : (inner : Reader) (n : ℕ) (form : Form) (names : Names) (pointers : List Symbol) (es : Syntaxes) (r : List Symbol) → Knows inner n → IsDeclarator form names (Declarator (Unnamed pointers es))
+    → height_of (Declarator (Unnamed pointers es)) ≤ suc n → begins (goes_on_declaring names) r ≡ false
+    → read_declarator inner (suc n) form names (tokens_then (Declarator (Unnamed pointers es)) r) ≡ Some (Declarator (Unnamed pointers es), r)
+unnamed-complete inner n form names pointers es r k w h s =
+    let Z = phrase_then (row_phrase es) r in
+    let c = take_symbol_none is_word Z (suffixes_begin is_word names es r refl refl w.2 (ends_word names r s)) in
+    let F : Option (Symbol × List Symbol) → Option (Symbol × List Symbol) = λ o. cond (may_name form) o None in
+    let a : take_name form Z ≡ None = ap F c ∙ cond_none (may_name form) in
+    direct-complete inner (suc n) form names pointers Z (Some (Declarator (Unnamed pointers es), r)) w.1 (suffixes_begin is_pointer_word names es r refl refl w.2 (ends_pointers names r s))
+    (rw (a, unnamed_no_nesting form names es r w.0 w.2 s, w.0, suffixes-complete inner n names es r k w.2 (omega arith) (ends_suffix names r s), w.3)
+    (made_low (suc n) (Declarator (Unnamed pointers es)) r h))
+
+pub declarator-complete : (inner : Reader) (n : ℕ) (form : Form) (names : Names) (e : Syntax) (r : List Symbol) → Knows inner n → IsDeclarator form names e → height_of e ≤ suc n → begins (goes_on_declaring names) r ≡ false
+    → read_declarator inner (suc n) form names (tokens_then e r) ≡ Some (e, r)
+declarator-complete inner n form names (Declarator (Named pointers name es)) r k w h s = named-complete inner n form names pointers name es r k w h s
+declarator-complete inner n form names (Declarator (Nested pointers e es)) r k w h s = nested-complete inner n form names pointers e es r k w h s
+declarator-complete inner n form names (Declarator (Unnamed pointers es)) r k w h s = unnamed-complete inner n form names pointers es r k w h s
+declarator-complete inner n form names _ r k w h s = absurd w
+
+-- a declarator doesn't go on with the specifiers before it
+before_declarator : (form : Form) (names : Names) (e : Syntax) (r : List Symbol) → IsDeclarator form names e → begins (goes_on names true) (tokens_then e r) ≡ false
+before_declarator form names e r w = differ (begins_declarator form) (goes_on names true) (tokens_then e r) (declarator_no_specifier form names) (declarator_begins form names e r w)
+
+pub type_name-complete : (inner : Reader) (n : ℕ) (names : Names) (e : Syntax) (r : List Symbol) → Knows inner n → IsTypeName names e → height_of e ≤ suc n → begins (goes_on_declaring names) r ≡ false
+    → read_type_name inner (suc n) names (tokens_then e r) ≡ Some (e, r)
+type_name-complete inner n names (Specifier (TypeName specs absent)) r k w h s =
+    rw (k (Specifiers InTypeName) names specs r w.0 (omega arith) (ends_specifiers names r s), ends_declarator Abstract names r s) (made_low (suc n) (Specifier (TypeName specs absent)) r h)
+type_name-complete inner n names (Specifier (TypeName specs (present d))) r k w h s =
+    rw (
+      k (Specifiers InTypeName) names specs (tokens_then d r) w.0 (omega arith) (before_declarator Abstract names d r w.1),
+      declarator_begins Abstract names d r w.1,
+      k (DeclaratorIn Abstract) names d r w.1 (omega arith) s,
+    ) (made_low (suc n) (Specifier (TypeName specs (present d))) r h)
+type_name-complete inner n names _ r k w h s = absurd w
+
+pub param-complete : (inner : Reader) (n : ℕ) (names : Names) (e : Syntax) (r : List Symbol) → Knows inner n → IsParam names e → height_of e ≤ suc n → begins (goes_on_declaring names) r ≡ false
+    → read_param inner (suc n) names (tokens_then e r) ≡ Some (e, r)
+param-complete inner n names (Specifier (Param specs absent)) r k w h s =
+    rw (k (Specifiers InParam) names specs r w.0 (omega arith) (ends_specifiers names r s), ends_declarator Either names r s) (made_low (suc n) (Specifier (Param specs absent)) r h)
+param-complete inner n names (Specifier (Param specs (present d))) r k w h s =
+    rw (
+      k (Specifiers InParam) names specs (tokens_then d r) w.0 (omega arith) (before_declarator Either names d r w.1),
+      declarator_begins Either names d r w.1,
+      k (DeclaratorIn Either) names d r w.1 (omega arith) s,
+    ) (made_low (suc n) (Specifier (Param specs (present d))) r h)
+param-complete inner n names _ r k w h s = absurd w
