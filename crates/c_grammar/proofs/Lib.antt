@@ -12,3 +12,5 @@ pub mod Longer
 pub mod Begins
 pub mod CompleteSpecifiers
 pub mod CompleteDeclarators
+pub mod Stops
+pub mod CompleteExpressions
