@@ -12,7 +12,7 @@ use Rattle.c_tree.specs.Height.{height_of, height_in}
 use Rattle.c_tree.specs.Phrase.{phrase_then}
 use Rattle.c_tree.specs.Tokens.{phrase_of, binary_sign, assign_sign, row_phrase, list_phrase, more_phrase, tokens_then}
 use Rattle.c_grammar.specs.Symbols.{is_word, is_string, after_sign, begins, take_symbol, run_of, after_run}
-use Rattle.c_grammar.specs.Levels.{postfix_level, unary_level, cast_level, conditional_level, assignment_level, comma_level, level_of, unary_grade, operand_level, grade}
+use Rattle.c_grammar.specs.Levels.{postfix_level, unary_level, cast_level, logical_or_level, conditional_level, assignment_level, comma_level, level_of, unary_grade, operand_level, grade}
 use Rattle.c_grammar.specs.Names.{Names, is_type}
 use Rattle.c_grammar.specs.Nonterminal.{Expression, NameOfType}
 use Rattle.c_grammar.specs.Grammar.{IsExpr, IsPrimary, AreArguments, IsPath}
@@ -202,3 +202,163 @@ unary-complete inner n names (Operation (Binary op left right)) r k w g h s = le
 unary-complete inner n names (Operation (Cond condition then otherwise)) r k w g h s = absurd (omega arith)
 unary-complete inner n names (Operation (Assign op left right)) r k w g h s = absurd (omega arith)
 unary-complete inner n names _ r k w g h s = absurd w
+
+-- a unary expression where a cast may stand
+unary-alone : (inner : Reader) (n : ℕ) (names : Names) (e : Syntax) (r : List Symbol) → Knows inner n → IsExpr names e → grade e ≤ unary_level → height_of e ≤ suc n → Stops postfix_level r
+    → read_cast inner (suc n) names (tokens_then e r) ≡ Some (e, r)
+unary-alone inner n names e r k w g h s = rw (unary_no_cast names e r w g) (unary-complete inner n names e r k w g h s)
+
+cast-complete : (inner : Reader) (n : ℕ) (names : Names) (e : Syntax) (r : List Symbol) → Knows inner n → IsExpr names e → grade e ≤ cast_level → height_of e ≤ suc n → Stops postfix_level r
+    → read_cast inner (suc n) names (tokens_then e r) ≡ Some (e, r)
+cast-complete inner n names (Primary p) r k w g h s = unary-alone inner n names (Primary p) r k w (omega arith) h s
+cast-complete inner n names (Operation (Index array index)) r k w g h s = unary-alone inner n names (Operation (Index array index)) r k w (omega arith) h s
+cast-complete inner n names (Operation (Call callee arguments)) r k w g h s = unary-alone inner n names (Operation (Call callee arguments)) r k w (omega arith) h s
+cast-complete inner n names (Operation (Member operand member)) r k w g h s = unary-alone inner n names (Operation (Member operand member)) r k w (omega arith) h s
+cast-complete inner n names (Operation (Arrow operand member)) r k w g h s = unary-alone inner n names (Operation (Arrow operand member)) r k w (omega arith) h s
+cast-complete inner n names (Operation (Unary op e)) r k w g h s = unary-alone inner n names (Operation (Unary op e)) r k w (unary_low op) h s
+cast-complete inner n names (Operation (SizeofType of)) r k w g h s = unary-alone inner n names (Operation (SizeofType of)) r k w (omega arith) h s
+cast-complete inner n names (Operation (Cast to e)) r k w g h s =
+    let X = Sign marks.CloseParen ∷ tokens_then e r in
+    rw (type_name_begins names to X w.0, k NameOfType names to X w.0 (omega arith) refl, k (Expression cast_level) names e r (w.1, w.2) (omega arith) (stops-cast r s)) (made_low (suc n) (Operation (Cast to e)) r h)
+cast-complete inner n names (Operation (Binary op left right)) r k w g h s = let a = level_above op in absurd (omega arith)
+cast-complete inner n names (Operation (Cond condition then otherwise)) r k w g h s = absurd (omega arith)
+cast-complete inner n names (Operation (Assign op left right)) r k w g h s = absurd (omega arith)
+cast-complete inner n names _ r k w g h s = absurd w
+
+-- this reader finds each expression of at most this height at this level
+abbrev Climbs : (List Symbol → Option Found) → ℕ → Names → ℕ → Type 0
+Climbs reads m names level = (e : Syntax) (r : List Symbol) → IsExpr names e → grade e ≤ level → height_of e ≤ m → Stops level r → reads (tokens_then e r) ≡ Some (e, r)
+
+-- the operators of this level on the left
+abbrev op_depth : ℕ → Syntax → ℕ
+op_depth level (Operation (Binary op left right)) = cond (nat_eq (level_of op) level) (op_depth level left + 1) 0
+op_depth level _ = 0
+
+op_depth-height : (level : ℕ) (names : Names) (e : Syntax) → IsExpr names e → op_depth level e < height_of e
+op_depth-height level names (Operation (Binary op left right)) w =
+    let a = op_depth-height level names left w.1 in
+    elim (nat_eq (level_of op) level) as (λ b. cond b (op_depth level left + 1) 0 < max (height_of left) (height_of right) + 1) [ true ↦ omega arith | false ↦ omega arith ]
+op_depth-height level names (Operation _) w = omega arith
+op_depth-height level names (Primary p) w = positive p
+op_depth-height level names _ w = absurd w
+
+-- an operand, and the operators of one level behind it
+abbrev then_chain : (List Symbol → Option Found) → Reader → ℕ → Names → ℕ → List Symbol → Option Found
+then_chain reads inner m names level ts = reads ts >>= λ left. read_chain inner m names level m left.0 left.1
+
+-- an operand alone
+operand : (reads : List Symbol → Option Found) (inner : Reader) (m level f : ℕ) (names : Names) (e : Syntax) (r : List Symbol) → reads (tokens_then e r) ≡ Some (e, r) → f ≡ m
+    → then_chain reads inner m names level (tokens_then e r) ≡ read_chain inner m names level f e r
+operand reads inner m level f names e r h q = rw h (ap (λ x. read_chain inner m names level x e r) (sym q))
+
+-- the right operand joins
+joined : (inner : Reader) (m l f : ℕ) (names : Names) (op : BinaryOp) (left right : Syntax) (r : List Symbol) → level_of op ≡ suc l → inner (Expression l) names (tokens_then right r) ≡ Some (right, r) → height_of (Operation (Binary op left right)) ≤ m
+    → read_chain inner m names (suc l) (suc f) left (Sign (binary_sign op) ∷ tokens_then right r) ≡ read_chain inner m names (suc l) f (Operation (Binary op left right)) r
+unfolding read_chain
+joined inner m l f names op left right r e h b =
+    let X = tokens_then right r in
+    let o : take_binary (suc l) (Sign (binary_sign op) ∷ X) ≡ Some (op, X) = subst (λ x. take_binary x (Sign (binary_sign op) ∷ X) ≡ Some (op, X)) e (take_binary-here op X) in
+    let p : suc l - 1 ≡ l = omega arith in
+    rw (o, p, h, made_low m (Operation (Binary op left right)) r b) refl
+
+-- An expression of the level suc l is read up to the point where its own operators of this level have been taken. No
+-- conditional expression and no assignment stands at this level alone.
+spine-complete : (reads : List Symbol → Option Found) (inner : Reader) (n l : ℕ) (names : Names) → Knows inner n → cast_level ≤ l → (conditional_level ≤ suc l → conditional_level ≤ l) → (assignment_level ≤ suc l → assignment_level ≤ l) → Climbs reads (suc n) names l
+    → (e : Syntax) (f : ℕ) (r : List Symbol) → f + op_depth (suc l) e ≡ suc n → IsExpr names e → grade e ≤ suc l → height_of e ≤ suc n → Stops l r
+    → then_chain reads inner (suc n) names (suc l) (tokens_then e r) ≡ read_chain inner (suc n) names (suc l) f e r
+spine-complete reads inner n l names k a b c t (Primary p) f r d w g h s = operand reads inner (suc n) (suc l) f names (Primary p) r (t (Primary p) r w (omega arith) h s) (omega arith)
+spine-complete reads inner n l names k a b c t (Operation (Index array index)) f r d w g h s = operand reads inner (suc n) (suc l) f names (Operation (Index array index)) r (t (Operation (Index array index)) r w (omega arith) h s) (omega arith)
+spine-complete reads inner n l names k a b c t (Operation (Call callee arguments)) f r d w g h s = operand reads inner (suc n) (suc l) f names (Operation (Call callee arguments)) r (t (Operation (Call callee arguments)) r w (omega arith) h s) (omega arith)
+spine-complete reads inner n l names k a b c t (Operation (Member e member)) f r d w g h s = operand reads inner (suc n) (suc l) f names (Operation (Member e member)) r (t (Operation (Member e member)) r w (omega arith) h s) (omega arith)
+spine-complete reads inner n l names k a b c t (Operation (Arrow e member)) f r d w g h s = operand reads inner (suc n) (suc l) f names (Operation (Arrow e member)) r (t (Operation (Arrow e member)) r w (omega arith) h s) (omega arith)
+spine-complete reads inner n l names k a b c t (Operation (Unary op e)) f r d w g h s = let u = unary_low op in operand reads inner (suc n) (suc l) f names (Operation (Unary op e)) r (t (Operation (Unary op e)) r w (omega arith) h s) (omega arith)
+spine-complete reads inner n l names k a b c t (Operation (SizeofType of)) f r d w g h s = operand reads inner (suc n) (suc l) f names (Operation (SizeofType of)) r (t (Operation (SizeofType of)) r w (omega arith) h s) (omega arith)
+spine-complete reads inner n l names k a b c t (Operation (Cast to e)) f r d w g h s = operand reads inner (suc n) (suc l) f names (Operation (Cast to e)) r (t (Operation (Cast to e)) r w (omega arith) h s) (omega arith)
+spine-complete reads inner n l names k a b c t (Operation (Cond condition then otherwise)) f r d w g h s = operand reads inner (suc n) (suc l) f names (Operation (Cond condition then otherwise)) r (t (Operation (Cond condition then otherwise)) r w (b g) h s) (omega arith)
+spine-complete reads inner n l names k a b c t (Operation (Assign op left right)) f r d w g h s = operand reads inner (suc n) (suc l) f names (Operation (Assign op left right)) r (t (Operation (Assign op left right)) r w (c g) h s) (omega arith)
+spine-complete reads inner n l names k a b c t (Operation (Binary op left right)) f r d w g h s =
+    let e = Operation (Binary op left right) in
+    elim (which (nat_eq (level_of op) (suc l)) (op_depth (suc l) left + 1) 0 _ refl) as (λ _. then_chain reads inner (suc n) names (suc l) (tokens_then e r) ≡ read_chain inner (suc n) names (suc l) f e r) [
+      | inl p ↦
+          let q : level_of op ≡ suc l = grind (arith, p.0) in
+          let u = p.1 in
+          let v = binary_weighs op in
+          spine-complete reads inner n l names k a b c t left (suc f) (Sign (binary_sign op) ∷ tokens_then right r) (omega arith) w.1 (omega (arith, w.0)) (omega arith) (omega arith)
+          ∙ joined inner (suc n) l f names op left right r q (k (Expression l) names right r (omega (arith, w.2), w.3) (omega arith) s) h
+      | inr p ↦
+          let u = p.1 in
+          let q : level_of op ≤ l = grind (arith, p.0) in
+          operand reads inner (suc n) (suc l) f names e r (t e r w q h s) (omega arith)
+    ]
+spine-complete reads inner n l names k a b c t _ f r d w g h s = absurd w
+
+chain-end : (inner : Reader) (m level f : ℕ) (names : Names) (e : Syntax) (r : List Symbol) → take_binary level r ≡ None → read_chain inner m names level f e r ≡ Some (e, r)
+unfolding read_chain
+chain-end inner m level zero names e r h = rw h refl
+chain-end inner m level (suc f) names e r h = rw h refl
+
+chain-complete : (reads : List Symbol → Option Found) (inner : Reader) (n l : ℕ) (names : Names) → Knows inner n → cast_level ≤ l → (conditional_level ≤ suc l → conditional_level ≤ l) → (assignment_level ≤ suc l → assignment_level ≤ l) → Climbs reads (suc n) names l
+    → Climbs (then_chain reads inner (suc n) names (suc l)) (suc n) names (suc l)
+chain-complete reads inner n l names k a b c t e r w g h s =
+    let d = op_depth-height (suc l) names e w in
+    spine-complete reads inner n l names k a b c t e (suc n - op_depth (suc l) e) r (omega arith) w g h (stops-lower l (suc l) r (omega arith) s)
+    ∙ chain-end inner (suc n) (suc l) (suc n - op_depth (suc l) e) names e r (stops-binary (suc l) r s)
+
+pub binary-complete : (inner : Reader) (n : ℕ) (names : Names) (j : ℕ) → Knows inner n → j ≤ 10 → Climbs (read_binary inner (suc n) names j) (suc n) names (j + 2)
+unfolding read_binary
+binary-complete inner n names zero k q e r w g h s = cast-complete inner n names e r k w g h (stops-lower postfix_level cast_level r (omega arith) s)
+binary-complete inner n names (suc j) k q e r w g h s =
+    let a : suc (j + 2) ≡ j + 3 = omega arith in
+    let F : ℕ → Option Found = λ x. then_chain (read_binary inner (suc n) names j) inner (suc n) names x (tokens_then e r) in
+    ap F (sym a)
+    ∙ chain-complete (read_binary inner (suc n) names j) inner n (j + 2) names k (omega arith) (λ x. absurd (omega arith)) (λ x. absurd (omega arith)) (binary-complete inner n names j k (omega arith)) e r
+        w (omega arith) h (stops-lower (suc (j + 2)) (suc j + 2) r (omega arith) s)
+
+-- no binary operator stands at the levels of conditional expressions and assignments
+binary_low : (op : BinaryOp) → level_of op ≤ assignment_level → level_of op ≤ logical_or_level
+binary_low binary.Comma h = absurd (omega arith)
+binary_low _ h = omega arith
+
+-- no "?" behind it
+binary-alone : (inner : Reader) (n : ℕ) (names : Names) → Knows inner n → (e : Syntax) (r : List Symbol) → IsExpr names e → grade e ≤ logical_or_level → height_of e ≤ suc n → Stops conditional_level r
+    → read_conditional inner (suc n) names (tokens_then e r) ≡ Some (e, r)
+binary-alone inner n names k e r w g h s = rw (binary-complete inner n names 10 k (omega arith) e r w g h (stops-lower logical_or_level conditional_level r (omega arith) s), stops-question r s) refl
+
+pub conditional-complete : (inner : Reader) (n : ℕ) (names : Names) → Knows inner n → Climbs (read_conditional inner (suc n) names) (suc n) names conditional_level
+conditional-complete inner n names k (Operation (Cond condition then otherwise)) r w g h s =
+    let X = tokens_then then (Sign marks.Colon ∷ tokens_then otherwise r) in
+    rw (
+      binary-complete inner n names 10 k (omega arith) condition (Sign marks.Question ∷ X) w.1 w.0 (omega arith) (omega arith),
+      k (Expression comma_level) names then (Sign marks.Colon ∷ tokens_then otherwise r) (grade_low then, w.2) (omega arith) (omega arith),
+      k (Expression conditional_level) names otherwise r (w.3, w.4) (omega arith) s,
+    ) (made_low (suc n) (Operation (Cond condition then otherwise)) r h)
+conditional-complete inner n names k (Operation (Binary op left right)) r w g h s = binary-alone inner n names k (Operation (Binary op left right)) r w (binary_low op (omega arith)) h s
+conditional-complete inner n names k (Operation (Assign op left right)) r w g h s = absurd (omega arith)
+conditional-complete inner n names k (Operation (Unary op e)) r w g h s = let a = unary_low op in binary-alone inner n names k (Operation (Unary op e)) r w (omega arith) h s
+conditional-complete inner n names k (Operation o) r w g h s = binary-alone inner n names k (Operation o) r w (omega arith) h s
+conditional-complete inner n names k (Primary p) r w g h s = binary-alone inner n names k (Primary p) r w (omega arith) h s
+conditional-complete inner n names k _ r w g h s = absurd w
+
+-- no assignment behind it
+conditional-alone : (inner : Reader) (n : ℕ) (names : Names) → Knows inner n → (e : Syntax) (r : List Symbol) → IsExpr names e → grade e ≤ conditional_level → height_of e ≤ suc n → Stops assignment_level r
+    → read_assignment inner (suc n) names (tokens_then e r) ≡ Some (e, r)
+conditional-alone inner n names k e r w g h s = rw (conditional-complete inner n names k e r w g h (stops-lower conditional_level assignment_level r (omega arith) s), stops-assign r s) refl
+
+pub assignment-complete : (inner : Reader) (n : ℕ) (names : Names) → Knows inner n → Climbs (read_assignment inner (suc n) names) (suc n) names assignment_level
+assignment-complete inner n names k (Operation (Assign op left right)) r w g h s =
+    let X = tokens_then right r in
+    let a = assign_weighs op in
+    rw (
+      conditional-complete inner n names k left (Sign (assign_sign op) ∷ X) w.1 (omega (arith, w.0)) (omega arith) (omega arith),
+      take_assign-here op X,
+      low (grade left) unary_level w.0,
+      k (Expression assignment_level) names right r (w.2, w.3) (omega arith) s,
+    ) (made_low (suc n) (Operation (Assign op left right)) r h)
+assignment-complete inner n names k (Operation (Binary op left right)) r w g h s = let a = binary_low op g in conditional-alone inner n names k (Operation (Binary op left right)) r w (omega arith) h s
+assignment-complete inner n names k (Operation (Unary op e)) r w g h s = let a = unary_low op in conditional-alone inner n names k (Operation (Unary op e)) r w (omega arith) h s
+assignment-complete inner n names k (Operation o) r w g h s = conditional-alone inner n names k (Operation o) r w (omega arith) h s
+assignment-complete inner n names k (Primary p) r w g h s = conditional-alone inner n names k (Primary p) r w (omega arith) h s
+assignment-complete inner n names k _ r w g h s = absurd w
+
+pub commas-complete : (inner : Reader) (n : ℕ) (names : Names) → Knows inner n → Climbs (read_commas inner (suc n) names) (suc n) names comma_level
+commas-complete inner n names k e r w g h s = chain-complete (read_assignment inner (suc n) names) inner n assignment_level names k (omega arith) (λ x. omega arith) (λ x. omega arith) (assignment-complete inner n names k) e r w g h s
