@@ -19,7 +19,7 @@ use Rattle.c_grammar.specs.Grammar.{IsExpr, IsPrimary, AreArguments, IsPath}
 use Rattle.c_grammar.specs.Found.{◌>>=◌, if_there, Found, made, Reader}
 use Rattle.c_grammar.specs.Following.{weight, Stops}
 use Rattle.c_grammar.specs.ExpressionSteps.{read_path, read_primary, read_more_arguments, read_arguments, begins_postfix, read_postfix_operators, read_postfix, read_unary, read_cast, take_binary, read_chain, read_binary, read_conditional, read_assignment, read_commas, read_expression}
-use Rattle.c_grammar.proofs.Options.{made_low, which, low}
+use Rattle.c_grammar.proofs.Options.{made_low, which, at_most, above, low}
 use Rattle.c_grammar.proofs.Front.{take_symbol_here, run_of-here, after_run-here, take_binary-here, take_assign-here}
 use Rattle.c_grammar.proofs.Readers.{Knows}
 use Rattle.c_grammar.proofs.Longer.{count, longer, longer_more, longer_path}
@@ -107,7 +107,7 @@ depth (Operation (Arrow operand member)) = depth operand + 1
 depth (Operation (Unary op operand)) = depth operand + 1
 depth _ = 0
 
-positive : (p : PrimarySyntax) → 0 < height_of (Primary p)
+pub positive : (p : PrimarySyntax) → 0 < height_of (Primary p)
 positive (Ident name) = omega arith
 positive _ = omega arith
 
@@ -362,3 +362,17 @@ assignment-complete inner n names k _ r w g h s = absurd w
 
 pub commas-complete : (inner : Reader) (n : ℕ) (names : Names) → Knows inner n → Climbs (read_commas inner (suc n) names) (suc n) names comma_level
 commas-complete inner n names k e r w g h s = chain-complete (read_assignment inner (suc n) names) inner n assignment_level names k (omega arith) (λ x. omega arith) (λ x. omega arith) (assignment-complete inner n names k) e r w g h s
+
+decide : {A : Type 0} (b : Bool) (x y z : A) → (b ≡ true → x ≡ z) → (b ≡ false → y ≡ z) → cond b x y ≡ z
+decide true x y z f g = f refl
+decide false x y z f g = g refl
+
+pub expression-complete : (inner : Reader) (n level : ℕ) (names : Names) (e : Syntax) (r : List Symbol) → Knows inner n → grade e ≤ level → IsExpr names e → height_of e ≤ suc n → Stops level r
+    → read_expression inner (suc n) level names (tokens_then e r) ≡ Some (e, r)
+expression-complete inner n level names e r k g w h s =
+    decide (nat_le comma_level level) _ _ _ (λ b. let a = at_most comma_level level b in commas-complete inner n names k e r w (grade_low e) h (stops-lower comma_level level r a s)) (λ b15. let a15 = above comma_level level b15 in
+    decide (nat_le assignment_level level) _ _ _ (λ b. let a = at_most assignment_level level b in assignment-complete inner n names k e r w (omega arith) h (stops-lower assignment_level level r a s)) (λ b14. let a14 = above assignment_level level b14 in
+    decide (nat_le conditional_level level) _ _ _ (λ b. let a = at_most conditional_level level b in conditional-complete inner n names k e r w (omega arith) h (stops-lower conditional_level level r a s)) (λ b13. let a13 = above conditional_level level b13 in
+    decide (nat_le cast_level level) _ _ _ (λ b. let a = at_most cast_level level b in binary-complete inner n names (level - cast_level) k (omega arith) e r w (omega arith) h (stops-lower (level - cast_level + 2) level r (omega arith) s)) (λ b2. let a2 = above cast_level level b2 in
+    decide (nat_le unary_level level) _ _ _ (λ b. unary-complete inner n names e r k w (omega arith) h (stops-lower postfix_level level r (omega arith) s)) (λ b1. let a1 = above unary_level level b1 in
+    postfix-complete inner n names e r k w (omega arith) h (stops-lower postfix_level level r (omega arith) s))))))

@@ -14,3 +14,4 @@ pub mod CompleteSpecifiers
 pub mod CompleteDeclarators
 pub mod Stops
 pub mod CompleteExpressions
+pub mod Complete

@@ -2,6 +2,8 @@
 // caller's proof.
 
 ghost use Rattle.c_grammar.specs.Theorems.{
+  ParsesAreRead,
+  ParsesAreUnique,
   ReadingIsComplete,
   ReadingIsSound,
 };
@@ -16,4 +18,14 @@ pub fn reading_is_sound()
 /// what follows them doesn't go on with it.
 pub fn reading_is_complete()
     ensures { ReadingIsComplete }
+{}
+
+/// The plain reader finds a tree of all symbols just where it is their parse.
+pub fn parses_are_read()
+    ensures { ParsesAreRead }
+{}
+
+/// No symbols have two parses.
+pub fn parses_are_unique()
+    ensures { ParsesAreUnique }
 {}
