@@ -17,8 +17,8 @@ use Rattle.c_grammar.specs.Symbols.{is_sign, is_keyword, is_word, after_sign, af
 use Rattle.c_grammar.specs.Levels.{postfix_level, unary_level, grade, prefix_of, level_of}
 use Rattle.c_grammar.specs.Names.{Names, is_type}
 use Rattle.c_grammar.specs.Specifiers.{InTypeName, InParam, begins_specifiers, goes_on}
-use Rattle.c_grammar.specs.Nonterminal.{Form, may_name, may_omit}
-use Rattle.c_grammar.specs.Grammar.{IsExpr, IsTypeName, IsDeclarator, AreSuffixes, IsParam, is_bound_word, is_pointer_word}
+use Rattle.c_grammar.specs.Nonterminal.{Form, WithName, Abstract, Either, may_name, may_omit}
+use Rattle.c_grammar.specs.Grammar.{IsExpr, IsTypeName, IsDeclarator, AreSuffixes, IsParam, is_bound_word, is_taken_as_type}
 use Rattle.c_grammar.specs.Found.{◌>>=◌}
 use Rattle.c_grammar.specs.DeclaratorSteps.{begins_suffix, begins_declarator, begins_params}
 use Rattle.c_grammar.specs.ExpressionSteps.{take_prefix, after_type_paren}
@@ -29,6 +29,16 @@ use Rattle.c_grammar.proofs.CompleteSpecifiers.{specifiers_begin}
 pub differ : (p q : Symbol → Bool) (ts : List Symbol) → ((t : Symbol) → p t ≡ true → q t ≡ false) → begins p ts ≡ true → begins q ts ≡ false
 differ p q [] d h = refl
 differ p q (t ∷ ts) d h = d t h
+
+-- what doesn't begin with the one doesn't begin with the other
+pub narrower : (p q : Symbol → Bool) (ts : List Symbol) → ((t : Symbol) → p t ≡ false → q t ≡ false) → begins p ts ≡ false → begins q ts ≡ false
+narrower p q [] d h = refl
+narrower p q (t ∷ ts) d h = d t h
+
+-- what begins with the one begins with the other
+pub wider : (p q : Symbol → Bool) (ts : List Symbol) → ((t : Symbol) → p t ≡ true → q t ≡ true) → begins p ts ≡ true → begins q ts ≡ true
+wider p q [] d h = h
+wider p q (t ∷ ts) d h = d t h
 
 -- a primary expression, and so a postfix one, may begin with this symbol
 abbrev pub begins_primary : Names → Symbol → Bool
@@ -227,3 +237,54 @@ declarator_begins form names (Declarator (Unnamed [] (more (Part (Params params 
 declarator_begins form names (Declarator (Unnamed [] (more _ es))) ts w = absurd w.2.0
 declarator_begins form names (Declarator (Unnamed (t ∷ pointers) suffixes)) ts w = star_begins form t w.1.0
 declarator_begins form names _ ts w = absurd w
+
+-- what begins a declarator is no parenthesis that closes, and no specifier
+pub declarator_no_close : (form : Form) (t : Symbol) → begins_declarator form t ≡ true → is_sign marks.CloseParen t ≡ false
+declarator_no_close WithName (Sign marks.CloseParen) h = cc
+declarator_no_close Abstract (Sign marks.CloseParen) h = cc
+declarator_no_close Either (Sign marks.CloseParen) h = cc
+declarator_no_close form _ h = refl
+
+pub declarator_no_specifier : (form : Form) (names : Names) (t : Symbol) → begins_declarator form t ≡ true → goes_on names true t ≡ false
+declarator_no_specifier WithName names (Reserved k) h = cc
+declarator_no_specifier Abstract names (Reserved k) h = cc
+declarator_no_specifier Either names (Reserved k) h = cc
+declarator_no_specifier form names _ h = refl
+
+-- a declarator doesn't go on with the specifiers before it
+pub before_declarator : (form : Form) (names : Names) (e : Syntax) (r : List Symbol) → IsDeclarator form names e → begins (goes_on names true) (tokens_then e r) ≡ false
+before_declarator form names e r w = differ (begins_declarator form) (goes_on names true) (tokens_then e r) (declarator_no_specifier form names) (declarator_begins form names e r w)
+
+-- what begins a declarator without a name begins no parameters
+abstract_no_params : (names : Names) (t : Symbol) → begins_declarator Abstract t ≡ true → begins_params names t ≡ false
+abstract_no_params names (Sign marks.Star) h = refl
+abstract_no_params names (Sign marks.OpenBracket) h = refl
+abstract_no_params names (Sign marks.OpenParen) h = refl
+abstract_no_params names _ h = cc
+
+star_no_params : (names : Names) (t : Symbol) → is_sign marks.Star t ≡ true → begins_params names t ≡ false
+star_no_params names (Sign marks.Star) h = refl
+star_no_params names _ h = cc
+
+ordinary_no_params : (names : Names) (name : ℕ) → is_type names name ≡ false → begins_params names (Word name) ≡ false
+ordinary_no_params names name h = let F : Bool → Bool = λ b. false || ((not false && b) || false) in ap F h
+
+-- nor does one in parentheses that may have a name
+either_no_params : (names : Names) (e : Syntax) (r : List Symbol) → IsDeclarator Either names e → is_taken_as_type Either names e ≡ false → begins (begins_params names) (tokens_then e r) ≡ false
+either_no_params names (Declarator (Named [] (Word name) es)) r w h = ordinary_no_params names name h
+either_no_params names (Declarator (Named [] _ es)) r w h = let a = w.2 in cc
+either_no_params names (Declarator (Named (t ∷ ts) name es)) r w h = star_no_params names t w.1.0
+either_no_params names (Declarator (Nested [] inner es)) r w h = refl
+either_no_params names (Declarator (Nested (t ∷ ts) inner es)) r w h = star_no_params names t w.0.0
+either_no_params names (Declarator (Unnamed [] no_more)) r w h = let a = w.3 in cc
+either_no_params names (Declarator (Unnamed [] (more (Part (ArrayBound words bound)) es))) r w h = refl
+either_no_params names (Declarator (Unnamed [] (more (Part VoidParams) es))) r w h = refl
+either_no_params names (Declarator (Unnamed [] (more (Part (Params params variadic)) es))) r w h = refl
+either_no_params names (Declarator (Unnamed [] (more _ es))) r w h = absurd w.2.0
+either_no_params names (Declarator (Unnamed (t ∷ ts) es)) r w h = star_no_params names t w.1.0
+either_no_params names _ r w h = absurd w
+
+pub nested_no_params : (form : Form) (names : Names) (e : Syntax) (r : List Symbol) → IsDeclarator form names e → is_taken_as_type form names e ≡ false → (may_omit form && begins (begins_params names) (tokens_then e r)) ≡ false
+nested_no_params WithName names e r w h = refl
+nested_no_params Abstract names e r w h = differ (begins_declarator Abstract) (begins_params names) (tokens_then e r) (abstract_no_params names) (declarator_begins Abstract names e r w)
+nested_no_params Either names e r w h = either_no_params names e r w h

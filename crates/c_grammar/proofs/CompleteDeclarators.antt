@@ -17,11 +17,12 @@ use Rattle.c_grammar.specs.Grammar.{IsTag, AreItems, IsMaybeDeclarator, IsTypeNa
 use Rattle.c_grammar.specs.Found.{◌>>=◌, if_there, Found, Reader}
 use Rattle.c_grammar.specs.Following.{goes_on_declaring}
 use Rattle.c_grammar.specs.DeclaratorSteps.{read_bound, read_params, after_void, read_param_list, begins_suffix, read_suffix, read_suffixes, pointers_of, after_pointers, begins_params, take_name, after_nesting, read_direct, read_declarator, begins_declarator, read_type_name, read_param}
-use Rattle.c_grammar.proofs.Options.{made_low, neither}
+use Rattle.c_grammar.proofs.Options.{made_low, neither, or_true}
 use Rattle.c_grammar.proofs.Front.{after_none, take_symbol_here, take_symbol_none, run_of-here, after_run-here}
 use Rattle.c_grammar.proofs.Readers.{Knows}
 use Rattle.c_grammar.proofs.Longer.{count, longer, longer_more, longer_suffixes}
-use Rattle.c_grammar.proofs.Begins.{differ, expression_no_sign, expression_no_bound_word, param_begins, param_no_sign, declarator_begins}
+use Rattle.c_grammar.proofs.Begins.{differ, narrower, wider, expression_no_sign, expression_no_bound_word, param_begins, param_no_sign, declarator_begins, declarator_no_close, before_declarator, nested_no_params}
+use Rattle.c_grammar.proofs.Stops.{ends_specifiers, ends_word, ends_suffix, ends_pointers, ends_declarator, no_star}
 use Rattle.c_grammar.proofs.CompleteSpecifiers.{fit_typed, item_no_sign}
 
 bound-complete : (inner : Reader) (n : ℕ) (names : Names) (words : List Symbol) (bound : MaybeSyntax) (r : List Symbol) → Knows inner n → IsBound names bound → height_maybe bound ≤ n
@@ -47,19 +48,6 @@ params-complete inner n names (suc f) e (more e2 es) variadic r k w h ws hs c =
       param_no_sign marks.Ellipsis (declared e names) e2 Y ws.0,
       params-complete inner n (declared e names) f e2 es variadic r k ws.0 (omega arith) ws.1 (omega arith) (omega arith),
     ) refl
-
--- what begins a declarator is no parenthesis that closes, and no specifier
-declarator_no_close : (form : Form) (t : Symbol) → begins_declarator form t ≡ true → is_sign marks.CloseParen t ≡ false
-declarator_no_close WithName (Sign marks.CloseParen) h = cc
-declarator_no_close Abstract (Sign marks.CloseParen) h = cc
-declarator_no_close Either (Sign marks.CloseParen) h = cc
-declarator_no_close form _ h = refl
-
-declarator_no_specifier : (form : Form) (names : Names) (t : Symbol) → begins_declarator form t ≡ true → goes_on names true t ≡ false
-declarator_no_specifier WithName names (Reserved k) h = cc
-declarator_no_specifier Abstract names (Reserved k) h = cc
-declarator_no_specifier Either names (Reserved k) h = cc
-declarator_no_specifier form names _ h = refl
 
 -- A parameter that begins with `void` isn't closed behind it, unless it is the only one.
 no_void_declarator : (names : Names) (declarator : MaybeSyntax) (es : Syntaxes) (variadic : Bool) (r : List Symbol)
@@ -144,63 +132,6 @@ suffixes-complete inner n names es r k w h s =
     let a = longer_suffixes names es r w in
     suffixes-more inner n names (length (phrase_then (row_phrase es) r)) es r k w h s (omega (arith, a))
 
--- what follows a declarator goes on with no part of it
-four : (a b c d : Bool) → (a || b || c || d) ≡ false → (a ≡ false) × (b ≡ false) × (c ≡ false) × (d ≡ false)
-four false false false false h = (refl, refl, refl, refl)
-four true b c d h = cc
-four false true c d h = cc
-four false false true d h = cc
-four false false false true h = cc
-
-ends : (names : Names) (t : Symbol) → goes_on_declaring names t ≡ false → (goes_on names true t ≡ false) × (is_word t ≡ false) × (is_sign marks.Star t ≡ false) × (begins_suffix t ≡ false)
-ends names t h = four (goes_on names true t) (is_word t) (is_sign marks.Star t) (begins_suffix t) h
-
--- what begins with neither
-narrower : (p q : Symbol → Bool) (ts : List Symbol) → ((t : Symbol) → p t ≡ false → q t ≡ false) → begins p ts ≡ false → begins q ts ≡ false
-narrower p q [] d h = refl
-narrower p q (t ∷ ts) d h = d t h
-
-ends_specifiers : (names : Names) (r : List Symbol) → begins (goes_on_declaring names) r ≡ false → begins (goes_on names true) r ≡ false
-ends_specifiers names r h = narrower (goes_on_declaring names) (goes_on names true) r (λ t x. (ends names t x).0) h
-
-ends_word : (names : Names) (r : List Symbol) → begins (goes_on_declaring names) r ≡ false → begins is_word r ≡ false
-ends_word names r h = narrower (goes_on_declaring names) is_word r (λ t x. (ends names t x).1) h
-
-ends_suffix : (names : Names) (r : List Symbol) → begins (goes_on_declaring names) r ≡ false → begins begins_suffix r ≡ false
-ends_suffix names r h = narrower (goes_on_declaring names) begins_suffix r (λ t x. (ends names t x).3) h
-
-no_pointer_word : (names : Names) (t : Symbol) → goes_on_declaring names t ≡ false → is_pointer_word t ≡ false
-no_pointer_word names (Reserved k) h =
-    let a = (ends names (Reserved k) h).0 in
-    let b = neither (is_storage k || is_inline k || is_qualifier k || is_type_word k) (is_tag_word k) a in
-    (four (is_storage k) (is_inline k) (is_qualifier k) (is_type_word k) b.0).2
-no_pointer_word names (Word name) h = (ends names (Word name) h).2
-no_pointer_word names (Sign p) h = (ends names (Sign p) h).2
-no_pointer_word names _ h = refl
-
-ends_pointers : (names : Names) (r : List Symbol) → begins (goes_on_declaring names) r ≡ false → begins is_pointer_word r ≡ false
-ends_pointers names r h = narrower (goes_on_declaring names) is_pointer_word r (no_pointer_word names) h
-
-no_declarator : (form : Form) (names : Names) (t : Symbol) → goes_on_declaring names t ≡ false → begins_declarator form t ≡ false
-no_declarator form names t h =
-    let a = ends names t h in
-    none (is_sign marks.Star t) (begins_suffix t) (may_name form) (is_word t) a.2 a.3 a.1
-  where
-    none : (a b c d : Bool) → a ≡ false → b ≡ false → d ≡ false → (a || b || (c && d)) ≡ false
-    none false false true false x y z = refl
-    none false false false d x y z = refl
-    none true b c d x y z = x
-    none false true c d x y z = y
-    none false false true true x y z = z
-
-ends_declarator : (form : Form) (names : Names) (r : List Symbol) → begins (goes_on_declaring names) r ≡ false → begins (begins_declarator form) r ≡ false
-ends_declarator form names r h = narrower (goes_on_declaring names) (begins_declarator form) r (no_declarator form names) h
-
-no_star : (t : Symbol) → is_pointer_word t ≡ false → is_sign marks.Star t ≡ false
-no_star (Reserved k) h = refl
-no_star (Sign p) h = h
-no_star _ h = refl
-
 -- the pointers in front are found
 pointers-complete : (pointers rest : List Symbol) → ArePointers pointers → begins is_pointer_word rest ≡ false → (pointers_of (pointers ++ rest) ≡ pointers) × (after_pointers (pointers ++ rest) ≡ rest)
 pointers-complete [] rest w h =
@@ -231,40 +162,6 @@ cond_none : {A : Type 0} (b : Bool) → ◌≡◌ {A = Option A} (cond b None No
 cond_none true = refl
 cond_none false = refl
 
--- what begins a declarator without a name begins no parameters
-abstract_no_params : (names : Names) (t : Symbol) → begins_declarator Abstract t ≡ true → begins_params names t ≡ false
-abstract_no_params names (Sign marks.Star) h = refl
-abstract_no_params names (Sign marks.OpenBracket) h = refl
-abstract_no_params names (Sign marks.OpenParen) h = refl
-abstract_no_params names _ h = cc
-
-star_no_params : (names : Names) (t : Symbol) → is_sign marks.Star t ≡ true → begins_params names t ≡ false
-star_no_params names (Sign marks.Star) h = refl
-star_no_params names _ h = cc
-
-ordinary_no_params : (names : Names) (name : ℕ) → is_type names name ≡ false → begins_params names (Word name) ≡ false
-ordinary_no_params names name h = let F : Bool → Bool = λ b. false || ((not false && b) || false) in ap F h
-
--- nor does one in parentheses that may have a name
-either_no_params : (names : Names) (e : Syntax) (r : List Symbol) → IsDeclarator Either names e → is_taken_as_type Either names e ≡ false → begins (begins_params names) (tokens_then e r) ≡ false
-either_no_params names (Declarator (Named [] (Word name) es)) r w h = ordinary_no_params names name h
-either_no_params names (Declarator (Named [] _ es)) r w h = let a = w.2 in cc
-either_no_params names (Declarator (Named (t ∷ ts) name es)) r w h = star_no_params names t w.1.0
-either_no_params names (Declarator (Nested [] inner es)) r w h = refl
-either_no_params names (Declarator (Nested (t ∷ ts) inner es)) r w h = star_no_params names t w.0.0
-either_no_params names (Declarator (Unnamed [] no_more)) r w h = let a = w.3 in cc
-either_no_params names (Declarator (Unnamed [] (more (Part (ArrayBound words bound)) es))) r w h = refl
-either_no_params names (Declarator (Unnamed [] (more (Part VoidParams) es))) r w h = refl
-either_no_params names (Declarator (Unnamed [] (more (Part (Params params variadic)) es))) r w h = refl
-either_no_params names (Declarator (Unnamed [] (more _ es))) r w h = absurd w.2.0
-either_no_params names (Declarator (Unnamed (t ∷ ts) es)) r w h = star_no_params names t w.1.0
-either_no_params names _ r w h = absurd w
-
-nested_no_params : (form : Form) (names : Names) (e : Syntax) (r : List Symbol) → IsDeclarator form names e → is_taken_as_type form names e ≡ false → (may_omit form && begins (begins_params names) (tokens_then e r)) ≡ false
-nested_no_params WithName names e r w h = refl
-nested_no_params Abstract names e r w h = differ (begins_declarator Abstract) (begins_params names) (tokens_then e r) (abstract_no_params names) (declarator_begins Abstract names e r w)
-nested_no_params Either names e r w h = either_no_params names e r w h
-
 nested-complete : (inner : Reader) (n : ℕ) (form : Form) (names : Names) (pointers : List Symbol) (e : Syntax) (es : Syntaxes) (r : List Symbol) → Knows inner n → IsDeclarator form names (Declarator (Nested pointers e es))
     → height_of (Declarator (Nested pointers e es)) ≤ suc n → begins (goes_on_declaring names) r ≡ false
     → read_declarator inner (suc n) form names (tokens_then (Declarator (Nested pointers e es)) r) ≡ Some (Declarator (Nested pointers e es), r)
@@ -285,14 +182,6 @@ suffixes_begin p names (more (Part (ArrayBound words bound)) es) r a b w s = a
 suffixes_begin p names (more (Part VoidParams) es) r a b w s = b
 suffixes_begin p names (more (Part (Params params variadic)) es) r a b w s = b
 suffixes_begin p names (more _ es) r a b w s = absurd w.0
-
-wider : (p q : Symbol → Bool) (ts : List Symbol) → ((t : Symbol) → p t ≡ true → q t ≡ true) → begins p ts ≡ true → begins q ts ≡ true
-wider p q [] d h = h
-wider p q (t ∷ ts) d h = d t h
-
-or_true : (a b : Bool) → b ≡ true → (a || b) ≡ true
-or_true true b h = refl
-or_true false b h = h
 
 params_begin : (names : Names) (es : Syntaxes) (variadic : Bool) (r : List Symbol) → AreParams names es → IsList es variadic
     → begins (begins_params names) (phrase_then (list_phrase es) (phrase_then (ellipsis_if variadic) (Sign marks.CloseParen ∷ r))) ≡ true
@@ -333,10 +222,6 @@ declarator-complete inner n form names (Declarator (Named pointers name es)) r k
 declarator-complete inner n form names (Declarator (Nested pointers e es)) r k w h s = nested-complete inner n form names pointers e es r k w h s
 declarator-complete inner n form names (Declarator (Unnamed pointers es)) r k w h s = unnamed-complete inner n form names pointers es r k w h s
 declarator-complete inner n form names _ r k w h s = absurd w
-
--- a declarator doesn't go on with the specifiers before it
-before_declarator : (form : Form) (names : Names) (e : Syntax) (r : List Symbol) → IsDeclarator form names e → begins (goes_on names true) (tokens_then e r) ≡ false
-before_declarator form names e r w = differ (begins_declarator form) (goes_on names true) (tokens_then e r) (declarator_no_specifier form names) (declarator_begins form names e r w)
 
 pub type_name-complete : (inner : Reader) (n : ℕ) (names : Names) (e : Syntax) (r : List Symbol) → Knows inner n → IsTypeName names e → height_of e ≤ suc n → begins (goes_on_declaring names) r ≡ false
     → read_type_name inner (suc n) names (tokens_then e r) ≡ Some (e, r)

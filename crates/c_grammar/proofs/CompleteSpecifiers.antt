@@ -15,7 +15,7 @@ use Rattle.c_grammar.specs.Specifiers.{Place, is_tag_word, is_storage, is_inline
 use Rattle.c_grammar.specs.Grammar.{IsItem, AreItems, AreSpecifiers, IsTag}
 use Rattle.c_grammar.specs.Found.{◌>>=◌, if_there, Found, made}
 use Rattle.c_grammar.specs.SpecifierSteps.{read_item, read_items, read_specifiers, read_tag}
-use Rattle.c_grammar.proofs.Options.{made_low, neither}
+use Rattle.c_grammar.proofs.Options.{made_low, neither, or_true}
 use Rattle.c_grammar.proofs.Front.{after_none, take_symbol_here, take_symbol_none}
 use Rattle.c_grammar.proofs.Longer.{count}
 
@@ -36,7 +36,7 @@ KnowsTagged IsTagged goes tagged n = (e : Syntax) (r : List Symbol) → IsTagged
 abbrev pub StopsAtSpecifiers : (Symbol → Bool) → Names → Type 0
 StopsAtSpecifiers goes names = (typed : Bool) (t : Symbol) → goes_on names typed t ≡ true → goes t ≡ false
 
-record Item (tagged : List Symbol → Option Found) (names : Names) (typed : Bool) (e : Syntax) (r : List Symbol) : Type 0 where
+pub record Item (tagged : List Symbol → Option Found) (names : Names) (typed : Bool) (e : Syntax) (r : List Symbol) : Type 0 where
   pub front : Symbol
   pub behind : List Symbol
   pub tokens : tokens_then e r ≡ front ∷ behind
@@ -55,33 +55,31 @@ no_tag names typed (Word name) h = refl
 no_tag names typed (Reserved k) h = no_tag_word k h
 no_tag names typed _ h = cc
 
-item : (IsTagged : Syntax → Type 0) (goes : Symbol → Bool) (tagged : List Symbol → Option Found) (n : ℕ) (names : Names) (typed : Bool) (e : Syntax) (r : List Symbol)
+-- a specifier is read behind the symbol that it begins with
+pub item_begins : (IsTagged : Syntax → Type 0) (goes : Symbol → Bool) (tagged : List Symbol → Option Found) (n : ℕ) (names : Names) (typed : Bool) (e : Syntax) (r : List Symbol)
     → KnowsTagged IsTagged goes tagged n → IsItem IsTagged names typed e → height_of e ≤ n → begins goes r ≡ false → Item tagged names typed e r
-item IsTagged goes tagged n names typed (Part (SpecWord word)) r k w h s =
+item_begins IsTagged goes tagged n names typed (Part (SpecWord word)) r k w h s =
     let F : Bool → Bool = λ b. b || begins_tag word in
     let G : Bool → Option Found = λ b. cond b (tagged (word ∷ r)) (Some (Part (SpecWord word), r)) in
     record { front = word; behind = r; tokens = refl; goes = ap F w; found = ap G (no_tag names typed word w) }
-item IsTagged goes tagged n names typed (Specifier k2) r k w h s =
+item_begins IsTagged goes tagged n names typed (Specifier k2) r k w h s =
     let t = k (Specifier k2) r w h s in
     let F : Bool → Option Found = λ b. cond b (tagged (t.front ∷ t.behind)) (Some (Part (SpecWord t.front), t.behind)) in
     record { front = t.front; behind = t.behind; tokens = t.tokens; goes = or_true (is_specifier names typed t.front) (begins_tag t.front) t.begins; found = ap F t.begins ∙ t.found }
-  where
-    or_true : (a b : Bool) → b ≡ true → (a || b) ≡ true
-    or_true true b h = refl
-    or_true false b h = h
-item IsTagged goes tagged n names typed _ r k w h s = absurd w
+item_begins IsTagged goes tagged n names typed _ r k w h s = absurd w
 
 -- these specifiers have a type, behind others of which `typed` says so
 abbrev pub typed_by : Bool → Syntaxes → Bool
 typed_by typed no_more = typed
 typed_by typed (more e es) = typed_by (typed || types e) es
 
-next : (IsTagged : Syntax → Type 0) (goes : Symbol → Bool) (tagged : List Symbol → Option Found) (n : ℕ) (names : Names) (typed : Bool) (es : Syntaxes) (r : List Symbol)
+-- nor does a row of specifiers go on with a tagged one before it
+pub row_stops : (IsTagged : Syntax → Type 0) (goes : Symbol → Bool) (tagged : List Symbol → Option Found) (n : ℕ) (names : Names) (typed : Bool) (es : Syntaxes) (r : List Symbol)
     → KnowsTagged IsTagged goes tagged n → StopsAtSpecifiers goes names → AreItems IsTagged names typed es → height_in es ≤ n → begins goes r ≡ false → begins goes (phrase_then (row_phrase es) r) ≡ false
-next IsTagged goes tagged n names typed no_more r k st w h s = s
-next IsTagged goes tagged n names typed (more e es) r k st w h s =
+row_stops IsTagged goes tagged n names typed no_more r k st w h s = s
+row_stops IsTagged goes tagged n names typed (more e es) r k st w h s =
     let X = phrase_then (row_phrase es) r in
-    let i = item IsTagged goes tagged n names typed e X k w.0 (omega arith) (next IsTagged goes tagged n names (typed || types e) es r k st w.1 (omega arith) s) in
+    let i = item_begins IsTagged goes tagged n names typed e X k w.0 (omega arith) (row_stops IsTagged goes tagged n names (typed || types e) es r k st w.1 (omega arith) s) in
     rw i.tokens (st typed i.front i.goes)
 
 pub items-complete : (IsTagged : Syntax → Type 0) (goes : Symbol → Bool) (tagged : List Symbol → Option Found) (n : ℕ) (names : Names) (f : ℕ) (typed : Bool) (es : Syntaxes) (r : List Symbol)
@@ -93,7 +91,7 @@ items-complete IsTagged goes tagged n names zero typed (more e es) r k st w h s 
 items-complete IsTagged goes tagged n names (suc f) typed no_more r k st w h s g c = rw (take_symbol_none (goes_on names typed) r g) refl
 items-complete IsTagged goes tagged n names (suc f) typed (more e es) r k st w h s g c =
     let X = phrase_then (row_phrase es) r in
-    let i = item IsTagged goes tagged n names typed e X k w.0 (omega arith) (next IsTagged goes tagged n names (typed || types e) es r k st w.1 (omega arith) s) in
+    let i = item_begins IsTagged goes tagged n names typed e X k w.0 (omega arith) (row_stops IsTagged goes tagged n names (typed || types e) es r k st w.1 (omega arith) s) in
     rw (
       i.tokens,
       take_symbol_here (goes_on names typed) i.front i.behind i.goes,
@@ -161,7 +159,7 @@ longer_items IsTagged goes tagged n names typed no_more r k st w h s = omega ari
 longer_items IsTagged goes tagged n names typed (more e es) r k st w h s =
     let X = phrase_then (row_phrase es) r in
     let a = longer_items IsTagged goes tagged n names (typed || types e) es r k st w.1 (omega arith) s in
-    let b = longer_item IsTagged goes tagged n names typed e X k w.0 (omega arith) (next IsTagged goes tagged n names (typed || types e) es r k st w.1 (omega arith) s) in
+    let b = longer_item IsTagged goes tagged n names typed e X k w.0 (omega arith) (row_stops IsTagged goes tagged n names (typed || types e) es r k st w.1 (omega arith) s) in
     omega (arith, a, b)
 
 pub all_specifiers-complete : (IsTagged : Syntax → Type 0) (goes : Symbol → Bool) (tagged : List Symbol → Option Found) (n m : ℕ) (place : Place) (names : Names) (items : Syntaxes) (r : List Symbol)
@@ -192,7 +190,7 @@ pub specifiers_begin : (place : Place) (names : Names) (e : Syntax) (r : List Sy
 specifiers_begin place names (Specifier (Specs no_more)) r w = let a = fit_typed place no_more w.1 in cc
 specifiers_begin place names (Specifier (Specs (more e es))) r w =
     let X = phrase_then (row_phrase es) r in
-    let i = item IsTag (λ t. false) read_tag (height_of e) names false e X (tag-knows (height_of e)) w.0.0 (omega arith) (none_begins_nothing X) in
+    let i = item_begins IsTag (λ t. false) read_tag (height_of e) names false e X (tag-knows (height_of e)) w.0.0 (omega arith) (none_begins_nothing X) in
     rw i.tokens i.goes
 specifiers_begin place names _ r w = absurd w
 
@@ -203,5 +201,5 @@ specifier_no_sign p names typed _ h = refl
 -- no specifier begins with a punctuator
 pub item_no_sign : (p : Punctuator) (names : Names) (typed : Bool) (e : Syntax) (r : List Symbol) → IsItem IsTag names typed e → after_sign p (tokens_then e r) ≡ None
 item_no_sign p names typed e r w =
-    let i = item IsTag (λ t. false) read_tag (height_of e) names typed e r (tag-knows (height_of e)) w (omega arith) (none_begins_nothing r) in
+    let i = item_begins IsTag (λ t. false) read_tag (height_of e) names typed e r (tag-knows (height_of e)) w (omega arith) (none_begins_nothing r) in
     rw i.tokens (after_none (is_sign p) (i.front ∷ i.behind) (specifier_no_sign p names typed i.front i.goes))

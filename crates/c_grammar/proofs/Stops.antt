@@ -1,20 +1,25 @@
--- What stops an expression at a level.
-use Rattle.std.proofs.Common.{◌≡◌, ℕ, ◌<◌, ◌≤◌, Bool, true, false, cond, ◌||◌, nat_eq, is_some, List, [], ◌∷◌, Option, None, Some, ap, refl, ◌∙◌, sym, subst, arith}
+-- What stops an expression at a level, and what ends a declarator.
+use Rattle.std.proofs.Common.{◌≡◌, ℕ, ◌<◌, ◌≤◌, Bool, true, false, cond, ◌&&◌, ◌||◌, nat_eq, is_some, List, [], ◌∷◌, Option, None, Some, ap, refl, ◌∙◌, sym, subst, arith}
 use Rattle.c_tree.specs.declared.operator.AssignOp.{AssignOp}
 use Rattle.c_tree.specs.declared.operator.AssignOp.TheVariants as assign
 use Rattle.c_tree.specs.declared.operator.BinaryOp.{BinaryOp}
 use Rattle.c_tree.specs.declared.operator.BinaryOp.TheVariants as binary
 use Rattle.c_tree.specs.declared.punctuator.Punctuator.TheVariants as marks
-use Rattle.c_tree.specs.Symbol.{Symbol, Sign}
+use Rattle.c_tree.specs.Symbol.{Symbol, Word, Reserved, Sign}
 use Rattle.c_tree.specs.Tokens.{binary_sign, assign_sign}
-use Rattle.c_grammar.specs.Symbols.{is_sign, is_string, after_sign, begins}
+use Rattle.c_grammar.specs.Symbols.{is_sign, is_word, is_string, after_sign, begins}
 use Rattle.c_grammar.specs.Levels.{postfix_level, cast_level, conditional_level, assignment_level, level_of, binary_of, assign_of}
+use Rattle.c_grammar.specs.Names.{Names}
+use Rattle.c_grammar.specs.Specifiers.{is_storage, is_inline, is_qualifier, is_type_word, is_tag_word, goes_on}
+use Rattle.c_grammar.specs.Nonterminal.{Form, may_name}
+use Rattle.c_grammar.specs.Grammar.{is_pointer_word}
+use Rattle.c_grammar.specs.DeclaratorSteps.{begins_suffix, begins_declarator}
 use Rattle.c_grammar.specs.Found.{◌>>=◌}
 use Rattle.c_grammar.specs.ExpressionSteps.{begins_postfix, take_binary, take_assign}
-use Rattle.c_grammar.specs.Following.{operator_weight, weight, Stops}
+use Rattle.c_grammar.specs.Following.{operator_weight, weight, Stops, goes_on_declaring}
 use Rattle.c_grammar.proofs.Options.{neither}
 use Rattle.c_grammar.proofs.Front.{binary_of-some, assign_of-some}
-use Rattle.c_grammar.proofs.Begins.{level_above}
+use Rattle.c_grammar.proofs.Begins.{narrower, level_above}
 
 pub stops-lower : (j k : ℕ) (ts : List Symbol) → j ≤ k → Stops k ts → Stops j ts
 stops-lower j k [] h s = tt
@@ -86,3 +91,55 @@ stops-assign (t ∷ ts) s = by t ts s (assign_of t) refl
     by : (t : Symbol) (ts : List Symbol) → 14 < weight t → (o : Option AssignOp) → assign_of t ≡ o → take_assign (t ∷ ts) ≡ None
     by t ts s None e = let F : Option AssignOp → Option (AssignOp × List Symbol) = λ o. o >>= λ op. Some (op, ts) in ap F e
     by t ts s (Some op) e = let q : weight t ≡ 14 = ap weight (assign_of-some t op e) ∙ assign_weighs op in absurd (omega arith)
+
+-- what follows a declarator goes on with no part of it
+four : (a b c d : Bool) → (a || b || c || d) ≡ false → (a ≡ false) × (b ≡ false) × (c ≡ false) × (d ≡ false)
+four false false false false h = (refl, refl, refl, refl)
+four true b c d h = cc
+four false true c d h = cc
+four false false true d h = cc
+four false false false true h = cc
+
+ends : (names : Names) (t : Symbol) → goes_on_declaring names t ≡ false → (goes_on names true t ≡ false) × (is_word t ≡ false) × (is_sign marks.Star t ≡ false) × (begins_suffix t ≡ false)
+ends names t h = four (goes_on names true t) (is_word t) (is_sign marks.Star t) (begins_suffix t) h
+
+pub ends_specifiers : (names : Names) (r : List Symbol) → begins (goes_on_declaring names) r ≡ false → begins (goes_on names true) r ≡ false
+ends_specifiers names r h = narrower (goes_on_declaring names) (goes_on names true) r (λ t x. (ends names t x).0) h
+
+pub ends_word : (names : Names) (r : List Symbol) → begins (goes_on_declaring names) r ≡ false → begins is_word r ≡ false
+ends_word names r h = narrower (goes_on_declaring names) is_word r (λ t x. (ends names t x).1) h
+
+pub ends_suffix : (names : Names) (r : List Symbol) → begins (goes_on_declaring names) r ≡ false → begins begins_suffix r ≡ false
+ends_suffix names r h = narrower (goes_on_declaring names) begins_suffix r (λ t x. (ends names t x).3) h
+
+no_pointer_word : (names : Names) (t : Symbol) → goes_on_declaring names t ≡ false → is_pointer_word t ≡ false
+no_pointer_word names (Reserved k) h =
+    let a = (ends names (Reserved k) h).0 in
+    let b = neither (is_storage k || is_inline k || is_qualifier k || is_type_word k) (is_tag_word k) a in
+    (four (is_storage k) (is_inline k) (is_qualifier k) (is_type_word k) b.0).2
+no_pointer_word names (Word name) h = (ends names (Word name) h).2
+no_pointer_word names (Sign p) h = (ends names (Sign p) h).2
+no_pointer_word names _ h = refl
+
+pub ends_pointers : (names : Names) (r : List Symbol) → begins (goes_on_declaring names) r ≡ false → begins is_pointer_word r ≡ false
+ends_pointers names r h = narrower (goes_on_declaring names) is_pointer_word r (no_pointer_word names) h
+
+no_declarator : (form : Form) (names : Names) (t : Symbol) → goes_on_declaring names t ≡ false → begins_declarator form t ≡ false
+no_declarator form names t h =
+    let a = ends names t h in
+    none (is_sign marks.Star t) (begins_suffix t) (may_name form) (is_word t) a.2 a.3 a.1
+  where
+    none : (a b c d : Bool) → a ≡ false → b ≡ false → d ≡ false → (a || b || (c && d)) ≡ false
+    none false false true false x y z = refl
+    none false false false d x y z = refl
+    none true b c d x y z = x
+    none false true c d x y z = y
+    none false false true true x y z = z
+
+pub ends_declarator : (form : Form) (names : Names) (r : List Symbol) → begins (goes_on_declaring names) r ≡ false → begins (begins_declarator form) r ≡ false
+ends_declarator form names r h = narrower (goes_on_declaring names) (begins_declarator form) r (no_declarator form names) h
+
+pub no_star : (t : Symbol) → is_pointer_word t ≡ false → is_sign marks.Star t ≡ false
+no_star (Reserved k) h = refl
+no_star (Sign p) h = h
+no_star _ h = refl
