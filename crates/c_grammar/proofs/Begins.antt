@@ -1,6 +1,5 @@
 -- What a tree begins with.
-use Rattle.std.proofs.Common.{◌≡◌, ℕ, ◌<◌, ◌≤◌, Bool, true, false, cond, not, ◌&&◌, ◌||◌, nat_le, nat_eq, List, [], ◌∷◌, Option, None, Some, ap, refl, ◌∙◌, sym, arith}
-use Rattle.c_tree.specs.declared.keyword.Keyword.{Keyword}
+use Rattle.std.proofs.Common.{◌≡◌, ℕ, ◌<◌, ◌≤◌, Bool, true, false, cond, not, ◌&&◌, ◌||◌, nat_le, List, [], ◌∷◌, Option, None, Some, ap, refl, arith}
 use Rattle.c_tree.specs.declared.keyword.Keyword.TheVariants as words
 use Rattle.c_tree.specs.declared.operator.BinaryOp.{BinaryOp}
 use Rattle.c_tree.specs.declared.operator.BinaryOp.TheVariants as binary
@@ -10,7 +9,7 @@ use Rattle.c_tree.specs.declared.punctuator.Punctuator.{Punctuator}
 use Rattle.c_tree.specs.declared.punctuator.Punctuator.TheVariants as marks
 use Rattle.c_tree.specs.Codes.{keyword_code, punctuator_code}
 use Rattle.c_tree.specs.Symbol.{Symbol, Word, Reserved, Sign, IntLiteral, FloatLiteral, CharLiteral, StringLiteral}
-use Rattle.c_tree.specs.Syntax.{Syntax, Primary, Operation, Specifier, Declarator, Part, Ident, Constant, StrConst, Paren, VaArg, Offsetof, Index, Call, Member, Arrow, Unary, SizeofType, Cast, Binary, Cond, Assign, TypeName, Param, Named, Nested, Unnamed, ArrayBound, VoidParams, Params, Syntaxes, no_more, more}
+use Rattle.c_tree.specs.Syntax.{Syntax, Primary, Operation, Specifier, Declarator, Part, Ident, Constant, StrConst, Paren, VaArg, Offsetof, Index, Call, Member, Arrow, Unary, SizeofType, Cast, Binary, Cond, Assign, TypeName, Param, Named, Nested, Unnamed, ArrayBound, VoidParams, Params, no_more, more}
 use Rattle.c_tree.specs.Phrase.{phrase_then}
 use Rattle.c_tree.specs.Tokens.{maybe_phrase, tokens_then}
 use Rattle.c_grammar.specs.Symbols.{is_sign, is_keyword, is_word, after_sign, after_keyword, begins}
@@ -18,7 +17,7 @@ use Rattle.c_grammar.specs.Levels.{postfix_level, unary_level, grade, prefix_of,
 use Rattle.c_grammar.specs.Names.{Names, is_type}
 use Rattle.c_grammar.specs.Specifiers.{InTypeName, InParam, begins_specifiers, goes_on}
 use Rattle.c_grammar.specs.Nonterminal.{Form, WithName, Abstract, Either, may_name, may_omit}
-use Rattle.c_grammar.specs.Grammar.{IsExpr, IsTypeName, IsDeclarator, AreSuffixes, IsParam, is_bound_word, is_taken_as_type}
+use Rattle.c_grammar.specs.Grammar.{IsExpr, IsTypeName, IsDeclarator, IsParam, is_bound_word, is_taken_as_type}
 use Rattle.c_grammar.specs.Found.{◌>>=◌}
 use Rattle.c_grammar.specs.DeclaratorSteps.{begins_suffix, begins_declarator, begins_params}
 use Rattle.c_grammar.specs.ExpressionSteps.{take_prefix, after_type_paren}

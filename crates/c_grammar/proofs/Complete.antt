@@ -1,15 +1,13 @@
 -- Each tree of the grammar is read, so what is read of all symbols is their only parse.
-use Rattle.std.proofs.Common.{◌≡◌, ℕ, zero, suc, ◌<◌, ◌≤◌, List, [], ◌∷◌, Option, None, Some, ap, refl, ◌∙◌, sym, arith}
+use Rattle.std.proofs.Common.{◌≡◌, ℕ, zero, suc, ◌<◌, List, [], Some, ap, refl, ◌∙◌, sym, arith}
 use Rattle.c_tree.specs.Symbol.{Symbol}
-use Rattle.c_tree.specs.Syntax.{Syntax, Primary, Operation, Specifier, Declarator, Ident, Index, TypeName, Specs, Param, Named, Nested, Unnamed, PrimarySyntax}
+use Rattle.c_tree.specs.Syntax.{Syntax, Primary, Operation, Specifier, Declarator, Index, TypeName, Specs, Param, Named}
 use Rattle.c_tree.specs.Height.{height_of}
-use Rattle.c_tree.specs.Tokens.{tokens_of}
 use Rattle.c_grammar.specs.Names.{Names}
 use Rattle.c_grammar.specs.Nonterminal.{Nonterminal, Expression, Specifiers, NameOfType, DeclaratorIn, Parameter}
 use Rattle.c_grammar.specs.Grammar.{IsOf, IsParse, IsExpr}
-use Rattle.c_grammar.specs.Found.{◌>>=◌}
 use Rattle.c_grammar.specs.Following.{Ends}
-use Rattle.c_grammar.specs.Reading.{read, ended, whole}
+use Rattle.c_grammar.specs.Reading.{read, whole}
 use Rattle.c_grammar.proofs.Options.{same}
 use Rattle.c_grammar.proofs.Readers.{Knows}
 use Rattle.c_grammar.proofs.CompleteSpecifiers.{specifiers-complete}

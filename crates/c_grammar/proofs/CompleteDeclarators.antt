@@ -1,5 +1,5 @@
 -- Each declarator, parameter and type name is read, where what follows doesn't go on with it.
-use Rattle.std.proofs.Common.{◌≡◌, ℕ, zero, suc, ◌+◌, ◌<◌, ◌≤◌, Bool, true, false, cond, not, ◌&&◌, ◌||◌, List, [], ◌∷◌, ◌++◌, length, Option, None, Some, ap, refl, ◌∙◌, sym, arith}
+use Rattle.std.proofs.Common.{◌≡◌, ℕ, zero, suc, ◌<◌, ◌≤◌, Bool, true, false, cond, List, [], ◌∷◌, ◌++◌, length, Option, None, Some, ap, refl, ◌∙◌, arith}
 use Rattle.c_tree.specs.declared.keyword.Keyword.TheVariants as words
 use Rattle.c_tree.specs.declared.operator.StructOrUnion.TheVariants as which_word
 use Rattle.c_tree.specs.declared.punctuator.Punctuator.TheVariants as marks
@@ -8,13 +8,13 @@ use Rattle.c_tree.specs.Syntax.{Syntax, Specifier, Declarator, Part, TypeName, S
 use Rattle.c_tree.specs.Height.{height_of, height_maybe, height_in}
 use Rattle.c_tree.specs.Phrase.{phrase_then}
 use Rattle.c_tree.specs.Tokens.{phrase_of, maybe_phrase, row_phrase, list_phrase, more_phrase, ellipsis_if, tokens_then}
-use Rattle.c_grammar.specs.Symbols.{is_sign, is_keyword, is_word, after_sign, after_keyword, begins, take_symbol, run_of, after_run, AreAll}
+use Rattle.c_grammar.specs.Symbols.{is_sign, is_word, after_sign, begins}
 use Rattle.c_grammar.specs.Levels.{assignment_level}
-use Rattle.c_grammar.specs.Names.{Names, is_type, declared}
-use Rattle.c_grammar.specs.Specifiers.{Place, InTypeName, InParam, is_storage, is_inline, is_qualifier, is_type_word, is_tag_word, begins_specifiers, goes_on, fit}
-use Rattle.c_grammar.specs.Nonterminal.{Form, WithName, Abstract, Either, may_name, may_omit, Expression, Specifiers, DeclaratorIn, Parameter}
-use Rattle.c_grammar.specs.Grammar.{IsTag, AreItems, IsMaybeDeclarator, IsTypeName, IsDeclarator, AreSuffixes, IsSuffix, IsBound, IsParam, AreParams, IsList, ArePointers, is_bound_word, is_pointer_word, is_taken_as_type}
-use Rattle.c_grammar.specs.Found.{◌>>=◌, if_there, Found, Reader}
+use Rattle.c_grammar.specs.Names.{Names, declared}
+use Rattle.c_grammar.specs.Specifiers.{Place, InTypeName, InParam, begins_specifiers, fit}
+use Rattle.c_grammar.specs.Nonterminal.{Form, Abstract, Either, may_name, may_omit, Expression, Specifiers, DeclaratorIn, Parameter}
+use Rattle.c_grammar.specs.Grammar.{IsTag, AreItems, IsMaybeDeclarator, IsTypeName, IsDeclarator, AreSuffixes, IsSuffix, IsBound, IsParam, AreParams, IsList, ArePointers, is_bound_word, is_pointer_word}
+use Rattle.c_grammar.specs.Found.{Found, Reader}
 use Rattle.c_grammar.specs.Following.{goes_on_declaring}
 use Rattle.c_grammar.specs.DeclaratorSteps.{read_bound, read_params, after_void, read_param_list, begins_suffix, read_suffix, read_suffixes, pointers_of, after_pointers, begins_params, take_name, after_nesting, read_direct, read_declarator, begins_declarator, read_type_name, read_param}
 use Rattle.c_grammar.proofs.Options.{made_low, neither, or_true}

@@ -1,23 +1,22 @@
 -- Each expression is read, where what follows doesn't go on with it.
-use Rattle.std.proofs.Common.{◌≡◌, ℕ, zero, suc, ◌+◌, ◌-◌, ◌<◌, ◌≤◌, Bool, true, false, cond, nat_le, nat_eq, max, List, [], ◌∷◌, ◌++◌, length, Option, None, Some, inl, inr, ap, refl, ◌∙◌, sym, subst, arith}
-use Rattle.c_tree.specs.declared.operator.AssignOp.{AssignOp}
+use Rattle.std.proofs.Common.{◌≡◌, ℕ, zero, suc, ◌+◌, ◌-◌, ◌<◌, ◌≤◌, Bool, true, false, cond, nat_le, nat_eq, max, List, [], ◌∷◌, length, Option, None, Some, inl, inr, ap, refl, ◌∙◌, sym, subst, arith}
 use Rattle.c_tree.specs.declared.operator.BinaryOp.{BinaryOp}
 use Rattle.c_tree.specs.declared.operator.BinaryOp.TheVariants as binary
 use Rattle.c_tree.specs.declared.operator.UnaryOp.{UnaryOp}
 use Rattle.c_tree.specs.declared.operator.UnaryOp.TheVariants as unary
 use Rattle.c_tree.specs.declared.punctuator.Punctuator.TheVariants as marks
-use Rattle.c_tree.specs.Symbol.{Symbol, Word, Reserved, Sign, IntLiteral, FloatLiteral, CharLiteral, StringLiteral}
+use Rattle.c_tree.specs.Symbol.{Symbol, Word, Sign, IntLiteral, FloatLiteral, CharLiteral, StringLiteral}
 use Rattle.c_tree.specs.Syntax.{Syntax, Primary, Operation, Part, PrimarySyntax, Ident, Constant, StrConst, Paren, VaArg, Offsetof, Index, Call, Member, Arrow, Unary, SizeofType, Cast, Binary, Cond, Assign, MemberDesignator, IndexDesignator, Syntaxes, no_more, more}
 use Rattle.c_tree.specs.Height.{height_of, height_in}
 use Rattle.c_tree.specs.Phrase.{phrase_then}
 use Rattle.c_tree.specs.Tokens.{phrase_of, binary_sign, assign_sign, row_phrase, list_phrase, more_phrase, tokens_then}
-use Rattle.c_grammar.specs.Symbols.{is_word, is_string, after_sign, begins, take_symbol, run_of, after_run}
+use Rattle.c_grammar.specs.Symbols.{is_word, is_string, begins}
 use Rattle.c_grammar.specs.Levels.{postfix_level, unary_level, cast_level, logical_or_level, conditional_level, assignment_level, comma_level, level_of, unary_grade, operand_level, grade}
-use Rattle.c_grammar.specs.Names.{Names, is_type}
+use Rattle.c_grammar.specs.Names.{Names}
 use Rattle.c_grammar.specs.Nonterminal.{Expression, NameOfType}
 use Rattle.c_grammar.specs.Grammar.{IsExpr, IsPrimary, AreArguments, IsPath}
-use Rattle.c_grammar.specs.Found.{◌>>=◌, if_there, Found, made, Reader}
-use Rattle.c_grammar.specs.Following.{weight, Stops}
+use Rattle.c_grammar.specs.Found.{◌>>=◌, Found, made, Reader}
+use Rattle.c_grammar.specs.Following.{Stops}
 use Rattle.c_grammar.specs.ExpressionSteps.{read_path, read_primary, read_more_arguments, read_arguments, begins_postfix, read_postfix_operators, read_postfix, read_unary, read_cast, take_binary, read_chain, read_binary, read_conditional, read_assignment, read_commas, read_expression}
 use Rattle.c_grammar.proofs.Options.{made_low, which, at_most, above, low}
 use Rattle.c_grammar.proofs.Front.{take_symbol_here, run_of-here, after_run-here, take_binary-here, take_assign-here}
@@ -312,7 +311,7 @@ binary-complete inner n names (suc j) k q e r w g h s =
     let F : ℕ → Option Found = λ x. then_chain (read_binary inner (suc n) names j) inner (suc n) names x (tokens_then e r) in
     ap F (sym a)
     ∙ chain-complete (read_binary inner (suc n) names j) inner n (j + 2) names k (omega arith) (λ x. absurd (omega arith)) (λ x. absurd (omega arith)) (binary-complete inner n names j k (omega arith)) e r
-        w (omega arith) h (stops-lower (suc (j + 2)) (suc j + 2) r (omega arith) s)
+    w (omega arith) h (stops-lower (suc (j + 2)) (suc j + 2) r (omega arith) s)
 
 -- no binary operator stands at the levels of conditional expressions and assignments
 binary_low : (op : BinaryOp) → level_of op ≤ assignment_level → level_of op ≤ logical_or_level

@@ -1,19 +1,19 @@
 -- Each row of specifiers is read, where what follows doesn't go on with it.
-use Rattle.std.proofs.Common.{◌≡◌, ℕ, zero, suc, ◌+◌, ◌<◌, ◌≤◌, Bool, true, false, cond, not, ◌&&◌, ◌||◌, List, [], ◌∷◌, ◌++◌, length, Option, None, Some, ap, refl, ◌∙◌, sym, subst, arith}
+use Rattle.std.proofs.Common.{◌≡◌, ℕ, zero, suc, ◌<◌, ◌≤◌, Bool, true, false, cond, not, ◌&&◌, ◌||◌, List, [], ◌∷◌, ◌++◌, length, Option, None, Some, ap, refl, ◌∙◌, arith}
 use Rattle.c_tree.specs.declared.keyword.Keyword.{Keyword}
 use Rattle.c_tree.specs.declared.keyword.Keyword.TheVariants as words
 use Rattle.c_tree.specs.declared.operator.StructOrUnion.TheVariants as which_word
 use Rattle.c_tree.specs.declared.punctuator.Punctuator.{Punctuator}
 use Rattle.c_tree.specs.Symbol.{Symbol, Word, Reserved, Sign}
-use Rattle.c_tree.specs.Syntax.{Syntax, Specifier, Part, SpecifierSyntax, StructTag, EnumTag, Specs, SpecWord, Syntaxes, no_more, more}
+use Rattle.c_tree.specs.Syntax.{Syntax, Specifier, Part, StructTag, EnumTag, Specs, SpecWord, Syntaxes, no_more, more}
 use Rattle.c_tree.specs.Height.{height_of, height_in}
 use Rattle.c_tree.specs.Phrase.{phrase_then}
 use Rattle.c_tree.specs.Tokens.{row_phrase, tokens_then}
-use Rattle.c_grammar.specs.Symbols.{is_sign, is_word, after_sign, begins, take_symbol}
+use Rattle.c_grammar.specs.Symbols.{is_sign, is_word, after_sign, begins}
 use Rattle.c_grammar.specs.Names.{Names}
 use Rattle.c_grammar.specs.Specifiers.{Place, is_tag_word, is_storage, is_inline, is_qualifier, is_type_word, is_specifier, begins_tag, goes_on, begins_specifiers, types, type_words_of, other_types_of, type_words, other_types, is_one_type, has_one_type, is_among, as_often, occurrences, storages, inlines, are_allowed, may_inline, fit}
 use Rattle.c_grammar.specs.Grammar.{IsItem, AreItems, AreSpecifiers, IsTag}
-use Rattle.c_grammar.specs.Found.{◌>>=◌, if_there, Found, made}
+use Rattle.c_grammar.specs.Found.{Found}
 use Rattle.c_grammar.specs.SpecifierSteps.{read_item, read_items, read_specifiers, read_tag}
 use Rattle.c_grammar.proofs.Options.{made_low, neither, or_true}
 use Rattle.c_grammar.proofs.Front.{after_none, take_symbol_here, take_symbol_none}
@@ -32,10 +32,11 @@ pub record Tagged (tagged : List Symbol → Option Found) (e : Syntax) (r : List
 abbrev pub KnowsTagged : (Syntax → Type 0) → (Symbol → Bool) → (List Symbol → Option Found) → ℕ → Type 0
 KnowsTagged IsTagged goes tagged n = (e : Syntax) (r : List Symbol) → IsTagged e → height_of e ≤ n → begins goes r ≡ false → Tagged tagged e r
 
--- no specifier goes on with a tagged one
+-- a symbol that begins a specifier doesn't go on with a tagged one
 abbrev pub StopsAtSpecifiers : (Symbol → Bool) → Names → Type 0
 StopsAtSpecifiers goes names = (typed : Bool) (t : Symbol) → goes_on names typed t ≡ true → goes t ≡ false
 
+-- The symbol that a specifier begins with goes on with those before it, and the specifier is read there.
 pub record Item (tagged : List Symbol → Option Found) (names : Names) (typed : Bool) (e : Syntax) (r : List Symbol) : Type 0 where
   pub front : Symbol
   pub behind : List Symbol
@@ -73,7 +74,7 @@ abbrev pub typed_by : Bool → Syntaxes → Bool
 typed_by typed no_more = typed
 typed_by typed (more e es) = typed_by (typed || types e) es
 
--- nor does a row of specifiers go on with a tagged one before it
+-- What stands behind a specifier, more of them or what follows them all, doesn't go on with a tagged one.
 pub row_stops : (IsTagged : Syntax → Type 0) (goes : Symbol → Bool) (tagged : List Symbol → Option Found) (n : ℕ) (names : Names) (typed : Bool) (es : Syntaxes) (r : List Symbol)
     → KnowsTagged IsTagged goes tagged n → StopsAtSpecifiers goes names → AreItems IsTagged names typed es → height_in es ≤ n → begins goes r ≡ false → begins goes (phrase_then (row_phrase es) r) ≡ false
 row_stops IsTagged goes tagged n names typed no_more r k st w h s = s
@@ -169,6 +170,7 @@ all_specifiers-complete IsTagged goes tagged n m place names items r k st w h hm
     let F : Bool → Bool = λ b. begins (goes_on names b) r in
     let a = items-complete IsTagged goes tagged n names (length (phrase_then (row_phrase items) r)) false items r k st w.0 h s (ap F (fit_typed place items w.1) ∙ g) (longer_items IsTagged goes tagged n names false items r k st w.0 h s) in
     rw (a, w.1) (made_low m (Specifier (Specs items)) r hm)
+
 pub tag-knows : (n : ℕ) → KnowsTagged IsTag (λ t. false) read_tag n
 tag-knows n (Specifier (StructTag which_word.Struct tag)) r w h s = record { front = Reserved words.Struct; behind = tag ∷ r; tokens = refl; longer = omega arith; begins = refl; found = rw (take_symbol_here is_word tag r w) refl }
 tag-knows n (Specifier (StructTag which_word.Union tag)) r w h s = record { front = Reserved words.Union; behind = tag ∷ r; tokens = refl; longer = omega arith; begins = refl; found = rw (take_symbol_here is_word tag r w) refl }

@@ -1,8 +1,8 @@
 -- Phrases and rows are as long as their parts.
-use Rattle.std.proofs.Common.{◌≡◌, ℕ, ◌+◌, ◌<◌, ◌≤◌, true, List, [], ◌∷◌, ◌++◌, length, arith}
+use Rattle.std.proofs.Common.{ℕ, ◌+◌, ◌≤◌, List, [], ◌∷◌, ◌++◌, length, arith}
 use Rattle.c_tree.specs.declared.punctuator.Punctuator.TheVariants as marks
-use Rattle.c_tree.specs.Symbol.{Symbol, Sign}
-use Rattle.c_tree.specs.Syntax.{Syntax, Part, ArrayBound, VoidParams, Params, MemberDesignator, IndexDesignator, Syntaxes, no_more, more}
+use Rattle.c_tree.specs.Symbol.{Symbol}
+use Rattle.c_tree.specs.Syntax.{Part, ArrayBound, VoidParams, Params, MemberDesignator, IndexDesignator, Syntaxes, no_more, more}
 use Rattle.c_tree.specs.Phrase.{Phrase, nothing, one, all, ◌⨾◌, phrase_then, sign}
 use Rattle.c_tree.specs.Tokens.{phrase_of, maybe_phrase, list_phrase, ellipsis_if, row_phrase, more_phrase}
 use Rattle.c_grammar.specs.Names.{Names}
