@@ -1,0 +1,17 @@
+pub mod Examples
+pub mod Codes
+pub mod Options
+pub mod Front
+pub mod Steps
+pub mod Readers
+pub mod SoundSpecifiers
+pub mod SoundDeclarators
+pub mod SoundExpressions
+pub mod Sound
+pub mod Longer
+pub mod Begins
+pub mod CompleteSpecifiers
+pub mod CompleteDeclarators
+pub mod Stops
+pub mod CompleteExpressions
+pub mod Complete

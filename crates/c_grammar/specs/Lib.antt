@@ -1,0 +1,13 @@
+pub mod Symbols
+pub mod Levels
+pub mod Names
+pub mod Specifiers
+pub mod Nonterminal
+pub mod Grammar
+pub mod Found
+pub mod SpecifierSteps
+pub mod DeclaratorSteps
+pub mod ExpressionSteps
+pub mod Reading
+pub mod Following
+pub mod Theorems
