@@ -15,5 +15,6 @@ pub mod SmallText
 pub mod SmallTokens
 pub mod SmallViews
 pub mod Stages
+pub mod Statuses
 pub mod Words
 pub mod Written

@@ -1,5 +1,8 @@
 //! How a run ends.
 
+ghost use Rattle.std.specs.Prelude.{◌≡◌};
+ghost use Rattle.metalcheck.specs.Statuses.{exit_status};
+
 /// The status of a run. Its number is the program's exit status.
 #[derive(Clone, Copy, Debug, PartialEq, Eq)]
 pub enum Status {
@@ -21,7 +24,9 @@ pub enum Status {
 
 impl Status {
     /// The exit status.
-    pub fn code(self) -> u8 {
+    pub fn code(self) -> u8
+        ensures { result ≡ exit_status self }
+    {
         self as u8
     }
 }
