@@ -1,0 +1,5 @@
+//! The grammar of C's declarations, statements, functions and translation units as a predicate on syntax trees, a plain
+//! reader of it over lists of symbols, and the proofs that the reader gives trees of the grammar.
+#![tactic(auto)]
+
+mod theorems;
