@@ -1,6 +1,5 @@
 -- Which jumps and labels may stand in a function's body (ISO 9899:1990, 6.6.1, 6.6.4.2, 6.6.6).
 use Rattle.std.specs.Prelude.{ℕ, ◌+◌, Bool, true, false, not, ◌||◌, ◌&&◌, nat_le, nat_eq, List, [], ◌∷◌, ◌++◌, Option, None, Some}
-use Rattle.c_tree.specs.Symbol.{Symbol}
 use Rattle.c_tree.specs.Syntax.{Syntax, Statement, Iteration, Jump, StatementSyntax, IterationSyntax, JumpSyntax, Block, If, Switch, Case, Default, Label, While, Do, For, ForDeclaration, Goto, Continue, Break, MaybeSyntax, absent, present, Syntaxes, no_more, more}
 use Rattle.c_grammar.specs.Names.{name_in}
 

@@ -2,7 +2,7 @@
 -- finished trees, under the names in force.
 use Rattle.std.specs.Prelude.{◌≡◌, ◌≤◌, ℕ, Bool, true, false, not, ◌||◌, Option, None, Some}
 use Rattle.c_tree.specs.Symbol.{Symbol, Word}
-use Rattle.c_tree.specs.Syntax.{Syntax, Primary, Initializer, Specifier, Declarator, Part, Outer, InitializerSyntax, SpecifierSyntax, OuterSyntax, Ident, Init, Braces, Specs, StructTag, StructBody, EnumTag, EnumBody, StructDeclaration, BitField, SpecWord, Enumerator, Declaration, Empty, MaybeSyntax, absent, present, Syntaxes, no_more, more}
+use Rattle.c_tree.specs.Syntax.{Syntax, Primary, Initializer, Specifier, Declarator, Part, Outer, InitializerSyntax, SpecifierSyntax, Ident, Init, Braces, Specs, StructTag, StructBody, EnumTag, EnumBody, StructDeclaration, BitField, SpecWord, Enumerator, Declaration, Empty, MaybeSyntax, absent, present, Syntaxes, no_more, more}
 use Rattle.c_grammar.specs.Symbols.{is_word}
 use Rattle.c_grammar.specs.Levels.{conditional_level, assignment_level, grade}
 use Rattle.c_grammar.specs.Names.{Names, name_of, with_name}

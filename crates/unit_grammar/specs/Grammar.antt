@@ -6,7 +6,7 @@ use Rattle.c_tree.specs.Syntax.{Syntax, Initializer, Specifier, Outer, Statement
 use Rattle.c_tree.specs.Height.{height_of}
 use Rattle.c_tree.specs.Tokens.{tokens_of}
 use Rattle.c_grammar.specs.Names.{Names, name_of, with_name, declared_all, params_of}
-use Rattle.c_grammar.specs.Specifiers.{Place, InDeclaration}
+use Rattle.c_grammar.specs.Specifiers.{InDeclaration}
 use Rattle.c_grammar.specs.Nonterminal.{WithName}
 use Rattle.c_grammar.specs.Grammar.{IsDeclarator}
 use Rattle.unit_grammar.specs.Names.{declared, makes_types}

@@ -9,3 +9,5 @@ pub mod DeclarationSteps
 pub mod StatementSteps
 pub mod ChunkSteps
 pub mod Reading
+pub mod Following
+pub mod Theorems

@@ -1,11 +1,11 @@
 -- The steps that read statements, one for each line of the grammar, by the first symbol.
-use Rattle.std.specs.Prelude.{ℕ, zero, suc, Bool, true, false, cond, not, ◌&&◌, List, [], ◌∷◌, length, Option, None, Some}
+use Rattle.std.specs.Prelude.{ℕ, zero, suc, Bool, false, cond, not, ◌&&◌, List, [], ◌∷◌, length, Option, None, Some}
 use Rattle.c_tree.specs.declared.keyword.Keyword.{Keyword}
 use Rattle.c_tree.specs.declared.keyword.Keyword.TheVariants as words
 use Rattle.c_tree.specs.declared.punctuator.Punctuator.{Punctuator}
 use Rattle.c_tree.specs.declared.punctuator.Punctuator.TheVariants as marks
-use Rattle.c_tree.specs.Symbol.{Symbol, Word, Reserved, Sign}
-use Rattle.c_tree.specs.Syntax.{Syntax, Statement, Iteration, Jump, Block, ExprStmt, If, Switch, Case, Default, Label, While, Do, For, Goto, Continue, Break, Return, MaybeSyntax, absent, present, Syntaxes, no_more, more}
+use Rattle.c_tree.specs.Symbol.{Symbol, Word, Reserved}
+use Rattle.c_tree.specs.Syntax.{Statement, Iteration, Jump, Block, ExprStmt, If, Switch, Case, Default, Label, While, Do, For, Goto, Continue, Break, Return, MaybeSyntax, absent, present, Syntaxes, no_more, more}
 use Rattle.c_grammar.specs.Symbols.{after_sign, after_keyword, begins, take_symbol, is_sign, is_word}
 use Rattle.c_grammar.specs.Levels.{conditional_level, comma_level}
 use Rattle.c_grammar.specs.Names.{Names}
