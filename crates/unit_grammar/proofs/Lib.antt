@@ -1,3 +1,5 @@
 mod Examples
 pub mod Readers
 pub mod SoundTagged
+pub mod SoundDeclarations
+pub mod SoundStatements
