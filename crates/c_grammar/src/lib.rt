@@ -3,3 +3,5 @@
 #![tactic(auto)]
 
 mod theorems;
+
+pub use theorems::reading_is_sound;
