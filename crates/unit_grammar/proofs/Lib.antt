@@ -3,3 +3,5 @@ pub mod Readers
 pub mod SoundTagged
 pub mod SoundDeclarations
 pub mod SoundStatements
+pub mod Sound
+pub mod SoundChunks

@@ -1,17 +1,16 @@
 -- What is read as an initial value or a declaration is one.
-use Rattle.std.proofs.Common.{◌≡◌, ℕ, zero, suc, Bool, true, false, not, ◌||◌, List, ◌∷◌, length, Option, None, Some, inl, inr, ap, refl, ◌∙◌, sym, subst}
+use Rattle.std.proofs.Common.{◌≡◌, ℕ, zero, suc, Bool, true, false, not, ◌||◌, List, ◌∷◌, length, Some, inl, inr, ap, refl, ◌∙◌, sym, subst}
 use Rattle.c_tree.specs.declared.punctuator.Punctuator.TheVariants as marks
 use Rattle.c_tree.specs.Symbol.{Symbol, Word, Sign}
 use Rattle.c_tree.specs.Syntax.{Syntax, Primary, Operation, Initializer, Declarator, Outer, Ident, Init, Braces, Declaration, Syntaxes, no_more, more}
-use Rattle.c_tree.specs.Phrase.{phrase_then}
-use Rattle.c_tree.specs.Tokens.{list_phrase, tokens_then}
+use Rattle.c_tree.specs.Tokens.{tokens_then}
 use Rattle.c_grammar.specs.Symbols.{after_sign, begins, is_sign}
 use Rattle.c_grammar.specs.Levels.{assignment_level}
 use Rattle.c_grammar.specs.Names.{Names, name_of, with_name}
 use Rattle.c_grammar.specs.Specifiers.{InDeclaration}
 use Rattle.c_grammar.specs.Nonterminal.{WithName, Expression, DeclaratorIn}
 use Rattle.c_grammar.specs.Grammar.{IsDeclarator, IsOf as IsOfBelow}
-use Rattle.c_grammar.specs.Found.{Reader, made}
+use Rattle.c_grammar.specs.Found.{Reader}
 use Rattle.c_grammar.proofs.Options.{bound, chosen, which}
 use Rattle.c_grammar.proofs.Front.{taken}
 use Rattle.c_grammar.proofs.Readers.{IsSound as IsSoundBelow}

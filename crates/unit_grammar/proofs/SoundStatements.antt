@@ -13,7 +13,7 @@ use Rattle.c_grammar.specs.Levels.{conditional_level, comma_level}
 use Rattle.c_grammar.specs.Names.{Names}
 use Rattle.c_grammar.specs.Nonterminal.{Expression}
 use Rattle.c_grammar.specs.Grammar.{IsExpr}
-use Rattle.c_grammar.specs.Found.{if_there, Reader, made}
+use Rattle.c_grammar.specs.Found.{if_there, Reader}
 use Rattle.c_grammar.proofs.Options.{bound, chosen, which, parts}
 use Rattle.c_grammar.proofs.Front.{after_none, take_symbol_some, taken, taken_keyword}
 use Rattle.c_grammar.proofs.Readers.{IsSound as IsSoundBelow}
@@ -21,7 +21,7 @@ use Rattle.unit_grammar.specs.Names.{declared}
 use Rattle.unit_grammar.specs.Construct.{BlockDeclaration, OneStatement, FunctionBody, ConstructReader}
 use Rattle.unit_grammar.specs.Statements.{IsMaybeExpr, takes_else, AreBlockItems, AreStatements}
 use Rattle.unit_grammar.specs.StatementSteps.{begins_declaration, read_statements, read_block_items, read_block_rest, read_block, read_maybe_expr, read_condition, read_expression_statement, read_label, read_if, read_switch, read_case, read_default, read_while, read_do, read_for, read_goto, read_return, read_by_keyword, read_statement}
-use Rattle.unit_grammar.proofs.Readers.{Stands, IsSound, finish, found, Row, row}
+use Rattle.unit_grammar.proofs.Readers.{Stands, IsSound, finish, Row, row}
 
 statements-sound : (inner : ConstructReader) (n : ℕ) (names : Names) (f : ℕ) (ts : List Symbol) (es : Syntaxes) (r : List Symbol)
     → IsSound inner n → read_statements inner names f ts ≡ Some (es, r) → Row (AreStatements names) marks.CloseBrace ts es r

@@ -1,5 +1,5 @@
 -- What is read as specifiers with bodies, as members or enumerators are such.
-use Rattle.std.proofs.Common.{◌≡◌, ℕ, zero, suc, Bool, true, false, ◌||◌, List, ◌∷◌, length, Option, None, Some, inl, inr, ap, refl, ◌∙◌, subst}
+use Rattle.std.proofs.Common.{◌≡◌, ℕ, zero, suc, Bool, true, false, ◌||◌, List, ◌∷◌, length, Option, None, Some, inl, inr, ap, refl, ◌∙◌}
 use Rattle.c_tree.specs.declared.keyword.Keyword.TheVariants as words
 use Rattle.c_tree.specs.declared.operator.StructOrUnion.{StructOrUnion}
 use Rattle.c_tree.specs.declared.operator.StructOrUnion.TheVariants as which_word
@@ -11,12 +11,12 @@ use Rattle.c_tree.specs.Tokens.{word_of, tag_if, tokens_then}
 use Rattle.c_grammar.specs.Symbols.{after_sign, after_keyword, take_symbol, is_word}
 use Rattle.c_grammar.specs.Levels.{conditional_level}
 use Rattle.c_grammar.specs.Names.{Names}
-use Rattle.c_grammar.specs.Specifiers.{Place, InTypeName, types, fit}
+use Rattle.c_grammar.specs.Specifiers.{Place, InTypeName, types}
 use Rattle.c_grammar.specs.Nonterminal.{WithName, Expression, DeclaratorIn}
 use Rattle.c_grammar.specs.Grammar.{IsItem, AreItems, AreSpecifiers, IsDeclarator}
-use Rattle.c_grammar.specs.Found.{Found, Reader, made}
+use Rattle.c_grammar.specs.Found.{Reader}
 use Rattle.c_grammar.specs.SpecifierSteps.{read_specifiers}
-use Rattle.c_grammar.proofs.Options.{bound, chosen, when, parts}
+use Rattle.c_grammar.proofs.Options.{bound, chosen, when}
 use Rattle.c_grammar.proofs.Front.{take_symbol_some, taken, taken_keyword}
 use Rattle.c_grammar.proofs.Readers.{IsSound as IsSoundBelow}
 use Rattle.c_grammar.proofs.SoundSpecifiers.{FindsTagged, all_specifiers-sound}

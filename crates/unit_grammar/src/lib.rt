@@ -3,3 +3,5 @@
 #![tactic(auto)]
 
 mod theorems;
+
+pub use theorems::{chunks_are_sound, reading_is_sound, units_are_sound};
