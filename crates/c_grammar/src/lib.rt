@@ -4,4 +4,4 @@
 
 mod theorems;
 
-pub use theorems::reading_is_sound;
+pub use theorems::{parses_are_read, parses_are_unique, reading_is_complete, reading_is_sound};
