@@ -5,3 +5,5 @@ pub mod SoundDeclarations
 pub mod SoundStatements
 pub mod Sound
 pub mod SoundChunks
+pub mod Fronts
+pub mod Longer
