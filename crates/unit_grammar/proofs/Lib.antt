@@ -7,3 +7,4 @@ pub mod Sound
 pub mod SoundChunks
 pub mod Fronts
 pub mod Longer
+pub mod CompleteTagged
