@@ -8,3 +8,4 @@ pub mod SoundChunks
 pub mod Fronts
 pub mod Longer
 pub mod CompleteTagged
+pub mod CompleteDeclarations
