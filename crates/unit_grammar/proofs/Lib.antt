@@ -9,3 +9,4 @@ pub mod Fronts
 pub mod Longer
 pub mod CompleteTagged
 pub mod CompleteDeclarations
+pub mod CompleteStatements
