@@ -10,3 +10,5 @@ pub mod Longer
 pub mod CompleteTagged
 pub mod CompleteDeclarations
 pub mod CompleteStatements
+pub mod Complete
+pub mod CompleteChunks
