@@ -1,5 +1,5 @@
 -- Each tree of the grammar is read.
-use Rattle.std.proofs.Common.{◌≡◌, ℕ, zero, suc, ◌<◌, arith}
+use Rattle.std.proofs.Common.{ℕ, zero, suc, ◌<◌, arith}
 use Rattle.c_tree.specs.Syntax.{Syntax, Initializer, Specifier, Outer, Statement, Iteration, Jump, Braces, Specs, StructTag, StructDeclaration, Declaration, Empty, Block, While, Continue}
 use Rattle.c_tree.specs.Height.{height_of}
 use Rattle.c_grammar.specs.Names.{Names}

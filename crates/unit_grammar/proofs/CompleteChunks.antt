@@ -10,21 +10,20 @@ use Rattle.c_grammar.specs.Symbols.{is_sign, begins}
 use Rattle.c_grammar.specs.Names.{Names, name_of, with_name, declared_all, params_of}
 use Rattle.c_grammar.specs.Specifiers.{InDeclaration, goes_on}
 use Rattle.c_grammar.specs.Nonterminal.{WithName, DeclaratorIn}
-use Rattle.c_grammar.specs.Grammar.{IsDeclarator}
 use Rattle.c_grammar.specs.Found.{◌>>=◌, Found, Reader, made}
 use Rattle.c_grammar.specs.DeclaratorSteps.{begins_declarator}
 use Rattle.c_grammar.specs.Following.{goes_on_declaring}
-use Rattle.c_grammar.specs.Reading.{read as read_expressions, ended}
+use Rattle.c_grammar.specs.Reading.{read as read_expressions}
 use Rattle.c_grammar.proofs.Options.{made_low, same}
 use Rattle.c_grammar.proofs.Readers.{Knows as KnowsBelow}
 use Rattle.c_grammar.proofs.Begins.{differ, declarator_no_specifier}
 use Rattle.c_grammar.proofs.Complete.{read-complete as expressions-complete}
 use Rattle.unit_grammar.specs.Names.{declared, makes_types}
 use Rattle.unit_grammar.specs.Construct.{SpecifiersIn, FunctionBody, ConstructReader}
-use Rattle.unit_grammar.specs.Declarations.{AreFullSpecifiers, IsInitDeclarator, AreInitDeclarators}
+use Rattle.unit_grammar.specs.Declarations.{IsInitDeclarator}
 use Rattle.unit_grammar.specs.Control.{is_controlled}
-use Rattle.unit_grammar.specs.Grammar.{may_define, IsBlock, IsBody, IsChunk, IsParse}
-use Rattle.unit_grammar.specs.ChunkSteps.{read_function, read_definition, read_chunk}
+use Rattle.unit_grammar.specs.Grammar.{may_define, IsBody, IsChunk, IsParse}
+use Rattle.unit_grammar.specs.ChunkSteps.{read_function, read_chunk}
 use Rattle.unit_grammar.specs.Reading.{read, chunk}
 use Rattle.unit_grammar.proofs.Readers.{Knows}
 use Rattle.unit_grammar.proofs.Fronts.{front_no_sign, front_none, full_specifiers_begin, named_begins, init_declarator_begins}

@@ -1,6 +1,5 @@
 -- Initial values and declarations are read, where what follows doesn't go on with them.
-use Rattle.std.proofs.Common.{◌≡◌, ℕ, zero, suc, ◌+◌, ◌<◌, ◌≤◌, Bool, true, false, cond, not, ◌||◌, List, [], ◌∷◌, length, Option, None, Some, ap, refl, ◌∙◌, sym, subst, arith}
-use Rattle.c_tree.specs.declared.punctuator.Punctuator.{Punctuator}
+use Rattle.std.proofs.Common.{◌≡◌, ℕ, zero, suc, ◌<◌, ◌≤◌, Bool, true, false, List, ◌∷◌, length, Option, None, Some, ap, refl, ◌∙◌, sym, arith}
 use Rattle.c_tree.specs.declared.punctuator.Punctuator.TheVariants as marks
 use Rattle.c_tree.specs.Symbol.{Symbol, Word, Sign}
 use Rattle.c_tree.specs.Syntax.{Syntax, Primary, Operation, Initializer, Declarator, Outer, Ident, Init, Braces, Declaration, Syntaxes, no_more, more}
@@ -10,7 +9,7 @@ use Rattle.c_tree.specs.Tokens.{phrase_of, comma_if, list_phrase, more_phrase, t
 use Rattle.c_grammar.specs.Symbols.{is_sign, after_sign, begins}
 use Rattle.c_grammar.specs.Levels.{assignment_level}
 use Rattle.c_grammar.specs.Names.{Names, name_of, with_name}
-use Rattle.c_grammar.specs.Specifiers.{InDeclaration, goes_on, begins_specifiers}
+use Rattle.c_grammar.specs.Specifiers.{InDeclaration, goes_on}
 use Rattle.c_grammar.specs.Nonterminal.{WithName, Expression, DeclaratorIn}
 use Rattle.c_grammar.specs.Grammar.{IsDeclarator}
 use Rattle.c_grammar.specs.Found.{◌>>=◌, Found, Reader}
@@ -22,11 +21,11 @@ use Rattle.c_grammar.proofs.Longer.{count, longer, longer_more}
 use Rattle.c_grammar.proofs.Begins.{differ, begins_expression, expression_begins, declarator_no_specifier}
 use Rattle.unit_grammar.specs.Names.{declared, declared_name, makes_types}
 use Rattle.unit_grammar.specs.Construct.{SpecifiersIn, BracedInitials, ConstructReader}
-use Rattle.unit_grammar.specs.Declarations.{has_any, AreFullSpecifiers, IsInitial, AreInitials, IsNameTree, IsInitDeclarator, AreInitDeclarators, IsDeclaration}
+use Rattle.unit_grammar.specs.Declarations.{IsInitial, AreInitials, IsNameTree, IsInitDeclarator, AreInitDeclarators, IsDeclaration}
 use Rattle.unit_grammar.specs.Grammar.{IsBracesTree}
 use Rattle.unit_grammar.specs.DeclarationSteps.{read_initial, read_initials, read_braces, read_initialized, read_init_declarators, read_declaration_rest, read_declaration}
 use Rattle.unit_grammar.proofs.Readers.{Knows}
-use Rattle.unit_grammar.proofs.Fronts.{front_no_sign, front_none, full_specifiers_begin, init_declarator_begins, begins_initial, initial_begins}
+use Rattle.unit_grammar.proofs.Fronts.{front_no_sign, front_none, init_declarator_begins, begins_initial, initial_begins}
 
 -- an expression as an initial value
 plain_initial : (reader : Reader) (inner : ConstructReader) (n : ℕ) (names : Names) (e : Syntax) (r : List Symbol) → begins (begins_expression names) (tokens_then e r) ≡ true → reader (Expression assignment_level) names (tokens_then e r) ≡ Some (e, r)

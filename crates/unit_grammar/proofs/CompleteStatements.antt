@@ -1,6 +1,5 @@
 -- Statements and blocks are read, where no `else` follows that they would take.
-use Rattle.std.proofs.Common.{◌≡◌, ℕ, zero, suc, ◌+◌, ◌<◌, ◌≤◌, Bool, true, false, cond, List, [], ◌∷◌, length, Option, None, Some, ◌⊎◌, inl, inr, ap, refl, ◌∙◌, arith}
-use Rattle.c_tree.specs.declared.keyword.Keyword.{Keyword}
+use Rattle.std.proofs.Common.{◌≡◌, ℕ, zero, suc, ◌<◌, ◌≤◌, true, false, List, [], ◌∷◌, length, Some, inl, inr, refl, arith}
 use Rattle.c_tree.specs.declared.keyword.Keyword.TheVariants as words
 use Rattle.c_tree.specs.declared.operator.BinaryOp.TheVariants as binary
 use Rattle.c_tree.specs.declared.operator.UnaryOp.TheVariants as unary
@@ -11,13 +10,13 @@ use Rattle.c_tree.specs.Symbol.{Symbol, Word, Reserved, Sign}
 use Rattle.c_tree.specs.Syntax.{Syntax, OperationSyntax, Operation, Unary, Binary, Statement, Iteration, Jump, Block, ExprStmt, If, Switch, Case, Default, Label, While, Do, For, Goto, Continue, Break, Return, MaybeSyntax, absent, present, Syntaxes, no_more, more}
 use Rattle.c_tree.specs.Height.{height_of, height_maybe, height_in}
 use Rattle.c_tree.specs.Phrase.{phrase_then}
-use Rattle.c_tree.specs.Tokens.{phrase_of, maybe_phrase, row_phrase, else_phrase, tokens_then}
-use Rattle.c_grammar.specs.Symbols.{is_sign, is_keyword, is_word, after_sign, after_keyword, begins}
+use Rattle.c_tree.specs.Tokens.{maybe_phrase, row_phrase, else_phrase, tokens_then}
+use Rattle.c_grammar.specs.Symbols.{is_sign, is_keyword, is_word, after_keyword, begins}
 use Rattle.c_grammar.specs.Levels.{conditional_level, comma_level, operation_grade, grade}
 use Rattle.c_grammar.specs.Names.{Names}
 use Rattle.c_grammar.specs.Nonterminal.{Expression}
 use Rattle.c_grammar.specs.Grammar.{IsExpr}
-use Rattle.c_grammar.specs.Found.{◌>>=◌, if_there, Found, made, Reader}
+use Rattle.c_grammar.specs.Found.{◌>>=◌, if_there, made, Reader}
 use Rattle.c_grammar.specs.Following.{Stops}
 use Rattle.c_grammar.proofs.Options.{made_low}
 use Rattle.c_grammar.proofs.Front.{after_none, take_symbol_here}
@@ -26,11 +25,10 @@ use Rattle.c_grammar.proofs.Longer.{count}
 use Rattle.c_grammar.proofs.Begins.{begins_expression, expression_begins, expression_no_sign}
 use Rattle.unit_grammar.specs.Names.{declared}
 use Rattle.unit_grammar.specs.Construct.{BlockDeclaration, OneStatement, ConstructReader}
-use Rattle.unit_grammar.specs.Declarations.{IsDeclaration}
 use Rattle.unit_grammar.specs.Statements.{IsMaybeExpr, IsStatement, IsElse, takes_else, AreBlockItems, AreStatements}
 use Rattle.unit_grammar.specs.Grammar.{IsBlock}
 use Rattle.unit_grammar.specs.Following.{LeavesNoElse}
-use Rattle.unit_grammar.specs.StatementSteps.{begins_label, read_statements, read_block_items, read_block_rest, read_block, read_maybe_expr, read_condition, read_expression_statement, read_if, read_for, read_statement}
+use Rattle.unit_grammar.specs.StatementSteps.{begins_label, read_statements, read_block_items, read_block_rest, read_block, read_maybe_expr, read_condition, read_expression_statement, read_statement}
 use Rattle.unit_grammar.proofs.Readers.{Knows}
 use Rattle.unit_grammar.proofs.Fronts.{front_none, declaration_begins, expression_no_label, begins_statement, statement_begins, statement_no_declaration, statements_no_else}
 use Rattle.unit_grammar.proofs.Longer.{longer_items}

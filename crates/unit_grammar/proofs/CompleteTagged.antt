@@ -1,22 +1,21 @@
 -- Specifiers with bodies, members and enumerators are read, where what follows doesn't go on with them.
-use Rattle.std.proofs.Common.{◌≡◌, ℕ, zero, suc, ◌+◌, ◌<◌, ◌≤◌, Bool, true, false, cond, ◌||◌, List, [], ◌∷◌, length, Option, None, Some, ap, refl, ◌∙◌, sym, subst, arith}
-use Rattle.c_tree.specs.declared.keyword.Keyword.TheVariants as words
+use Rattle.std.proofs.Common.{◌≡◌, ℕ, zero, suc, ◌<◌, ◌≤◌, Bool, true, false, ◌||◌, List, ◌∷◌, length, Option, None, Some, ap, refl, ◌∙◌, sym, arith}
 use Rattle.c_tree.specs.declared.operator.StructOrUnion.{StructOrUnion}
 use Rattle.c_tree.specs.declared.operator.StructOrUnion.TheVariants as which_word
 use Rattle.c_tree.specs.declared.punctuator.Punctuator.{Punctuator}
 use Rattle.c_tree.specs.declared.punctuator.Punctuator.TheVariants as marks
-use Rattle.c_tree.specs.Symbol.{Symbol, Word, Reserved, Sign}
+use Rattle.c_tree.specs.Symbol.{Symbol, Reserved, Sign}
 use Rattle.c_tree.specs.Syntax.{Syntax, SpecifierSyntax, Specifier, Declarator, Part, Outer, Specs, StructTag, StructBody, EnumTag, EnumBody, StructDeclaration, BitField, SpecWord, Enumerator, Empty, MaybeSyntax, absent, present, Syntaxes, no_more, more}
 use Rattle.c_tree.specs.Height.{height_of, height_maybe, height_in}
 use Rattle.c_tree.specs.Phrase.{phrase_then, ◌⨾◌, sign}
-use Rattle.c_tree.specs.Tokens.{word_of, tag_if, comma_if, phrase_of, assigned_phrase, list_phrase, more_phrase, row_phrase, tokens_then}
+use Rattle.c_tree.specs.Tokens.{tag_if, comma_if, phrase_of, assigned_phrase, list_phrase, more_phrase, row_phrase, tokens_then}
 use Rattle.c_grammar.specs.Symbols.{is_sign, is_word, after_sign, begins}
 use Rattle.c_grammar.specs.Levels.{conditional_level}
 use Rattle.c_grammar.specs.Names.{Names}
 use Rattle.c_grammar.specs.Specifiers.{Place, InTypeName, begins_tag, goes_on, types}
 use Rattle.c_grammar.specs.Nonterminal.{WithName, Expression, DeclaratorIn}
-use Rattle.c_grammar.specs.Grammar.{IsItem, AreItems, AreSpecifiers}
-use Rattle.c_grammar.specs.Found.{Found, Reader}
+use Rattle.c_grammar.specs.Grammar.{IsItem, AreItems}
+use Rattle.c_grammar.specs.Found.{Reader}
 use Rattle.c_grammar.specs.DeclaratorSteps.{begins_declarator}
 use Rattle.c_grammar.specs.SpecifierSteps.{read_specifiers}
 use Rattle.c_grammar.specs.Following.{Stops, goes_on_declaring}
@@ -127,9 +126,11 @@ tagged-complete reader inner n names _ r k i w h s = absurd w
 member_declarator-complete : (reader : Reader) (n : ℕ) (names : Names) (e : Syntax) (p : Punctuator) (r : List Symbol) → KnowsBelow reader n → IsMemberDeclarator names e → height_of e ≤ n
     → Stops conditional_level (Sign p ∷ r) → after_sign marks.Colon (Sign p ∷ r) ≡ None → begins (goes_on_declaring names) (Sign p ∷ r) ≡ false → read_member_declarator reader names (tokens_then e (Sign p ∷ r)) ≡ Some (e, Sign p ∷ r)
 member_declarator-complete reader n names (Declarator d) p r k w h s a b =
-    rw (front_none (begins_declarator WithName) marks.Colon (tokens_then (Declarator d) (Sign p ∷ r)) refl (named_begins names (Declarator d) (Sign p ∷ r) w),
+    rw (
+      front_none (begins_declarator WithName) marks.Colon (tokens_then (Declarator d) (Sign p ∷ r)) refl (named_begins names (Declarator d) (Sign p ∷ r) w),
       k (DeclaratorIn WithName) names (Declarator d) (Sign p ∷ r) w h b,
-      a) refl
+      a,
+    ) refl
 member_declarator-complete reader n names (Specifier (BitField absent width)) p r k w h s a b = rw (k (Expression conditional_level) names width (Sign p ∷ r) w.1 (omega arith) s) refl
 member_declarator-complete reader n names (Specifier (BitField (present d) width)) p r k w h s a b =
     let X = Sign marks.Colon ∷ tokens_then width (Sign p ∷ r) in

@@ -1,5 +1,5 @@
 -- What declarations, members, initial values and statements begin with.
-use Rattle.std.proofs.Common.{◌≡◌, ℕ, ◌+◌, ◌<◌, ◌≤◌, Bool, true, false, cond, not, ◌&&◌, ◌||◌, nat_le, List, [], ◌∷◌, ◌++◌, length, Option, None, Some, ap, refl, ◌∙◌, sym, subst, arith}
+use Rattle.std.proofs.Common.{◌≡◌, Bool, true, false, not, ◌&&◌, ◌||◌, nat_le, List, [], ◌∷◌, None, ap, refl}
 use Rattle.c_tree.specs.declared.keyword.Keyword.{Keyword}
 use Rattle.c_tree.specs.declared.keyword.Keyword.TheVariants as words
 use Rattle.c_tree.specs.declared.operator.AssignOp.{AssignOp}
@@ -13,19 +13,19 @@ use Rattle.c_tree.specs.declared.punctuator.Punctuator.TheVariants as marks
 use Rattle.c_tree.specs.Codes.{keyword_code, punctuator_code}
 use Rattle.c_tree.specs.Symbol.{Symbol, Word, Reserved, Sign, IntLiteral, FloatLiteral, CharLiteral, StringLiteral}
 use Rattle.c_tree.specs.Syntax.{Syntax, Primary, Operation, Initializer, Specifier, Declarator, Part, Outer, Statement, Iteration, Jump, Ident, Constant, StrConst, Paren, VaArg, Offsetof, Index, Call, Member, Arrow, Unary, SizeofType, Cast, Binary, Cond, Assign, Init, Braces, Specs, StructTag, StructBody, EnumTag, EnumBody, StructDeclaration, BitField, SpecWord, Enumerator, Declaration, Empty, Block, ExprStmt, If, Switch, Case, Default, Label, While, Do, For, Goto, Continue, Break, Return, absent, present, Syntaxes, no_more, more}
-use Rattle.c_tree.specs.Phrase.{Phrase, nothing, one, all, ◌⨾◌, phrase_then}
-use Rattle.c_tree.specs.Tokens.{binary_sign, assign_sign, phrase_of, list_phrase, row_phrase, tokens_then}
-use Rattle.c_grammar.specs.Symbols.{is_sign, is_keyword, is_word, after_sign, after_keyword, begins}
+use Rattle.c_tree.specs.Phrase.{phrase_then}
+use Rattle.c_tree.specs.Tokens.{binary_sign, assign_sign, list_phrase, row_phrase, tokens_then}
+use Rattle.c_grammar.specs.Symbols.{is_sign, is_keyword, is_word, after_sign, begins}
 use Rattle.c_grammar.specs.Names.{Names}
-use Rattle.c_grammar.specs.Specifiers.{Place, begins_tag, goes_on, begins_specifiers, types}
+use Rattle.c_grammar.specs.Specifiers.{Place, begins_tag, goes_on, begins_specifiers}
 use Rattle.c_grammar.specs.Nonterminal.{WithName}
 use Rattle.c_grammar.specs.Grammar.{IsExpr, IsDeclarator}
 use Rattle.c_grammar.specs.DeclaratorSteps.{begins_declarator}
 use Rattle.c_grammar.proofs.Front.{after_none, is_sign-true, is_keyword-true}
-use Rattle.c_grammar.proofs.Begins.{differ, wider, begins_expression, expression_begins, expression_no_specifier, declarator_begins, before_declarator}
+use Rattle.c_grammar.proofs.Begins.{differ, wider, begins_expression, expression_begins, expression_no_specifier, declarator_begins}
 use Rattle.c_grammar.proofs.CompleteSpecifiers.{fit_typed}
 use Rattle.unit_grammar.specs.Names.{declared, makes_types}
-use Rattle.unit_grammar.specs.Declarations.{IsEnumerator, IsMemberDeclarator, AreMemberDeclarators, AreFullSpecifiers, AreFullItems, IsFullItem, IsMember, IsInitial, IsInitDeclarator, AreInitDeclarators, IsDeclaration}
+use Rattle.unit_grammar.specs.Declarations.{IsEnumerator, IsMemberDeclarator, AreFullSpecifiers, AreFullItems, IsFullItem, IsMember, IsInitial, IsInitDeclarator, AreInitDeclarators, IsDeclaration}
 use Rattle.unit_grammar.specs.Statements.{IsStatement, AreStatements}
 use Rattle.unit_grammar.specs.StatementSteps.{begins_label, begins_declaration}
 

@@ -12,3 +12,4 @@ pub mod CompleteDeclarations
 pub mod CompleteStatements
 pub mod Complete
 pub mod CompleteChunks
+pub mod Units

@@ -1,5 +1,5 @@
 -- A row of trees of which each has tokens is as long as it has trees.
-use Rattle.std.proofs.Common.{◌≡◌, ℕ, ◌+◌, ◌<◌, ◌≤◌, Bool, true, List, [], ◌∷◌, ◌++◌, length, inl, inr, arith}
+use Rattle.std.proofs.Common.{◌≡◌, ◌+◌, ◌<◌, ◌≤◌, Bool, true, List, [], ◌∷◌, ◌++◌, length, inl, inr, arith}
 use Rattle.c_tree.specs.declared.punctuator.Punctuator.TheVariants as marks
 use Rattle.c_tree.specs.Symbol.{Symbol, Sign}
 use Rattle.c_tree.specs.Syntax.{Syntax, Outer, Declaration, Syntaxes, no_more, more}

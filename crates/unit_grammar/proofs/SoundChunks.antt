@@ -1,8 +1,8 @@
--- What is read of a chunk is a parse of it, and what is read of the chunks of a unit are their parses.
-use Rattle.std.proofs.Common.{◌≡◌, ℕ, ◌≤◌, true, false, List, [], ◌∷◌, Option, None, Some, ◌⊎◌, inl, inr, ap, refl, ◌∙◌, sym, subst}
+-- What is read of a chunk is a parse of it.
+use Rattle.std.proofs.Common.{◌≡◌, ℕ, ◌≤◌, true, false, List, [], ◌∷◌, Option, Some, inl, inr, ap, ◌∙◌, sym, subst}
 use Rattle.c_tree.specs.declared.punctuator.Punctuator.TheVariants as marks
 use Rattle.c_tree.specs.Symbol.{Symbol}
-use Rattle.c_tree.specs.Syntax.{Syntax, Outer, Declaration, Function, Empty, Syntaxes, no_more, more}
+use Rattle.c_tree.specs.Syntax.{Syntax, Outer, Declaration, Function, Empty, Syntaxes, no_more}
 use Rattle.c_tree.specs.Height.{height_of}
 use Rattle.c_tree.specs.Tokens.{tokens_then}
 use Rattle.c_grammar.specs.Symbols.{after_sign, begins, is_sign}
@@ -20,9 +20,9 @@ use Rattle.unit_grammar.specs.Names.{declared}
 use Rattle.unit_grammar.specs.Construct.{SpecifiersIn, FunctionBody, ConstructReader}
 use Rattle.unit_grammar.specs.Declarations.{AreFullSpecifiers, IsDeclaration}
 use Rattle.unit_grammar.specs.Control.{is_controlled}
-use Rattle.unit_grammar.specs.Grammar.{may_define, IsBlock, IsBody, IsChunk, IsParse, AreParses}
+use Rattle.unit_grammar.specs.Grammar.{may_define, IsBlock, IsBody, IsChunk, IsParse}
 use Rattle.unit_grammar.specs.ChunkSteps.{read_function, read_definition, read_chunk}
-use Rattle.unit_grammar.specs.Reading.{read, chunk, Outcome, Trees, Bad, behind, follow, read_unit}
+use Rattle.unit_grammar.specs.Reading.{read, chunk}
 use Rattle.unit_grammar.proofs.Readers.{IsSound}
 use Rattle.unit_grammar.proofs.SoundDeclarations.{declaration_rest-sound}
 use Rattle.unit_grammar.proofs.Sound.{read-sound}
@@ -101,24 +101,3 @@ chunk-sound names ts e h =
     let a = bound (read_chunk (read_expressions 999) (read 999) 1000 names ts) ended e h in
     let s = read_chunk-sound (read_expressions 999) (read 999) 999 1000 names ts e [] (expressions-sound 999) (read-sound 999) (a.1 ∙ at_end a.0 e a.2) in
     record { tokens = s.tokens; well = s.well; height = s.height }
-
-pub followed : (o : Option Syntax) (f : Syntax → Outcome) (z : Outcome) → follow o f ≡ z → ((o ≡ None) × (Bad 0 ≡ z)) ⊎ ((e : Syntax) × (o ≡ Some e) × (behind e (f e) ≡ z))
-followed None f z h = inl (refl, h)
-followed (Some e) f z h = inr (e, refl, h)
-
-trees_behind : (e : Syntax) (o : Outcome) (es : Syntaxes) → behind e o ≡ Trees es → (ds : Syntaxes) × (o ≡ Trees ds) × (more e ds ≡ es)
-trees_behind e (Trees ds) es h = (ds, refl, cc)
-trees_behind e (Bad k) es h = cc
-
--- what is read of chunks are their parses
-pub unit-sound : (names : Names) (chunks : List (List Symbol)) (es : Syntaxes) → read_unit names chunks ≡ Trees es → AreParses names es chunks
-unfolding read_unit
-unit-sound names [] es h = let e : no_more ≡ es = cc in subst (λ x. AreParses names x []) e tt
-unit-sound names (ts ∷ chunks) es h =
-    elim (followed (chunk names ts) _ _ h) as (λ _. AreParses names es (ts ∷ chunks)) [
-      | inl p ↦ let q = p.1 in cc
-      | inr p ↦
-          let q = trees_behind p.0 (read_unit (declared p.0 names) chunks) es p.2 in
-          let i = unit-sound (declared p.0 names) chunks q.0 q.1 in
-          subst (λ x. AreParses names x (ts ∷ chunks)) q.2 (chunk-sound names ts p.0 p.1, i)
-    ]

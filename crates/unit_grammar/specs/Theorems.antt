@@ -22,14 +22,6 @@ ReadingIsComplete = (n : ℕ) (construct : Construct) (names : Names) (e : Synta
     → IsOf construct names e → height_of e ≤ n → Ends construct names e r
     → read n construct names (tokens_then e r) ≡ Some (e, r)
 
--- what is read of a chunk is a parse of it
-abbrev pub ChunksAreSound : Type 0
-ChunksAreSound = (names : Names) (ts : List Symbol) (e : Syntax) → chunk names ts ≡ Some e → IsParse names e ts
-
--- what is read of chunks are parses of them
-abbrev pub UnitsAreSound : Type 0
-UnitsAreSound = (names : Names) (chunks : List (List Symbol)) (es : Syntaxes) → read_unit names chunks ≡ Trees es → AreParses names es chunks
-
 -- the tree that is read of a chunk is exactly its parse
 abbrev pub ChunksAreRead : Type 0
 ChunksAreRead = (names : Names) (ts : List Symbol) (e : Syntax) → (chunk names ts ≡ Some e) ↔ IsParse names e ts

@@ -2,7 +2,12 @@
 // caller's proof.
 
 ghost use Rattle.unit_grammar.specs.Theorems.{
-  ReadingIsSound, ChunksAreSound, UnitsAreSound,
+  ReadingIsSound,
+  ReadingIsComplete,
+  ChunksAreRead,
+  ParsesAreUnique,
+  UnitsAreRead,
+  FirstBadIsFound,
 };
 
 /// What the plain reader finds is a tree of the grammar, of at most the height that it was given, and its tokens are those
@@ -11,12 +16,27 @@ pub fn reading_is_sound()
     ensures { ReadingIsSound }
 {}
 
-/// What is read of a chunk is a parse of it.
-pub fn chunks_are_sound()
-    ensures { ChunksAreSound }
+/// Each tree of the grammar is found, up to the height that the reader was given, where what follows doesn't go on with it.
+pub fn reading_is_complete()
+    ensures { ReadingIsComplete }
 {}
 
-/// What is read of the chunks of a unit are their parses, each under the names that those before it leave.
-pub fn units_are_sound()
-    ensures { UnitsAreSound }
+/// The tree that is read of a chunk is exactly its parse.
+pub fn chunks_are_read()
+    ensures { ChunksAreRead }
+{}
+
+/// A chunk has at most one parse.
+pub fn parses_are_unique()
+    ensures { ParsesAreUnique }
+{}
+
+/// The trees that are read of chunks are exactly their parses, each under the names that those before it leave.
+pub fn units_are_read()
+    ensures { UnitsAreRead }
+{}
+
+/// The number that is read where a chunk has no parse is exactly that of the first such chunk.
+pub fn first_bad_is_found()
+    ensures { FirstBadIsFound }
 {}
