@@ -28,6 +28,7 @@ use Rattle.unit_grammar.specs.Names.{declared, makes_types}
 use Rattle.unit_grammar.specs.Declarations.{IsEnumerator, IsMemberDeclarator, AreFullSpecifiers, AreFullItems, IsFullItem, IsMember, IsInitial, IsInitDeclarator, AreInitDeclarators, IsDeclaration}
 use Rattle.unit_grammar.specs.Statements.{IsStatement, AreStatements}
 use Rattle.unit_grammar.specs.StatementSteps.{begins_label, begins_declaration}
+use Rattle.unit_grammar.proofs.Readers.{or_first}
 
 -- What has this property isn't that punctuator, which hasn't.
 apart : (is : Symbol → Bool) (p : Punctuator) (t : Symbol) → is (Sign p) ≡ false → is t ≡ true → is_sign p t ≡ false
@@ -99,10 +100,6 @@ init_declarator_begins type names _ r w = absurd w
 -- a declarator of a member may begin with its width
 abbrev pub begins_member_declarator : Symbol → Bool
 begins_member_declarator t = begins_declarator WithName t || is_sign marks.Colon t
-
-or_first : (a b : Bool) → a ≡ true → (a || b) ≡ true
-or_first true b h = refl
-or_first false b h = cc
 
 pub member_declarator_begins : (names : Names) (e : Syntax) (r : List Symbol) → IsMemberDeclarator names e → begins begins_member_declarator (tokens_then e r) ≡ true
 member_declarator_begins names (Declarator k) r w = wider (begins_declarator WithName) begins_member_declarator (tokens_then (Declarator k) r) (λ t h. or_first (begins_declarator WithName t) (is_sign marks.Colon t) h) (named_begins names (Declarator k) r w)

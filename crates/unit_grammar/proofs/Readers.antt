@@ -1,5 +1,5 @@
 -- What is asked of a reader of lower trees, and what each step then gives.
-use Rattle.std.proofs.Common.{◌≡◌, ℕ, ◌≤◌, Bool, true, List, ◌∷◌, Option, Some, ap, refl, ◌∙◌, subst}
+use Rattle.std.proofs.Common.{◌≡◌, ℕ, ◌≤◌, Bool, true, false, ◌||◌, List, ◌∷◌, Option, Some, ap, refl, ◌∙◌, subst}
 use Rattle.c_tree.specs.declared.punctuator.Punctuator.{Punctuator}
 use Rattle.c_tree.specs.declared.punctuator.Punctuator.TheVariants as marks
 use Rattle.c_tree.specs.Symbol.{Symbol, Sign}
@@ -90,3 +90,7 @@ pub listed : (P : Syntaxes → Type 0) (close : Punctuator) (ts : List Symbol) (
 listed P close ts xs c t es comma r h l =
     let q = three_parts (xs, c, t) (es, comma, r) h in
     subst (λ x. Listed P close ts x comma r) q.0 (subst (λ x. Listed P close ts xs x r) q.1 (subst (λ x. Listed P close ts xs c x) q.2 l))
+
+pub or_first : (a b : Bool) → a ≡ true → (a || b) ≡ true
+or_first true b h = refl
+or_first false b h = cc

@@ -1,5 +1,5 @@
 -- What is read as an initial value or a declaration is one.
-use Rattle.std.proofs.Common.{◌≡◌, ℕ, zero, suc, Bool, true, false, not, ◌||◌, List, ◌∷◌, length, Some, inl, inr, ap, refl, ◌∙◌, sym, subst}
+use Rattle.std.proofs.Common.{◌≡◌, ℕ, zero, suc, Bool, true, false, not, List, ◌∷◌, length, Some, inl, inr, ap, refl, ◌∙◌, sym, subst}
 use Rattle.c_tree.specs.declared.punctuator.Punctuator.TheVariants as marks
 use Rattle.c_tree.specs.Symbol.{Symbol, Word, Sign}
 use Rattle.c_tree.specs.Syntax.{Syntax, Primary, Operation, Initializer, Declarator, Outer, Ident, Init, Braces, Declaration, Syntaxes, no_more, more}
@@ -19,7 +19,7 @@ use Rattle.unit_grammar.specs.Construct.{SpecifiersIn, BracedInitials, BlockDecl
 use Rattle.unit_grammar.specs.Declarations.{has_any, AreFullSpecifiers, IsInitial, AreInitials, IsNameTree, IsInitDeclarator, AreInitDeclarators}
 use Rattle.unit_grammar.specs.Grammar.{IsBracesTree}
 use Rattle.unit_grammar.specs.DeclarationSteps.{read_initial, read_initials, read_braces, read_initialized, read_init_declarators, read_declaration_rest, read_declaration}
-use Rattle.unit_grammar.proofs.Readers.{Stands, IsSound, finish, found, with_comma, Separated, separated, Listed, listed}
+use Rattle.unit_grammar.proofs.Readers.{Stands, IsSound, finish, found, with_comma, Separated, separated, Listed, listed, or_first}
 
 expression_initial : (names : Names) (e : Syntax) → IsOfBelow (Expression assignment_level) names e → IsInitial names e
 expression_initial names (Primary k) w = w
@@ -72,10 +72,6 @@ initials-sound reader inner n names (suc f) ts es comma r s i h =
           ]
     ]
 
-any_first : (a b : Bool) → a ≡ true → (a || b) ≡ true
-any_first true b h = refl
-any_first false b h = cc
-
 pub braces-sound : (reader : Reader) (inner : ConstructReader) (n m : ℕ) (names : Names) (ts : List Symbol) (e : Syntax) (r : List Symbol)
     → IsSoundBelow reader n → IsSound inner n → read_braces reader inner m names ts ≡ Some (e, r) → Stands m BracedInitials names ts e r
 braces-sound reader inner n m names ts e r s i h =
@@ -86,7 +82,7 @@ braces-sound reader inner n m names ts e r s i h =
           let a = bound (read_initials reader inner names (length o.0) o.0) _ _ p.1 in
           let j = initials-sound reader inner n names (length o.0) o.0 a.0.0 a.0.1 a.0.2 s i a.1 in
           finish m BracedInitials names ts (Initializer (Braces a.0.0 a.0.1)) a.0.2 e r a.2
-          (begun ∙ ap (λ x. Sign marks.OpenBrace ∷ x) j.tokens) (j.well, any_first (has_any a.0.0) (not a.0.1) j.some) tt
+          (begun ∙ ap (λ x. Sign marks.OpenBrace ∷ x) j.tokens) (j.well, or_first (has_any a.0.0) (not a.0.1) j.some) tt
       | inr p ↦
           finish m BracedInitials names ts (Initializer (Braces no_more false)) p.0 e r p.2
           (begun ∙ ap (λ x. Sign marks.OpenBrace ∷ x) (taken marks.CloseBrace o.0 p.0 p.1)) (tt, refl) tt

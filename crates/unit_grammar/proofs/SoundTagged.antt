@@ -25,7 +25,7 @@ use Rattle.unit_grammar.specs.Construct.{SpecifiersIn, TaggedType, StructMember,
 use Rattle.unit_grammar.specs.Declarations.{has_any, IsMaybeTag, IsEnumerator, AreEnumerators, IsMemberDeclarator, AreMemberDeclarators, makes_members, AreFullSpecifiers, AreFullItems, IsFullItem, AreMembers}
 use Rattle.unit_grammar.specs.Grammar.{IsTaggedTree}
 use Rattle.unit_grammar.specs.TaggedSteps.{read_enumerator, read_enumerators, read_enum_body, read_enum, read_members, read_struct_body, read_struct, read_tagged, read_member_declarator, read_member_declarators, read_declared_members, read_member}
-use Rattle.unit_grammar.proofs.Readers.{Stands, IsSound, finish, found, with_comma, Row, row, Separated, separated, Listed, listed}
+use Rattle.unit_grammar.proofs.Readers.{Stands, IsSound, finish, found, with_comma, Row, row, Separated, separated, Listed, listed, or_first}
 
 enumerator-sound : (reader : Reader) (n : ℕ) (names : Names) (ts : List Symbol) (e : Syntax) (r : List Symbol)
     → IsSoundBelow reader n → read_enumerator reader names ts ≡ Some (e, r) → (ts ≡ tokens_then e r) × IsEnumerator names e
@@ -202,10 +202,6 @@ member_declarators-sound reader n names (suc f) ts es r s h =
           })
     ]
 
-any_first : (a b : Bool) → a ≡ true → (a || b) ≡ true
-any_first true b h = refl
-any_first false b h = cc
-
 declared_members-sound : (reader : Reader) (n m : ℕ) (names : Names) (specs : Syntax) (all ts : List Symbol) (e : Syntax) (r : List Symbol)
     → IsSoundBelow reader n → AreFullSpecifiers InTypeName names specs → all ≡ tokens_then specs ts → read_declared_members reader m names specs ts ≡ Some (e, r) → Stands m StructMember names all e r
 declared_members-sound reader n m names specs all ts e r s w k h =
@@ -214,7 +210,7 @@ declared_members-sound reader n m names specs all ts e r s w k h =
           let a = bound (read_member_declarators reader (declared specs names) (length ts) ts) _ _ o.1 in
           let i = member_declarators-sound reader n (declared specs names) (length ts) ts a.0.0 a.0.1 s a.1 in
           finish m StructMember names all (Specifier (StructDeclaration specs a.0.0)) a.0.1 e r a.2
-          (k ∙ ap (tokens_then specs) i.tokens) (w, i.well, any_first (has_any a.0.0) (makes_members specs) i.some) tt
+          (k ∙ ap (tokens_then specs) i.tokens) (w, i.well, or_first (has_any a.0.0) (makes_members specs) i.some) tt
       | inr o ↦
           let c = when (makes_members specs) _ _ o.2 in
           finish m StructMember names all (Specifier (StructDeclaration specs no_more)) o.0 e r c.1
