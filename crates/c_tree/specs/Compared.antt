@@ -1,10 +1,10 @@
 -- What two trees are compared by: parentheses are seen through, `x->f` is `(*x).f`, an integer constant is its value, and
 -- a name with an initializer that isn't braced is an assignment to the name. Everything else is compared as it stands,
 -- and nothing is seen through inside a type name.
-use Rattle.std.specs.Prelude.{ℕ, zero, true, false}
+use Rattle.std.specs.Prelude.{true, false}
 use Rattle.c_tree.specs.declared.operator.UnaryOp.TheVariants as unary
 use Rattle.c_tree.specs.declared.operator.AssignOp.TheVariants as assign
-use Rattle.c_tree.specs.Symbol.{Symbol, Integer, Word, Reserved, Sign, IntLiteral, FloatLiteral, CharLiteral, StringLiteral}
+use Rattle.c_tree.specs.Symbol.{Symbol, IntLiteral}
 use Rattle.c_tree.specs.Syntax.{Syntax, Primary, Operation, Initializer, Specifier, Declarator, Part, Outer, Statement, Iteration, Jump, PrimarySyntax, OperationSyntax, InitializerSyntax, SpecifierSyntax, DeclaratorSyntax, PartSyntax, OuterSyntax, StatementSyntax, IterationSyntax, JumpSyntax, Ident, Constant, StrConst, Paren, VaArg, Offsetof, Hole, Index, Call, Member, Arrow, CompoundLit, Unary, SizeofType, Cast, Binary, Cond, Assign, Init, Braces, Designated, TypeName, Specs, StructTag, StructBody, EnumTag, EnumBody, StructDeclaration, BitField, Param, Named, Nested, Unnamed, SpecWord, ArrayBound, VoidParams, Params, Enumerator, MemberDesignator, IndexDesignator, Declaration, Function, Empty, Block, ExprStmt, If, Switch, Case, Default, Label, While, Do, For, ForDeclaration, Goto, Continue, Break, Return, MaybeSyntax, absent, present, Syntaxes, no_more, more}
 
 -- an integer constant by its value, any other by its spelling

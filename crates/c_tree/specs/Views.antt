@@ -1,5 +1,5 @@
 -- The node that a tree of the program is.
-use Rattle.std.specs.Prelude.{List, [], ◌∷◌, Option, None, Some}
+use Rattle.std.specs.Prelude.{List, [], ◌∷◌, Option}
 use Rattle.std.specs.Borrow.{Bor}
 use Rattle.std.specs.Option.{option_map}
 use Rattle.c_tree.specs.declared.tree.Tree.{Tree}

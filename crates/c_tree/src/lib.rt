@@ -1,16 +1,19 @@
 //! Tokens, places and syntax trees of C, from which every other part of the checker reads.
 #![tactic(auto, using(crate::proofs::Rows::nodes_out))]
 
+mod alike;
 mod declaration;
 mod expression;
 mod heights;
 mod keyword;
+mod leading;
 mod operator;
 mod place;
 mod punctuator;
 mod statement;
 mod token;
 mod tree;
+mod yielded;
 
 pub use declaration::{Declarator, Initializer, Outer, Part, Specifier};
 pub use expression::{Operation, Primary};
@@ -22,3 +25,4 @@ pub use punctuator::Punctuator;
 pub use statement::{Iteration, Jump, Statement};
 pub use token::{FloatEnd, Mark, Token, TokenKind};
 pub use tree::{Arena, Kind, Tree, Trees, first_token};
+pub use yielded::yields;
