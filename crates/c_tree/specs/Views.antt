@@ -1,5 +1,5 @@
 -- The node that a tree of the program is.
-use Rattle.std.specs.Prelude.{List, [], ◌∷◌, Option}
+use Rattle.std.specs.Prelude.{List, [], ◌∷◌, Option, None, Some}
 use Rattle.std.specs.Borrow.{Bor}
 use Rattle.std.specs.Option.{option_map}
 use Rattle.c_tree.specs.declared.tree.Tree.{Tree}
@@ -127,6 +127,11 @@ abbrev mutual
 
 abbrev pub node_of : Tree → Node
 node_of t = node t.id t.first (shape_of t.kind)
+
+-- a tree that may be missing
+abbrev pub option_node : Option (Bor Tree) → MaybeNode
+option_node None = absent
+option_node (Some t) = present (node_of t.now)
 
 -- the nodes of a slice
 abbrev pub nodes_in : List Tree → Nodes

@@ -2,6 +2,7 @@
 #![tactic(auto, using(crate::proofs::Rows::nodes_out))]
 
 mod alike;
+mod copies;
 mod declaration;
 mod expression;
 mod heights;
@@ -15,6 +16,7 @@ mod token;
 mod tree;
 mod yielded;
 
+pub use copies::copy_tree;
 pub use declaration::{Declarator, Initializer, Outer, Part, Specifier};
 pub use expression::{Operation, Primary};
 pub use heights::height;
