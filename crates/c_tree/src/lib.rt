@@ -4,6 +4,7 @@
 mod alike;
 mod copies;
 mod declaration;
+mod equality;
 mod expression;
 mod heights;
 mod keyword;
