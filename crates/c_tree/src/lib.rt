@@ -31,3 +31,6 @@ pub use statement::{Iteration, Jump, Statement};
 pub use token::{FloatEnd, Mark, Token, TokenKind};
 pub use tree::{Arena, Kind, Tree, Trees, first_token};
 pub use yielded::yields;
+
+#[cfg(test)]
+mod tests;
