@@ -1,11 +1,12 @@
 -- A list of nodes is seen through its slice.
-use Rattle.std.proofs.Common.{◌≡◌, ℕ, ◌+◌, ◌<◌, ◌≤◌, Bor, List, [], ◌∷◌, ◌++◌, length, get_or, drop, ap, refl, ◌∙◌, sym, add-one, drop-cons}
+use Rattle.std.proofs.Common.{◌≡◌, ℕ, ◌+◌, ◌<◌, ◌≤◌, Bor, List, [], ◌∷◌, ◌++◌, length, get_or, drop, ap, refl, ◌∙◌, sym, add-one, drop-cons, IsTrue, false}
 use Rattle.std.proofs.lemmas.List.{drop_all}
 use Rattle.c_tree.specs.declared.tree.Tree.{Tree}
 use Rattle.c_tree.specs.declared.tree.Trees.{Trees, Trees', out-Trees, outs-Trees', roll-Trees, rolls-Trees', Row_of-Tree, end_of-Tree, more_of-Tree, items-the_row-Tree, items_shown-the_row-Tree-0, items_hidden-the_row-Tree-0}
 use Rattle.c_tree.specs.declared.declaration.Declarator.TheBlock.{hidden-the_row-Tree-0}
 use Rattle.c_tree.specs.Node.{Nodes, no_more, more}
 use Rattle.c_tree.specs.Views.{node_of, nodes_of, row_nodes, nodes_in}
+use Rattle.c_tree.specs.Forget.{syntaxes_of, list_view, view_all}
 
 row_items : (n : _) (k : Row_of-Tree n) → row_nodes k ≡ nodes_in (items-the_row-Tree n k)
 row_items n end_of-Tree = refl
@@ -47,3 +48,14 @@ before-end all items i h = ap (λ ts. before all (nodes_in ts)) (drop_all i item
 
 pub nodes_drop : (items : List Tree) (i : ℕ) (d : Tree) → i < length items → nodes_in (drop i items) ≡ more (node_of (get_or items i d)) (nodes_in (drop (i + 1) items))
 nodes_drop items i d h = ap nodes_in (drop-cons items i d h) ∙ ap (λ j. more (node_of (get_or items i d)) (nodes_in (drop j items))) (sym (add-one i))
+
+same_length : (xs ys : List Tree) → view_all xs ≡ view_all ys → length xs ≡ length ys
+same_length [] [] h = refl
+same_length [] (y ∷ ys) h = cc
+same_length (x ∷ xs) [] h = cc
+same_length (x ∷ xs) (y ∷ ys) h = let e : view_all xs ≡ view_all ys = cc in let k = same_length xs ys e in cc
+
+-- lists of different lengths
+pub lists_differ : (a b : Trees) → (length (out-Trees a).all.now ≡ length (out-Trees b).all.now → ⊥) → (IsTrue false → list_view a ≡ list_view b) × (list_view a ≡ list_view b → IsTrue false)
+lists_differ a b h =
+    (λ f. cc f, λ e. absurd (h (same_length _ _ (sym (ap syntaxes_of (nodes_out a)) ∙ e ∙ ap syntaxes_of (nodes_out b)))))

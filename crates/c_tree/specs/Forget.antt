@@ -4,6 +4,7 @@ use Rattle.std.specs.Borrow.{Bor}
 use Rattle.std.specs.Option.{option_map}
 use Rattle.c_tree.specs.declared.tree.Tree.{Tree}
 use Rattle.c_tree.specs.declared.tree.Trees.{Trees}
+use Rattle.c_tree.specs.declared.tree.Kind as kinds
 use Rattle.c_tree.specs.declared.expression.Primary as primary
 use Rattle.c_tree.specs.declared.expression.Operation as operation
 use Rattle.c_tree.specs.declared.declaration.Initializer as initializer
@@ -18,7 +19,7 @@ use Rattle.c_tree.specs.Symbol.{symbol_of, symbols_of}
 use Rattle.c_tree.specs.Node.{Node, node, Shape, PrimaryShape, OperationShape, InitializerShape, SpecifierShape, DeclaratorShape, PartShape, OuterShape, StatementShape, IterationShape, JumpShape, MaybeNode, Nodes}
 use Rattle.c_tree.specs.Node as nodes
 use Rattle.c_tree.specs.Syntax.{Syntax, Primary, Operation, Initializer, Specifier, Declarator, Part, Outer, Statement, Iteration, Jump, PrimarySyntax, OperationSyntax, InitializerSyntax, SpecifierSyntax, DeclaratorSyntax, PartSyntax, OuterSyntax, StatementSyntax, IterationSyntax, JumpSyntax, Ident, Constant, StrConst, Paren, VaArg, Offsetof, Hole, Index, Call, Member, Arrow, CompoundLit, Unary, SizeofType, Cast, Binary, Cond, Assign, Init, Braces, Designated, TypeName, Specs, StructTag, StructBody, EnumTag, EnumBody, StructDeclaration, BitField, Param, Named, Nested, Unnamed, SpecWord, ArrayBound, VoidParams, Params, Enumerator, MemberDesignator, IndexDesignator, Declaration, Function, Empty, Block, ExprStmt, If, Switch, Case, Default, Label, While, Do, For, ForDeclaration, Goto, Continue, Break, Return, MaybeSyntax, absent, present, Syntaxes, no_more, more}
-use Rattle.c_tree.specs.Views.{node_of, nodes_of, nodes_in, primary_shape, operation_shape, initializer_shape, specifier_shape, declarator_shape, part_shape, outer_shape, statement_shape, iteration_shape, jump_shape}
+use Rattle.c_tree.specs.Views.{node_of, shape_of, nodes_of, nodes_in, primary_shape, operation_shape, initializer_shape, specifier_shape, declarator_shape, part_shape, outer_shape, statement_shape, iteration_shape, jump_shape}
 
 abbrev mutual
   pub syntax_of : Node → Syntax
@@ -124,6 +125,9 @@ abbrev mutual
 
 abbrev pub view : Tree → Syntax
 view t = syntax_of (node_of t)
+
+abbrev pub kind_view : kinds.Kind → Syntax
+kind_view k = shape_syntax (shape_of k)
 
 abbrev pub primary_view : primary.Primary → PrimarySyntax
 primary_view k = primary_syntax (primary_shape k)

@@ -128,6 +128,11 @@ abbrev mutual
 abbrev pub node_of : Tree → Node
 node_of t = node t.id t.first (shape_of t.kind)
 
+-- a tree that may be missing
+abbrev pub option_node : Option (Bor Tree) → MaybeNode
+option_node None = absent
+option_node (Some t) = present (node_of t.now)
+
 -- the nodes of a slice
 abbrev pub nodes_in : List Tree → Nodes
 nodes_in [] = no_more
