@@ -1,0 +1,4 @@
+pub mod Growing
+pub mod Keyed
+pub mod OneWorking
+pub mod TwoWorking

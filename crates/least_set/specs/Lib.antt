@@ -1,0 +1,4 @@
+pub mod Logs
+pub mod Indexes
+pub mod OnePremise
+pub mod TwoPremises

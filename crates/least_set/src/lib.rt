@@ -1,0 +1,12 @@
+//! least sets
+#![tactic(auto)]
+
+mod indexes;
+mod keys;
+mod logs;
+mod one_premise;
+mod two_premises;
+
+pub use keys::Key;
+pub use one_premise::{Steps, closure};
+pub use two_premises::{Entered, Rules, Wait, least};

@@ -1,0 +1,190 @@
+//! The least set under rules of one and of two premises.
+
+ghost use Rattle.std.specs.Prelude.{◌≡◌, ◌↔◌, ℕ, ◌<◌, IfOk, Contains, Some, length, slice_get};
+ghost use Rattle.least_set.specs.Logs.{Adds, BeginsWith, InOrder, IsExactly, IsOnce};
+ghost use Rattle.least_set.specs.Indexes.{at, AllBelow, Extends};
+ghost use Rattle.least_set.specs.TwoPremises.{Follows, Least, Met, Processed};
+
+use crate::indexes::{list_at, push_at};
+use crate::keys::Key;
+use crate::logs::add_all;
+use indexmap::{IndexMap, IndexSet};
+use std::alloc::{AllocError, Global};
+
+/// Somebody who waits for the ends of a context.
+#[derive(Drop)]
+pub struct Wait<K, W> {
+    pub on: K,
+    pub waiter: W,
+}
+
+/// What a member gives by itself.
+#[derive(Drop)]
+pub struct Entered<M, K, W> {
+    /// What follows from it alone.
+    pub next: Vec<M>,
+    /// Who waits because of it.
+    pub waits: Vec<Wait<K, W>>,
+    /// The context of which it is an end.
+    pub end: Option<K>,
+}
+
+/// Rules of one and of two premises.
+pub trait Rules {
+    /// What the set is of.
+    type Member: Key;
+
+    /// Where waiters and ends meet.
+    type Context: Key;
+
+    /// All that is needed to go on at an end of the context that is waited for.
+    type Waiter: Drop;
+
+    ghost base: { Self → Self.Member → Type 0 };
+
+    ghost goes: { Self → Self.Member → Self.Member → Type 0 };
+
+    ghost waits: { Self → Self.Member → Self.Context → Self.Waiter → Type 0 };
+
+    ghost ends: { Self → Self.Member → Self.Context → Type 0 };
+
+    ghost wakes: { Self → Self.Waiter → Self.Member → Self.Member → Type 0 };
+
+    /// The members that are there without a premise, in the order in which they come first.
+    fn begin(&self, alloc: Global) -> Result<Vec<Self::Member>, AllocError>
+        ensures exact { IfOk result (λ v. IsExactly v.items (base self.now)) };
+
+    /// What a member gives by itself.
+    fn enter(
+        &self,
+        alloc: Global,
+        member: &Self::Member,
+    ) -> Result<Entered<Self::Member, Self::Context, Self::Waiter>, AllocError>
+        ensures goes { IfOk result (λ v. IsExactly v.next.items (goes self.now member.now)) }
+        ensures waits { IfOk result (λ v. IsExactly v.waits.items (λ w. waits self.now member.now w.on w.waiter)) }
+        ensures ends { IfOk result (λ v. (k : _) → (v.end ≡ Some k) ↔ ends self.now member.now k) };
+
+    /// What a waiter and an end of the context that it waits for give together.
+    fn wake(
+        &self,
+        alloc: Global,
+        waiter: &Self::Waiter,
+        end: &Self::Member,
+    ) -> Result<Vec<Self::Member>, AllocError>
+        ensures exact { IfOk result (λ v. IsExactly v.items (wakes self.now waiter.now end.now)) };
+}
+
+/// Adds what a waiter and an end give.
+fn combine<R: Rules>(
+    alloc: Global,
+    rules: &R,
+    log: &mut IndexSet<R::Member>,
+    waiter: &R::Waiter,
+    end: usize,
+) -> Result<(), AllocError>
+    requires { end < length log.old.keys }
+    ensures { IfOk result (λ _. Adds (Met (R.wakes rules.now) log.old.keys waiter.now end) log.old.keys log.new.keys) }
+{
+    let found = rules.wake(alloc, waiter, &log.as_slice()[end])?;
+    add_all(log, found)
+}
+
+/// Adds what a new waiter and the ends known give.
+fn answer<R: Rules>(
+    alloc: Global,
+    rules: &R,
+    log: &mut IndexSet<R::Member>,
+    waiter: &R::Waiter,
+    ends: &[usize],
+) -> Result<(), AllocError>
+    requires { (j : ℕ) → Contains ends.now j → j < length log.old.keys }
+    ensures { IfOk result (λ _. Adds (λ c. (j : ℕ) × Contains ends.now j × Met (R.wakes rules.now) log.old.keys waiter.now j c) log.old.keys log.new.keys) }
+{
+    for end in ends {
+        combine(alloc, rules, log, waiter, *end)?;
+    }
+    Ok(())
+}
+
+/// Adds what those who wait and a new end give.
+fn wake_all<R: Rules>(
+    alloc: Global,
+    rules: &R,
+    log: &mut IndexSet<R::Member>,
+    waiters: &[R::Waiter],
+    end: usize,
+) -> Result<(), AllocError>
+    requires { end < length log.old.keys }
+    ensures { IfOk result (λ _. Adds (λ c. (w : R.Waiter) × Contains waiters.now w × Met (R.wakes rules.now) log.old.keys w end c) log.old.keys log.new.keys) }
+{
+    for waiter in waiters {
+        combine(alloc, rules, log, waiter, end)?;
+    }
+    Ok(())
+}
+
+/// Answers new waiters from the ends known, and keeps them for those to come.
+fn join<R: Rules>(
+    alloc: Global,
+    rules: &R,
+    log: &mut IndexSet<R::Member>,
+    waiting: &mut IndexMap<R::Context, Vec<R::Waiter>>,
+    ended: &IndexMap<R::Context, Vec<usize>>,
+    waits: Vec<Wait<R::Context, R::Waiter>>,
+) -> Result<(), AllocError>
+    requires { AllBelow (length log.old.keys) (at R.Context.eq ended.now) }
+    ensures log { IfOk result (λ _. Adds (λ c. (x : _) × Contains waits.items x × (j : ℕ) × Contains (at R.Context.eq ended.now x.on) j × Met (R.wakes rules.now) log.old.keys x.waiter j c) log.old.keys log.new.keys) }
+    ensures waiting { IfOk result (λ _. Extends (λ k w. (x : _) × Contains waits.items x × (x.on ≡ k) × (x.waiter ≡ w)) (at R.Context.eq waiting.old) (at R.Context.eq waiting.new)) }
+{
+    for wait in waits {
+        let Wait { on, waiter } = wait;
+        answer(alloc, rules, log, &waiter, list_at(ended, &on))?;
+        push_at(alloc, waiting, on, waiter)?;
+    }
+    Ok(())
+}
+
+/// Works off the member at a place of the log.
+fn process<R: Rules>(
+    alloc: Global,
+    rules: &R,
+    log: &mut IndexSet<R::Member>,
+    waiting: &mut IndexMap<R::Context, Vec<R::Waiter>>,
+    ended: &mut IndexMap<R::Context, Vec<usize>>,
+    place: usize,
+) -> Result<(), AllocError>
+    requires inside { place < length log.old.keys }
+    requires below { AllBelow (length log.old.keys) (at R.Context.eq ended.old) }
+    ensures { IfOk result (λ _. (e : R.Member) × (slice_get log.old.keys place ≡ Some e) × Processed (R.goes rules.now) (R.waits rules.now) (R.ends rules.now) (R.wakes rules.now) place e log.old.keys log.new.keys (at R.Context.eq waiting.old) (at R.Context.eq waiting.new) (at R.Context.eq ended.old) (at R.Context.eq ended.new)) }
+{
+    let entered = rules.enter(alloc, &log.as_slice()[place])?;
+    let Entered { next, waits, end } = entered;
+    add_all(log, next)?;
+    join(alloc, rules, log, waiting, ended, waits)?;
+    if let Some(context) = end {
+        wake_all(alloc, rules, log, list_at(waiting, &context), place)?;
+        push_at(alloc, ended, context, place)?;
+    }
+    Ok(())
+}
+
+/// The least set that has the base and whatever follows from one or two members, each member once.
+/// A member's index is the order in which it was found.
+pub fn least<R: Rules>(alloc: Global, rules: &R) -> Result<IndexSet<R::Member>, AllocError>
+    ensures closed { IfOk result (λ log. (c : R.Member) → Follows (R.base rules.now) (R.goes rules.now) (R.waits rules.now) (R.ends rules.now) (R.wakes rules.now) log.keys c → Contains log.keys c) }
+    ensures only { IfOk result (λ log. (c : R.Member) → Contains log.keys c → Least (R.base rules.now) (R.goes rules.now) (R.waits rules.now) (R.ends rules.now) (R.wakes rules.now) c) }
+    ensures order { IfOk result (λ log. InOrder (Follows (R.base rules.now) (R.goes rules.now) (R.waits rules.now) (R.ends rules.now) (R.wakes rules.now)) log.keys) }
+    ensures first { IfOk result (λ log. BeginsWith (R.base rules.now) log.keys) }
+    ensures once { IfOk result (λ log. IsOnce log.keys) }
+{
+    let mut log = IndexSet::new(alloc);
+    let mut waiting = IndexMap::new(alloc);
+    let mut ended = IndexMap::new(alloc);
+    add_all(&mut log, rules.begin(alloc)?)?;
+    let mut i = 0;
+    while i < log.len() {
+        process(alloc, rules, &mut log, &mut waiting, &mut ended, i)?;
+        i += 1;
+    }
+    Ok(log)
+}
