@@ -153,11 +153,25 @@ module _ {M T : Type 0} (G : T → M → Type 0) where
   abbrev pub Given : List T → M → Type 0
   Given xs c = (x : T) × Contains xs x × G x c
 
+  pub adds_nothing : (old : List M) → Adds (Given []) old old
+  adds_nothing old = adds_none old (λ c s. nothing s.0 s.1)
+
   pub adds_more : (xs : List T) (x : T) {old mid new : List M} → Adds (Given xs) old mid → Adds (G x) mid new → Adds (Given (xs ++ x ∷ [])) old new
   adds_more xs x v w = adds_both {R = Given (xs ++ x ∷ [])} v w
       (λ c s. elim (Contains-push_cases xs x s.0 s.1) [ inl o ↦ inl (s.0, o, s.2) | inr q ↦ inr (subst (λ y. G y c) (sym q) s.2) ])
       (λ c s. (s.0, Contains-append_left xs (x ∷ []) s.0 s.1, s.2))
       (λ c s. (x, Contains-push xs x, s))
+
+  pub adds_next : (xs : List T) (i : ℕ) (d : T) {old mid new : List M} → i < length xs → Adds (Given (take i xs)) old mid → Adds (G (get_or xs i d)) mid new → Adds (Given (take (i + 1) xs)) old new
+  adds_next xs i d {old = old} {new = new} h v w = subst (λ l. Adds (Given l) old new) (sym (take_more xs i d h)) (adds_more (take i xs) (get_or xs i d) v w)
+
+module _ {T : Type 0} where
+  -- all were gone through
+  pub all_of : (P : List T → Type 0) (xs : List T) (i : ℕ) → length xs ≤ i → i ≤ length xs → P (take i xs) → P xs
+  all_of P xs i h k p = subst P (ap (λ n. take n xs) the_length ∙ take-length xs) p
+    where
+      the_length : i ≡ length xs
+      the_length = omega arith
 
 module _ {M : Type 0} (Follows : List M → M → Type 0) (mono : (xs ys : List M) → ((a : M) → Contains xs a → Contains ys a) → (c : M) → Follows xs c → Follows ys c) where
   -- what came follows from what was there

@@ -3,6 +3,7 @@ use Rattle.std.proofs.Common.{◌≡◌, Bool, true, false, cond, refl, sym, ap,
 use Rattle.std.specs.Prelude.{Vec}
 use Rattle.std.proofs.lemmas.List.Elements.{Contains-append_left, Contains-push, Contains-push_cases}
 use Rattle.least_set.specs.Indexes.{items_of, Extends}
+use Rattle.least_set.proofs.Growing.{nothing}
 
 module _ {K T A : Type 0} (eq : K → K → Bool) (same : (x y : K) → eq x y ≡ true → x ≡ y) (itself : (x : K) → eq x x ≡ true)
     (old new : K → Option (Vec T A)) (key : K) (x : T) (w : Vec T A) where
@@ -35,6 +36,9 @@ module _ {K T A : Type 0} (eq : K → K → Bool) (same : (x y : K) → eq x y �
 module _ {K T X : Type 0} (P : X → K → T → Type 0) where
   abbrev pub Given : List X → K → T → Type 0
   Given xs k t = (x : X) × Contains xs x × P x k t
+
+  pub extends_nothing : (old : K → List T) → Extends (Given []) old old
+  extends_nothing old = record { kept = λ k t m. m; added = λ k t m. absurd (nothing m.0 m.1); only = λ k t m. inl m }
 
   pub extends_more : (xs : List X) (x : X) {old mid new : K → List T} → Extends (Given xs) old mid → Extends (P x) mid new → Extends (Given (xs ++ x ∷ [])) old new
   extends_more xs x v w = record {

@@ -1,4 +1,6 @@
 pub mod Growing
 pub mod Keyed
+pub mod Meeting
+pub mod Processing
 pub mod OneWorking
 pub mod TwoWorking

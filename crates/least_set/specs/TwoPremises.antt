@@ -3,6 +3,7 @@
 use Rattle.std.specs.Prelude.{◌≡◌, ℕ, List, Contains, Some, slice_get}
 use Rattle.least_set.specs.Logs.{Adds}
 use Rattle.least_set.specs.Indexes.{Extends}
+use Rattle.least_set.specs.declared.two_premises.Wait.{Wait}
 
 module _ {M K W : Type 0} (Base : M → Type 0) (Goes : M → M → Type 0) (Waits : M → K → W → Type 0) (Ends : M → K → Type 0) (Wakes : W → M → M → Type 0) where
   -- What follows in one step from values that are known.
@@ -20,6 +21,14 @@ module _ {M K W : Type 0} (Base : M → Type 0) (Goes : M → M → Type 0) (Wai
 -- What the value at a place of the log gives a waiter as an end.
 abbrev pub Met : {M W : Type 0} → (W → M → M → Type 0) → List M → W → ℕ → M → Type 0
 Met {M} Wakes log w j c = (b : M) × (slice_get log j ≡ Some b) × Wakes w b c
+
+-- Somebody on the list waits so.
+abbrev pub Kept : {K W : Type 0} → List (Wait K W) → K → W → Type 0
+Kept {K} {W} xs k w = (x : Wait K W) × Contains xs x × ((x.on ≡ k) × (x.waiter ≡ w))
+
+-- What the known ends answer those on the list.
+abbrev pub Answers : {M K W : Type 0} → (W → M → M → Type 0) → List M → (K → List ℕ) → List (Wait K W) → M → Type 0
+Answers {M} {K} {W} Wakes log ended xs c = (x : Wait K W) × Contains xs x × ((j : ℕ) × Contains (ended x.on) j × Met Wakes log x.waiter j c)
 
 module _ {M K W : Type 0} (Goes : M → M → Type 0) (Waits : M → K → W → Type 0) (Ends : M → K → Type 0) (Wakes : W → M → M → Type 0) where
   -- What is new as the value e is worked off: what it gives alone, what the known ends answer its waiters, and what it gives as an end those that wait.

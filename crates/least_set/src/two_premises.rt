@@ -3,7 +3,7 @@
 ghost use Rattle.std.specs.Prelude.{◌≡◌, ◌↔◌, ℕ, ◌<◌, IfOk, Contains, Some, length, slice_get};
 ghost use Rattle.least_set.specs.Logs.{Adds, BeginsWith, InOrder, IsExactly, IsOnce};
 ghost use Rattle.least_set.specs.Indexes.{at, AllBelow, Extends};
-ghost use Rattle.least_set.specs.TwoPremises.{Follows, Least, Met, Processed};
+ghost use Rattle.least_set.specs.TwoPremises.{Answers, Follows, Kept, Least, Met, Processed};
 
 use crate::indexes::{list_at, push_at};
 use crate::keys::Key;
@@ -86,7 +86,8 @@ fn combine<R: Rules>(
     ensures { IfOk result (λ _. Adds (Met (R.wakes rules.now) log.old.keys waiter.now end) log.old.keys log.new.keys) }
 {
     let found = rules.wake(alloc, waiter, &log.as_slice()[end])?;
-    add_all(log, found)
+    add_all(log, found)?;
+    Ok(())
 }
 
 /// Adds what a new waiter and the ends known give.
@@ -133,8 +134,8 @@ fn join<R: Rules>(
     waits: Vec<Wait<R::Context, R::Waiter>>,
 ) -> Result<(), AllocError>
     requires { AllBelow (length log.old.keys) (at R.Context.eq ended.now) }
-    ensures log { IfOk result (λ _. Adds (λ c. (x : _) × Contains waits.items x × (j : ℕ) × Contains (at R.Context.eq ended.now x.on) j × Met (R.wakes rules.now) log.old.keys x.waiter j c) log.old.keys log.new.keys) }
-    ensures waiting { IfOk result (λ _. Extends (λ k w. (x : _) × Contains waits.items x × (x.on ≡ k) × (x.waiter ≡ w)) (at R.Context.eq waiting.old) (at R.Context.eq waiting.new)) }
+    ensures log { IfOk result (λ _. Adds (Answers (R.wakes rules.now) log.old.keys (at R.Context.eq ended.now) waits.items) log.old.keys log.new.keys) }
+    ensures waiting { IfOk result (λ _. Extends (Kept waits.items) (at R.Context.eq waiting.old) (at R.Context.eq waiting.new)) }
 {
     for wait in waits {
         let Wait { on, waiter } = wait;
