@@ -2,3 +2,4 @@ pub mod Logs
 pub mod Indexes
 pub mod OnePremise
 pub mod TwoPremises
+pub mod Same

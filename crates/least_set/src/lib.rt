@@ -7,6 +7,9 @@ mod logs;
 mod one_premise;
 mod two_premises;
 
+#[cfg(test)]
+mod tests;
+
 pub use keys::Key;
 pub use one_premise::{Steps, closure};
 pub use two_premises::{Entered, Rules, Wait, least};
