@@ -9,7 +9,7 @@ use Rattle.indexmap.specs.IndexSet.{insert_key}
 use Rattle.std.specs.Cmp.{IsEquivalence}
 use Rattle.std.specs.List.{list_any, IsDistinct}
 use Rattle.indexmap.proofs.CallerLemmas.{Contains-insert_key}
-use Rattle.least_set.specs.Logs.{IsExactly, IsOnce, InOrder, BeginsWith, Adds}
+use Rattle.least_set.specs.Logs.{IsExactly, IsOnce, InOrder, BeginsWith, SomeGives, Adds}
 
 pub below_or : (i j : ℕ) → (i < j) ⊎ (j ≤ i)
 below_or i zero = inr (omega arith)
@@ -150,20 +150,17 @@ module _ {M : Type 0} where
 
 -- one more value of a list has given what it gives
 module _ {M T : Type 0} (G : T → M → Type 0) where
-  abbrev pub Given : List T → M → Type 0
-  Given xs c = (x : T) × Contains xs x × G x c
-
-  pub adds_nothing : (old : List M) → Adds (Given []) old old
+  pub adds_nothing : (old : List M) → Adds (SomeGives G []) old old
   adds_nothing old = adds_none old (λ c s. nothing s.0 s.1)
 
-  pub adds_more : (xs : List T) (x : T) {old mid new : List M} → Adds (Given xs) old mid → Adds (G x) mid new → Adds (Given (xs ++ x ∷ [])) old new
-  adds_more xs x v w = adds_both {R = Given (xs ++ x ∷ [])} v w
+  pub adds_more : (xs : List T) (x : T) {old mid new : List M} → Adds (SomeGives G xs) old mid → Adds (G x) mid new → Adds (SomeGives G (xs ++ x ∷ [])) old new
+  adds_more xs x v w = adds_both {R = SomeGives G (xs ++ x ∷ [])} v w
       (λ c s. elim (Contains-push_cases xs x s.0 s.1) [ inl o ↦ inl (s.0, o, s.2) | inr q ↦ inr (subst (λ y. G y c) (sym q) s.2) ])
       (λ c s. (s.0, Contains-append_left xs (x ∷ []) s.0 s.1, s.2))
       (λ c s. (x, Contains-push xs x, s))
 
-  pub adds_next : (xs : List T) (i : ℕ) (d : T) {old mid new : List M} → i < length xs → Adds (Given (take i xs)) old mid → Adds (G (get_or xs i d)) mid new → Adds (Given (take (i + 1) xs)) old new
-  adds_next xs i d {old = old} {new = new} h v w = subst (λ l. Adds (Given l) old new) (sym (take_more xs i d h)) (adds_more (take i xs) (get_or xs i d) v w)
+  pub adds_next : (xs : List T) (i : ℕ) (d : T) {old mid new : List M} → i < length xs → Adds (SomeGives G (take i xs)) old mid → Adds (G (get_or xs i d)) mid new → Adds (SomeGives G (take (i + 1) xs)) old new
+  adds_next xs i d {old = old} {new = new} h v w = subst (λ l. Adds (SomeGives G l) old new) (sym (take_more xs i d h)) (adds_more (take i xs) (get_or xs i d) v w)
 
 module _ {T : Type 0} where
   -- all were gone through

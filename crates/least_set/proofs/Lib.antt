@@ -1,3 +1,4 @@
+pub mod Enumerating
 pub mod Growing
 pub mod Keyed
 pub mod Meeting

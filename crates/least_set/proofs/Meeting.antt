@@ -1,7 +1,7 @@
 -- What waiters and ends give together, while the log grows.
 use Rattle.std.proofs.Common.{◌≡◌, ℕ, ◌<◌, List, [], ◌∷◌, ◌++◌, Contains, Some, length, sym, ◌∙◌, subst, slice_get}
 use Rattle.std.proofs.lemmas.Option.{same_Some}
-use Rattle.least_set.specs.Logs.{Adds}
+use Rattle.least_set.specs.Logs.{Adds, SomeGives}
 use Rattle.least_set.specs.Indexes.{Extends}
 use Rattle.least_set.specs.TwoPremises.{Answers, Kept, Met}
 use Rattle.least_set.specs.declared.two_premises.Wait.{Wait}
@@ -18,21 +18,21 @@ module _ {M W : Type 0} (Wakes : W → M → M → Type 0) where
   met_before w j v h a = adds_same a (λ c s. (s.0, sym (stays v j h) ∙ s.1, s.2)) (λ c s. (s.0, stays v j h ∙ s.1, s.2))
 
   pub all_met_before : {P : M → Type 0} (w : W) (xs ys : List ℕ) {old mid new : List M} → Adds P old mid → ((j : ℕ) → Contains ys j → j < length old) → xs ≡ ys
-      → Adds (λ c. (j : ℕ) × Contains xs j × Met Wakes mid w j c) mid new → Adds (λ c. (j : ℕ) × Contains ys j × Met Wakes old w j c) mid new
+      → Adds (SomeGives (Met Wakes mid w) xs) mid new → Adds (SomeGives (Met Wakes old w) ys) mid new
   all_met_before w xs ys v h e a = adds_same a
       (λ c s. let m = subst (λ l. Contains l s.0) e s.1 in let t = s.2 in (s.0, m, (t.0, sym (stays v s.0 (h s.0 m)) ∙ t.1, t.2)))
       (λ c s. let m = s.1 in let t = s.2 in (s.0, subst (λ l. Contains l s.0) (sym e) m, (t.0, stays v s.0 (h s.0 m) ∙ t.1, t.2)))
 
 module _ {M K W : Type 0} (Wakes : W → M → M → Type 0) (old : List M) (ended : K → List ℕ) where
   abbrev each : Wait K W → M → Type 0
-  each x c = (j : ℕ) × Contains (ended x.on) j × Met Wakes old x.waiter j c
+  each x = SomeGives (Met Wakes old x.waiter) (ended x.on)
 
   pub answers_nothing : Adds (Answers Wakes old ended []) old old
   answers_nothing = adds_nothing each old
 
   -- one more has been answered
   pub answers_more : (xs : List (Wait K W)) (x : Wait K W) {mid new : List M} → Adds (Answers Wakes old ended xs) old mid
-      → Adds (λ c. (j : ℕ) × Contains (ended x.on) j × Met Wakes old x.waiter j c) mid new → Adds (Answers Wakes old ended (xs ++ x ∷ [])) old new
+      → Adds (SomeGives (Met Wakes old x.waiter) (ended x.on)) mid new → Adds (Answers Wakes old ended (xs ++ x ∷ [])) old new
   answers_more xs x v w = adds_more each xs x v w
 
 module _ {K W : Type 0} where

@@ -1,7 +1,7 @@
 -- One value is worked off.
 use Rattle.std.proofs.Common.{◌≡◌, ℕ, ◌<◌, arith, List, Contains, Some, length, refl, sym, ◌∙◌, subst, slice_get, ◌⊎◌, inl, inr}
 use Rattle.std.proofs.lemmas.Option.{same_Some}
-use Rattle.least_set.specs.Logs.{IsExactly, Adds}
+use Rattle.least_set.specs.Logs.{IsExactly, SomeGives, Adds}
 use Rattle.least_set.specs.Indexes.{Extends, AllBelow}
 use Rattle.least_set.specs.TwoPremises.{Answers, Kept, Met, Gives, GivesNext, GivesAnswer, GivesWoken, Processed}
 use Rattle.least_set.specs.declared.two_premises.Wait.{Wait}
@@ -53,7 +53,7 @@ module _ {M K W : Type 0} (Goes : M → M → Type 0) (Waits : M → K → W →
 
   -- it is an end of the context
   pub processed_end : (context : K) → Ends e context → ((k : K) → Ends e k → context ≡ k) → slice_get l₂ i ≡ Some e → (ws : List W) → ws ≡ W₁ context
-      → Adds (λ c. (w : W) × Contains ws w × Met Wakes l₂ w i c) l₂ new → Extends (λ k j. (context ≡ k) × (i ≡ j)) D₀ D₁ → Processed Goes Waits Ends Wakes i e old new W₀ W₁ D₀ D₁
+      → Adds (SomeGives (λ w. Met Wakes l₂ w i) ws) l₂ new → Extends (λ k j. (context ≡ k) × (i ≡ j)) D₀ D₁ → Processed Goes Waits Ends Wakes i e old new W₀ W₁ D₀ D₁
   processed_end context is_end one is ws same a₃ y = record {
     members = adds_both a₁ (adds_both {R = λ c. Answers Wakes l₁ D₀ waits c ⊎ woken c} a₂ a₃ (λ c s. s) (λ c s. inl s) (λ c s. inr s))
         (λ c g. elim g [
@@ -75,4 +75,4 @@ module _ {M K W : Type 0} (Goes : M → M → Type 0) (Waits : M → K → W →
   }
     where
       woken : M → Type 0
-      woken c = (w : W) × Contains ws w × Met Wakes l₂ w i c
+      woken = SomeGives (λ w. Met Wakes l₂ w i) ws

@@ -5,6 +5,10 @@ use Rattle.std.specs.Prelude.{◌≡◌, ℕ, ◌≤◌, List, ◌++◌, Contain
 abbrev pub IsExactly : {M : Type 0} → List M → (M → Type 0) → Type 0
 IsExactly xs P = ((c : _) → Contains xs c → P c) × ((c : _) → P c → Contains xs c)
 
+-- One of the list gives the value.
+abbrev pub SomeGives : {T M : Type 0} → (T → M → Type 0) → List T → M → Type 0
+SomeGives {T} G xs c = (x : T) × Contains xs x × G x c
+
 -- No value stands at two places.
 abbrev pub IsOnce : {M : Type 0} → List M → Type 0
 IsOnce {M} log = (i j : ℕ) (c : M) → slice_get log i ≡ Some c → slice_get log j ≡ Some c → i ≡ j

@@ -1,7 +1,7 @@
 -- What follows by rules of one and of two premises.
 -- A rule of two premises is split: its first premise leaves a waiter at a context, and its second is an end of that context.
 use Rattle.std.specs.Prelude.{◌≡◌, ℕ, List, Contains, Some, slice_get}
-use Rattle.least_set.specs.Logs.{Adds}
+use Rattle.least_set.specs.Logs.{Adds, SomeGives}
 use Rattle.least_set.specs.Indexes.{Extends}
 use Rattle.least_set.specs.declared.two_premises.Wait.{Wait}
 
@@ -28,7 +28,7 @@ Kept {K} {W} xs k w = (x : Wait K W) × Contains xs x × ((x.on ≡ k) × (x.wai
 
 -- What the known ends answer those on the list.
 abbrev pub Answers : {M K W : Type 0} → (W → M → M → Type 0) → List M → (K → List ℕ) → List (Wait K W) → M → Type 0
-Answers {M} {K} {W} Wakes log ended xs c = (x : Wait K W) × Contains xs x × ((j : ℕ) × Contains (ended x.on) j × Met Wakes log x.waiter j c)
+Answers Wakes log ended = SomeGives (λ x. SomeGives (Met Wakes log x.waiter) (ended x.on))
 
 module _ {M K W : Type 0} (Goes : M → M → Type 0) (Waits : M → K → W → Type 0) (Ends : M → K → Type 0) (Wakes : W → M → M → Type 0) where
   -- What is new as the value e is worked off: what it gives alone, what the known ends answer its waiters, and what it gives as an end those that wait.

@@ -1,7 +1,7 @@
 //! The least set under rules of one and of two premises.
 
 ghost use Rattle.std.specs.Prelude.{◌≡◌, ◌↔◌, ℕ, ◌<◌, IfOk, Contains, Some, length, slice_get};
-ghost use Rattle.least_set.specs.Logs.{Adds, BeginsWith, InOrder, IsExactly, IsOnce};
+ghost use Rattle.least_set.specs.Logs.{Adds, BeginsWith, InOrder, IsExactly, IsOnce, SomeGives};
 ghost use Rattle.least_set.specs.Indexes.{at, AllBelow, Extends};
 ghost use Rattle.least_set.specs.TwoPremises.{Answers, Follows, Kept, Least, Met, Processed};
 
@@ -99,7 +99,7 @@ fn answer<R: Rules>(
     ends: &[usize],
 ) -> Result<(), AllocError>
     requires { (j : ℕ) → Contains ends.now j → j < length log.old.keys }
-    ensures { IfOk result (λ _. Adds (λ c. (j : ℕ) × Contains ends.now j × Met (R.wakes rules.now) log.old.keys waiter.now j c) log.old.keys log.new.keys) }
+    ensures { IfOk result (λ _. Adds (SomeGives (Met (R.wakes rules.now) log.old.keys waiter.now) ends.now) log.old.keys log.new.keys) }
 {
     for end in ends {
         combine(alloc, rules, log, waiter, *end)?;
@@ -116,7 +116,7 @@ fn wake_all<R: Rules>(
     end: usize,
 ) -> Result<(), AllocError>
     requires { end < length log.old.keys }
-    ensures { IfOk result (λ _. Adds (λ c. (w : R.Waiter) × Contains waiters.now w × Met (R.wakes rules.now) log.old.keys w end c) log.old.keys log.new.keys) }
+    ensures { IfOk result (λ _. Adds (SomeGives (λ w. Met (R.wakes rules.now) log.old.keys w end) waiters.now) log.old.keys log.new.keys) }
 {
     for waiter in waiters {
         combine(alloc, rules, log, waiter, end)?;

@@ -1,6 +1,6 @@
 use Rattle.std.proofs.Common.{◌<◌, ℕ, arith, length, get_or, take, Contains}
 use Rattle.std.proofs.lemmas.List.Elements.{Contains-get_or}
-use Rattle.least_set.specs.Logs.{Adds}
+use Rattle.least_set.specs.Logs.{Adds, SomeGives}
 use Rattle.least_set.specs.TwoPremises.{Met}
 use Rattle.least_set.proofs.Growing.{adds_nothing, adds_next, all_of, not_shorter}
 use Rattle.least_set.proofs.Meeting.{met_before}
@@ -25,5 +25,5 @@ loop-end-preserved g c =
     (met_before wakes c.args.waiter.now (get_or xs i 0) c.loop-end.invariant h c.in_ok-combine.ensures)
 
 pub returns : goal.returns
-returns g c = all_of (λ l. Adds (λ y. (j : ℕ) × Contains l j × Met (g.R.Rules.wakes c.args.rules.now) c.args.log.now.keys c.args.waiter.now j y) c.args.log.now.keys c.loop-end.log.keys)
+returns g c = all_of (λ l. Adds (SomeGives (Met (g.R.Rules.wakes c.args.rules.now) c.args.log.now.keys c.args.waiter.now) l) c.args.log.now.keys c.loop-end.log.keys)
     c.args.ends.now c.loop-end.end-index c.loop-end-test.false c.loop-end.auto.end-index-end c.loop-end.invariant

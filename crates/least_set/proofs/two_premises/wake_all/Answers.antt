@@ -1,5 +1,5 @@
 use Rattle.std.proofs.Common.{◌<◌, arith, length, get_or, take, Contains, subst}
-use Rattle.least_set.specs.Logs.{Adds}
+use Rattle.least_set.specs.Logs.{Adds, SomeGives}
 use Rattle.least_set.specs.TwoPremises.{Met}
 use Rattle.least_set.proofs.Growing.{adds_nothing, adds_next, all_of}
 use Rattle.least_set.proofs.Meeting.{met_before}
@@ -18,5 +18,5 @@ loop-waiter-preserved g c =
     (subst (λ w. Adds (Met wakes old w c.args.end) c.loop-waiter.log.keys c.combine.new.log.keys) c.waiter-item.is step)
 
 pub returns : goal.returns
-returns g c = all_of (λ l. Adds (λ y. (w : _) × Contains l w × Met (g.R.Rules.wakes c.args.rules.now) c.args.log.now.keys w c.args.end y) c.args.log.now.keys c.loop-waiter.log.keys)
+returns g c = all_of (λ l. Adds (SomeGives (λ w. Met (g.R.Rules.wakes c.args.rules.now) c.args.log.now.keys w c.args.end) l) c.args.log.now.keys c.loop-waiter.log.keys)
     c.args.waiters.now c.loop-waiter.waiter-index c.loop-waiter-test.false c.loop-waiter.auto.waiter-index-end c.loop-waiter.invariant
