@@ -5,10 +5,9 @@ mod indexes;
 mod keys;
 mod logs;
 mod one_premise;
-mod two_premises;
-
 #[cfg(test)]
 mod tests;
+mod two_premises;
 
 pub use keys::Key;
 pub use one_premise::{Steps, closure};
