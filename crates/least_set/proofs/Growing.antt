@@ -1,12 +1,11 @@
 -- Steps of a log that grows.
-use Rattle.std.proofs.Common.{◌≡◌, ℕ, ◌+◌, ◌-◌, ◌<◌, ◌≤◌, zero, suc, arith, List, [], ◌∷◌, ◌++◌, Contains, length, get_or, take, drop, sym, ◌∙◌, ap, subst, inl, inr, append_assoc, append-nil, ◌⊎◌, Bool, true, false, refl, true≢false, if◌then◌else◌, Option, Some, slice_get}
+use Rattle.std.proofs.Common.{◌≡◌, ℕ, ◌+◌, ◌-◌, ◌<◌, ◌≤◌, zero, suc, arith, List, [], ◌∷◌, ◌++◌, Contains, length, get_or, take, drop, sym, ◌∙◌, ap, subst, inl, inr, append_assoc, append-nil, ◌⊎◌, Bool, true, false, refl, true≢false, if◌then◌else◌, Some, slice_get}
 use Rattle.std.proofs.Math.Seq.{take-length}
 use Rattle.std.proofs.lemmas.List.Elements.{Contains-append_left, Contains-append_cases, Contains-push, Contains-push_cases}
 use Rattle.std.proofs.lemmas.List.{take_more, take-append-le, take-append-drop, length-append}
 use Rattle.std.proofs.lemmas.Option.{slice_get-get_or, slice_get_within, get_or_from_slice_get}
 use Rattle.std.proofs.lemmas.Map.Keys.{apart_from_distinct}
 use Rattle.indexmap.specs.IndexSet.{insert_key}
-use Rattle.std.specs.Cmp.{IsEquivalence}
 use Rattle.std.specs.List.{list_any, IsDistinct}
 use Rattle.indexmap.proofs.CallerLemmas.{Contains-insert_key}
 use Rattle.least_set.specs.Logs.{IsExactly, IsOnce, InOrder, BeginsWith, SomeGives, Adds}

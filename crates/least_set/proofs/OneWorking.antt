@@ -1,9 +1,9 @@
 -- What is kept while a log is worked off under rules of one premise.
-use Rattle.std.proofs.Common.{◌≡◌, ℕ, ◌+◌, ◌<◌, ◌≤◌, arith, List, [], Contains, Some, length, sym, ◌∙◌, ap, subst, inl, inr, ◌⊎◌, slice_get}
+use Rattle.std.proofs.Common.{◌≡◌, ℕ, ◌+◌, ◌<◌, ◌≤◌, arith, List, [], Contains, Some, length, sym, ◌∙◌, ap, subst, inl, inr, slice_get}
 use Rattle.std.proofs.lemmas.Option.{same_Some}
 use Rattle.least_set.specs.Logs.{Adds, BeginsWith, InOrder}
 use Rattle.least_set.specs.OnePremise.{Follows, FollowsBase, FollowsOne, Least, LeastBase, LeastOne}
-use Rattle.least_set.proofs.Growing.{nothing, place_of, at_place, stays, kept, either, whole_of_take, begins_empty, begins_more, order_more, not_shorter, before_or_at}
+use Rattle.least_set.proofs.Growing.{nothing, place_of, at_place, stays, kept, either, whole_of_take, begins_empty, begins_more, order_more, before_or_at}
 
 module _ {M : Type 0} (Base : M → Type 0) (Goes : M → M → Type 0) where
   mono : (xs ys : List M) → ((a : M) → Contains xs a → Contains ys a) → (c : M) → Follows Base Goes xs c → Follows Base Goes ys c

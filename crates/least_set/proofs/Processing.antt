@@ -1,11 +1,11 @@
 -- One value is worked off.
-use Rattle.std.proofs.Common.{◌≡◌, ℕ, ◌<◌, arith, List, Contains, Some, length, refl, sym, ◌∙◌, subst, slice_get, ◌⊎◌, inl, inr}
+use Rattle.std.proofs.Common.{◌≡◌, ℕ, List, Contains, Some, length, refl, sym, ◌∙◌, subst, slice_get, ◌⊎◌, inl, inr}
 use Rattle.std.proofs.lemmas.Option.{same_Some}
 use Rattle.least_set.specs.Logs.{IsExactly, SomeGives, Adds}
 use Rattle.least_set.specs.Indexes.{Extends, AllBelow}
 use Rattle.least_set.specs.TwoPremises.{Answers, Kept, Met, Gives, GivesNext, GivesAnswer, GivesWoken, Processed}
 use Rattle.least_set.specs.declared.two_premises.Wait.{Wait}
-use Rattle.least_set.proofs.Growing.{adds_both, stays, not_shorter}
+use Rattle.least_set.proofs.Growing.{adds_both, stays}
 
 module _ {M K W : Type 0} (Goes : M → M → Type 0) (Waits : M → K → W → Type 0) (Ends : M → K → Type 0) (Wakes : W → M → M → Type 0)
     (i : ℕ) (e : M) (next : List M) (waits : List (Wait K W)) (goes : IsExactly next (Goes e)) (all_wait : IsExactly waits (λ w. Waits e w.on w.waiter))

@@ -1,10 +1,10 @@
 -- What is kept while a log is worked off under rules of one and of two premises.
-use Rattle.std.proofs.Common.{◌≡◌, ℕ, ◌+◌, ◌<◌, ◌≤◌, arith, List, [], Contains, Some, length, refl, sym, ◌∙◌, ap, subst, inl, inr, ◌⊎◌, slice_get}
+use Rattle.std.proofs.Common.{◌≡◌, ℕ, ◌+◌, ◌<◌, ◌≤◌, arith, List, [], Contains, Some, length, sym, ◌∙◌, ap, subst, inl, inr, slice_get}
 use Rattle.std.proofs.lemmas.Option.{same_Some}
 use Rattle.least_set.specs.Logs.{Adds, BeginsWith, InOrder}
-use Rattle.least_set.specs.Indexes.{Extends, AllBelow}
+use Rattle.least_set.specs.Indexes.{AllBelow}
 use Rattle.least_set.specs.TwoPremises.{Follows, FollowsBase, FollowsOne, FollowsTwo, Least, LeastBase, LeastOne, LeastTwo, Met, Gives, GivesNext, GivesAnswer, GivesWoken, Processed}
-use Rattle.least_set.proofs.Growing.{nothing, place_of, at_place, stays, kept, either, whole_of_take, begins_empty, begins_more, order_more, not_shorter, before_or_at}
+use Rattle.least_set.proofs.Growing.{nothing, place_of, at_place, stays, kept, either, whole_of_take, begins_empty, begins_more, order_more, before_or_at}
 
 module _ {M K W : Type 0} (Base : M → Type 0) (Goes : M → M → Type 0) (Waits : M → K → W → Type 0) (Ends : M → K → Type 0) (Wakes : W → M → M → Type 0) where
   abbrev F : List M → M → Type 0

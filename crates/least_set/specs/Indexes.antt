@@ -1,5 +1,5 @@
 -- Lists by key, in a map.
-use Rattle.std.specs.Prelude.{◌≡◌, ℕ, ◌<◌, ◌⊎◌, Bool, List, [], Vec, Contains, Option, Some, None}
+use Rattle.std.specs.Prelude.{ℕ, ◌<◌, ◌⊎◌, Bool, List, [], Vec, Contains, Option, Some, None}
 use Rattle.indexmap.specs.IndexMap.{IndexMap, get}
 
 abbrev pub items_of : {T A : Type 0} → Option (Vec T A) → List T

@@ -44,8 +44,8 @@ impl Steps for Graph<'_> {
     }
 }
 
-/// A place in a function that was entered at a node.
-#[derive(Clone, Copy, Debug, PartialEq, Eq, Hash)]
+/// A place in a function that was entered at a node. It is no `Copy`, as members that own something aren't.
+#[derive(Drop, Debug, PartialEq, Eq, Hash)]
 struct Point {
     entry: u32,
     node: u32,
@@ -76,8 +76,8 @@ struct Program<'a> {
 }
 
 /// The points to which the edges lead from this one.
-fn moved(alloc: Global, edges: &[(u32, u32)], at: Point) -> Result<Vec<Point>, AllocError>
-    ensures { IfOk result (λ v. IsExactly v.items (SomeGives (λ e c. (e.0 ≡ at.node) × (record { entry = at.entry; node = e.1 } ≡ c)) edges.now)) }
+fn moved(alloc: Global, edges: &[(u32, u32)], at: &Point) -> Result<Vec<Point>, AllocError>
+    ensures { IfOk result (λ v. IsExactly v.items (SomeGives (λ e c. (e.0 ≡ at.now.node) × (record { entry = at.now.entry; node = e.1 } ≡ c)) edges.now)) }
 {
     let mut found = Vec::new(alloc);
     for edge in edges {
@@ -108,8 +108,8 @@ fn called(alloc: Global, calls: &[Call], node: u32) -> Result<Vec<Point>, AllocE
 }
 
 /// Where to go on once they end.
-fn waited(alloc: Global, calls: &[Call], at: Point) -> Result<Vec<Wait<u32, Point>>, AllocError>
-    ensures { IfOk result (λ v. IsExactly v.items (SomeGives (λ k w. (k.at ≡ at.node) × (record { on = k.entry; waiter = record { entry = at.entry; node = k.back } } ≡ w)) calls.now)) }
+fn waited(alloc: Global, calls: &[Call], at: &Point) -> Result<Vec<Wait<u32, Point>>, AllocError>
+    ensures { IfOk result (λ v. IsExactly v.items (SomeGives (λ k w. (k.at ≡ at.now.node) × (record { on = k.entry; waiter = record { entry = at.now.entry; node = k.back } } ≡ w)) calls.now)) }
 {
     let mut found = Vec::new(alloc);
     for call in calls {
@@ -161,10 +161,10 @@ impl Rules for Program<'_> {
         alloc: Global,
         member: &Point,
     ) -> Result<Entered<Point, u32, Point>, AllocError> {
-        let mut next = moved(alloc, self.edges, *member)?;
+        let mut next = moved(alloc, self.edges, member)?;
         let mut others = called(alloc, self.calls, member.node)?;
         next.append(&mut others)?;
-        let waits = waited(alloc, self.calls, *member)?;
+        let waits = waited(alloc, self.calls, member)?;
         let end = if self.ends.contains(&member.node) {
             Some(member.entry)
         } else {
@@ -174,7 +174,11 @@ impl Rules for Program<'_> {
     }
 
     fn wake(&self, alloc: Global, waiter: &Point, _end: &Point) -> Result<Vec<Point>, AllocError> {
-        Ok(vec![in alloc; *waiter]?)
+        let next = Point {
+            entry: waiter.entry,
+            node: waiter.node,
+        };
+        Ok(vec![in alloc; next]?)
     }
 }
 

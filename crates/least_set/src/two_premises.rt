@@ -14,7 +14,9 @@ use std::alloc::{AllocError, Global};
 /// Somebody who waits for the ends of a context.
 #[derive(Drop)]
 pub struct Wait<K, W> {
+    /// The context.
     pub on: K,
+    /// What is needed to go on at an end of it.
     pub waiter: W,
 }
 
@@ -40,21 +42,26 @@ pub trait Rules {
     /// All that is needed to go on at an end of the context that is waited for.
     type Waiter: Drop;
 
+    // what is there from the beginning
     ghost base: { Self → Self.Member → Type 0 };
 
+    // from a member follows another
     ghost goes: { Self → Self.Member → Self.Member → Type 0 };
 
+    // for a member somebody waits at a context
     ghost waits: { Self → Self.Member → Self.Context → Self.Waiter → Type 0 };
 
+    // a member is an end of a context
     ghost ends: { Self → Self.Member → Self.Context → Type 0 };
 
+    // from a waiter, and an end of the context that it waits at, follows a member
     ghost wakes: { Self → Self.Waiter → Self.Member → Self.Member → Type 0 };
 
-    /// The members that are there without a premise, in the order in which they come first.
+    /// The base. The log begins with its members, in this order.
     fn begin(&self, alloc: Global) -> Result<Vec<Self::Member>, AllocError>
         ensures exact { IfOk result (λ v. IsExactly v.items (base self.now)) };
 
-    /// What a member gives by itself.
+    /// What a member gives by itself. It is asked once for each member.
     fn enter(
         &self,
         alloc: Global,
@@ -64,7 +71,7 @@ pub trait Rules {
         ensures waits { IfOk result (λ v. IsExactly v.waits.items (λ w. waits self.now member.now w.on w.waiter)) }
         ensures ends { IfOk result (λ v. (k : _) → (v.end ≡ Some k) ↔ ends self.now member.now k) };
 
-    /// What a waiter and an end of the context that it waits for give together.
+    /// What a waiter and an end of the context that it waits at give together. It is asked once for each two that meet.
     fn wake(
         &self,
         alloc: Global,
@@ -169,8 +176,13 @@ fn process<R: Rules>(
     Ok(())
 }
 
-/// The least set that has the base and whatever follows from one or two members, each member once.
-/// A member's index is the order in which it was found.
+/// The least set that has the base and whatever follows from one or two members, each member once. It has no end where the
+/// rules give ever new members; then memory runs out, which is the only error.
+///
+/// A member's index says when it was found: the base comes first, then what follows as the first member is worked off,
+/// and so on. So each member outside the base follows from such as stand before it. As a member is worked off, first come
+/// those that follow from it alone, then those that its waiters get from the ends known, then those that it gives as an end
+/// to those who wait.
 pub fn least<R: Rules>(alloc: Global, rules: &R) -> Result<IndexSet<R::Member>, AllocError>
     ensures closed { IfOk result (λ log. (c : R.Member) → Follows (R.base rules.now) (R.goes rules.now) (R.waits rules.now) (R.ends rules.now) (R.wakes rules.now) log.keys c → Contains log.keys c) }
     ensures only { IfOk result (λ log. (c : R.Member) → Contains log.keys c → Least (R.base rules.now) (R.goes rules.now) (R.waits rules.now) (R.ends rules.now) (R.wakes rules.now) c) }

@@ -1,4 +1,4 @@
-use Rattle.std.proofs.Common.{◌≡◌, ℕ, refl, subst, get_or}
+use Rattle.std.proofs.Common.{◌≡◌, refl, get_or}
 use Rattle.least_set.specs.declared.tests.Point.{Point}
 use Rattle.least_set.specs.declared.tests.Call.{Call}
 use Rattle.least_set.specs.Logs.{IsExactly, SomeGives}

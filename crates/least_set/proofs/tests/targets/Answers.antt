@@ -1,4 +1,4 @@
-use Rattle.std.proofs.Common.{◌≡◌, ℕ, refl, subst, get_or}
+use Rattle.std.proofs.Common.{◌≡◌, ℕ, refl, get_or}
 use Rattle.least_set.specs.Logs.{IsExactly, SomeGives}
 use Rattle.least_set.proofs.Growing.{all_of}
 use Rattle.least_set.proofs.Enumerating.{exactly_next, exactly_past}

@@ -1,4 +1,4 @@
-use Rattle.std.proofs.Common.{take, Contains, ℕ}
+use Rattle.std.proofs.Common.{take}
 use Rattle.least_set.specs.Logs.{Adds, SomeGives}
 use Rattle.least_set.specs.TwoPremises.{Met}
 use Rattle.least_set.proofs.two_premises.answer.Given as goal

@@ -1,4 +1,4 @@
-use Rattle.std.proofs.Common.{rules, ◌≡◌, ◌∷◌, [], ◌++◌, ℕ, ◌<◌, List, length, refl, sym, ap, subst, ◌∙◌, append_assoc, append-nil, arith, Contains}
+use Rattle.std.proofs.Common.{rules, ◌≡◌, ◌∷◌, [], ◌<◌, List, length, refl, sym, ap, subst, ◌∙◌, append_assoc, append-nil, arith, Contains}
 use Rattle.std.specs.Vec.Iter.{into_iter_items}
 use Rattle.least_set.specs.Logs.{Adds}
 use Rattle.least_set.specs.Indexes.{at, Extends}

@@ -1,4 +1,4 @@
-use Rattle.std.proofs.Common.{◌≡◌, ◌<◌, arith, length, subst, ap}
+use Rattle.std.proofs.Common.{◌<◌, arith, length, subst, ap}
 use Rattle.std.specs.Map.{lookup}
 use Rattle.least_set.specs.Logs.{Adds}
 use Rattle.least_set.specs.Indexes.{at, items_of}

@@ -1,4 +1,4 @@
-use Rattle.std.proofs.Common.{◌<◌, arith, length, get_or, take, Contains, subst}
+use Rattle.std.proofs.Common.{subst}
 use Rattle.least_set.specs.Logs.{Adds, SomeGives}
 use Rattle.least_set.specs.TwoPremises.{Met}
 use Rattle.least_set.proofs.Growing.{adds_nothing, adds_next, all_of}
