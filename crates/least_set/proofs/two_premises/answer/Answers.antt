@@ -1,0 +1,29 @@
+use Rattle.std.proofs.Common.{◌<◌, arith, length, get_or}
+use Rattle.std.proofs.lemmas.List.Elements.{Contains-get_or}
+use Rattle.least_set.specs.Logs.{Adds, SomeGives}
+use Rattle.least_set.specs.TwoPremises.{Met}
+use Rattle.least_set.proofs.Growing.{adds_nothing, adds_next, all_of, not_shorter}
+use Rattle.least_set.proofs.Meeting.{met_before}
+use Rattle.least_set.proofs.two_premises.answer.Goals as goal
+
+pub loop-end-init : goal.loop-end-init
+loop-end-init g c = adds_nothing (Met (g.R.Rules.wakes c.args.rules.now) c.args.log.now.keys c.args.waiter.now) c.args.log.now.keys
+
+pub combine-requires : goal.combine-requires
+combine-requires g c =
+    let i = c.loop-end.end-index in
+    let h : get_or c.args.ends.now i 0 < length c.args.log.now.keys = c.requires (get_or c.args.ends.now i 0) (Contains-get_or c.args.ends.now i 0 c.loop-end-test.true) in
+    omega (arith, h, not_shorter c.loop-end.invariant)
+
+pub loop-end-preserved : goal.loop-end-preserved
+loop-end-preserved g c =
+    let wakes = g.R.Rules.wakes c.args.rules.now in
+    let xs = c.args.ends.now in
+    let i = c.loop-end.end-index in
+    let h : get_or xs i 0 < length c.args.log.now.keys = c.requires (get_or xs i 0) (Contains-get_or xs i 0 c.loop-end-test.true) in
+    adds_next (Met wakes c.args.log.now.keys c.args.waiter.now) xs i 0 c.loop-end-test.true c.loop-end.invariant
+    (met_before wakes c.args.waiter.now (get_or xs i 0) c.loop-end.invariant h c.in_ok-combine.ensures)
+
+pub returns : goal.returns
+returns g c = all_of (λ l. Adds (SomeGives (Met (g.R.Rules.wakes c.args.rules.now) c.args.log.now.keys c.args.waiter.now) l) c.args.log.now.keys c.loop-end.log.keys)
+    c.args.ends.now c.loop-end.end-index c.loop-end-test.false c.loop-end.auto.end-index-end c.loop-end.invariant

@@ -1,0 +1,5 @@
+pub mod Logs
+pub mod Indexes
+pub mod OnePremise
+pub mod TwoPremises
+pub mod Same
