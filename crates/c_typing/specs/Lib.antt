@@ -1,0 +1,17 @@
+pub mod Faults
+pub mod Options
+pub mod Arithmetic
+pub mod Types
+pub mod Constants
+pub mod Vars
+pub mod Scopes
+pub mod Tags
+pub mod Specified
+pub mod Declarators
+pub mod Parts
+pub mod Roles
+pub mod Moves
+pub mod Rows
+pub mod Definition
+pub mod Unit
+pub mod Theorems

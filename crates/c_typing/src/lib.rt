@@ -1,0 +1,7 @@
+//! The typing of C: the type of each expression, the variable behind each name, the tags, and the first fault of a unit, as
+//! definitions over syntax trees; and the proofs on them that the code which types a unit rests on.
+#![tactic(auto)]
+
+mod theorems;
+
+pub use theorems::typed_has_no_fault;
