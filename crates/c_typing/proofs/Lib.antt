@@ -1,1 +1,6 @@
-pub mod Unique
+pub mod Building
+pub mod ExpressionExamples
+pub mod DeclarationExamples
+pub mod Filled
+pub mod First
+pub mod Units

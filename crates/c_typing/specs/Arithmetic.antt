@@ -21,8 +21,8 @@ pub data Arithmetic : Type 0 where
   Float32 : Arithmetic
   Float : Arithmetic
   Float32x : Arithmetic
-  Double : Arithmetic
   Float64 : Arithmetic
+  Double : Arithmetic
   Float64x : Arithmetic
   LongDouble : Arithmetic
   Float128 : Arithmetic

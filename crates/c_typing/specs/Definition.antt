@@ -1,5 +1,5 @@
 -- THE DEFINITION of typing: the type of a node at its place, the places in the order of visits, and the first fault among them.
-use Rattle.std.specs.Prelude.{◌≡◌, ℕ, zero, suc, List, [], ◌∷◌, Option, None, Some, Bool, true, ⊤}
+use Rattle.std.specs.Prelude.{◌≡◌, ℕ, zero, suc, List, [], ◌∷◌, Option, None, Some, Bool, true, ⊤, ◌⊎◌}
 use Rattle.std.specs.Option.{option_map}
 use Rattle.c_tree.specs.Node.{Shape}
 use Rattle.c_typing.specs.Faults.{Fault}
@@ -109,3 +109,7 @@ IsRight table (Out v r e) = is_kept v r e ≡ true → HasCell table v r e
 abbrev pub AreRight : Table → List Meeting → Type 0
 AreRight table [] = ⊤
 AreRight table (x ∷ xs) = IsRight table x × AreRight table xs
+
+abbrev pub IsAmong : Meeting → List Meeting → Type 0
+IsAmong x [] = ⊥
+IsAmong x (y ∷ ys) = (x ≡ y) ⊎ IsAmong x ys

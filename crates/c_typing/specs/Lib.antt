@@ -13,5 +13,6 @@ pub mod Roles
 pub mod Moves
 pub mod Rows
 pub mod Definition
+pub mod Order
 pub mod Unit
 pub mod Theorems

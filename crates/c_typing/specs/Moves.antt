@@ -1,11 +1,11 @@
 -- How scopes change where a node begins and where it ends (ISO 9899:1990, 6.1.2.1).
 use Rattle.std.specs.Prelude.{ℕ, ◌++◌, List, [], ◌∷◌, Option, None, Some, cond, nat_eq}
 use Rattle.std.specs.Option.{option_map}
-use Rattle.c_tree.specs.Node.{Shape, Specifier, Declarator, Part, Outer, Statement, Iteration, SpecifierShape, DeclaratorShape, StructTag, StructBody, EnumTag, EnumBody, StructDeclaration, Params, Enumerator, Function, Block, ForDeclaration, no_more}
+use Rattle.c_tree.specs.Node.{Shape, Specifier, Declarator, Part, Statement, Iteration, SpecifierShape, DeclaratorShape, StructTag, StructBody, EnumTag, EnumBody, StructDeclaration, Params, Enumerator, Block, ForDeclaration, no_more}
 use Rattle.c_typing.specs.Declarators.{around_shape, name_of_shape, declared, formal, enumerator, a_member}
 use Rattle.c_typing.specs.Options.{if_there}
 use Rattle.c_typing.specs.Roles.{Role, Alone, Declares, Defines, Formal, Member, Formals, Body, owner_of}
-use Rattle.c_typing.specs.Scopes.{Scopes, Entry, Enums, with_name, with_member, deeper, leave, leave_formals, without_formals, body_of}
+use Rattle.c_typing.specs.Scopes.{Scopes, Entry, Enums, with_name, with_member, deeper, leave, leave_formals, body_of}
 use Rattle.c_typing.specs.Scopes as held
 use Rattle.c_typing.specs.Specified.{specified_type}
 use Rattle.c_typing.specs.Tags as tags
@@ -50,7 +50,6 @@ abbrev pub opened : Scopes → Role → Shape → Scopes
 opened v r (Specifier (StructBody which tag members)) = body_opened v (sort_of which) tag
 opened v r (Specifier (EnumBody tag enumerators comma)) = body_opened v Enums tag
 opened v r (Part (Params params variadic)) = deeper v
-opened v r (Outer (Function specs declarator block)) = without_formals v
 opened v r (Statement (Block items)) = opened_block v r
 opened v r (Iteration (ForDeclaration declaration condition step inner)) = deeper v
 opened v r _ = v

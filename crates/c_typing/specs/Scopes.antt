@@ -41,8 +41,8 @@ pub record Member : Type 0 where
   pub ty : CType
 
 -- The names and tags in force, the innermost and latest last, and the depth of the scope; of each structure and union, by its
--- number, the tag; the numbers of those that are complete; all members; and the names and tags of the parameters of the
--- function that is being defined, which are in force in its body.
+-- number, the tag; the numbers of those that are complete; all members; and, between a function's parameters and its body, the
+-- names and tags that the parameters declare, which are in force in the body.
 pub record Scopes : Type 0 where
   pub names : List Entry
   pub tags : List Tag
@@ -93,9 +93,6 @@ leave v w = record w { names = v.names; tags = v.tags; depth = v.depth }
 abbrev pub leave_formals : Scopes → Scopes → Scopes
 leave_formals v w = record (leave v w) { formal_names = drop (length v.names) w.names; formal_tags = drop (length v.tags) w.tags }
 
-abbrev pub without_formals : Scopes → Scopes
-without_formals v = record v { formal_names = []; formal_tags = [] }
-
 -- the scope of a function's body, with its parameters
 abbrev pub body_of : Scopes → Scopes
-body_of v = record v { names = v.names ++ v.formal_names; tags = v.tags ++ v.formal_tags; depth = v.depth + 1 }
+body_of v = record v { names = v.names ++ v.formal_names; tags = v.tags ++ v.formal_tags; depth = v.depth + 1; formal_names = []; formal_tags = [] }

@@ -1,9 +1,12 @@
 -- The theorems of this crate as statements, which contracts can name.
-use Rattle.std.specs.Prelude.{◌≡◌}
+use Rattle.std.specs.Prelude.{◌≡◌, ◌⊎◌, true}
 use Rattle.c_tree.specs.Node.{Nodes}
-use Rattle.c_typing.specs.Definition.{Table}
+use Rattle.c_typing.specs.Definition.{Out, Table, IsAmong, is_kept, HasCell}
 use Rattle.c_typing.specs.Faults.{Fault}
-use Rattle.c_typing.specs.Unit.{IsTyping, IsFirstFault}
+use Rattle.c_typing.specs.Parts.{Visit}
+use Rattle.c_typing.specs.Roles.{Role}
+use Rattle.c_typing.specs.Scopes.{Scopes}
+use Rattle.c_typing.specs.Unit.{places_of, AreNumbered, IsTyping, IsFirstFault}
 
 -- a unit that is typed has no fault
 abbrev pub TypedHasNoFault : Type 0
@@ -12,3 +15,12 @@ TypedHasNoFault = (unit : Nodes) (table : Table) (fault : Fault) → IsTyping un
 -- a unit has at most one first fault
 abbrev pub FaultsAreUnique : Type 0
 FaultsAreUnique = (unit : Nodes) (a b : Fault) → IsFirstFault unit a → IsFirstFault unit b → a ≡ b
+
+-- A unit whose nodes have different numbers is typed by a table, or has a first fault.
+abbrev pub TypedOrAtFault : Type 0
+TypedOrAtFault = (unit : Nodes) → AreNumbered unit → ((table : Table) × IsTyping unit table) ⊎ ((fault : Fault) × IsFirstFault unit fault)
+
+-- What a table that types a unit has at the number of a place's node: its type there, and the variable behind it.
+abbrev pub CellsAreRight : Type 0
+CellsAreRight = (unit : Nodes) (table : Table) (v : Scopes) (r : Role) (e : Visit)
+    → IsTyping unit table → IsAmong (Out v r e) (places_of unit) → is_kept v r e ≡ true → HasCell table v r e

@@ -4,4 +4,4 @@
 
 mod theorems;
 
-pub use theorems::typed_has_no_fault;
+pub use theorems::{cells_are_right, faults_are_unique, typed_has_no_fault, typed_or_at_fault};

@@ -3,9 +3,28 @@
 
 ghost use Rattle.c_typing.specs.Theorems.{
   TypedHasNoFault,
+  FaultsAreUnique,
+  TypedOrAtFault,
+  CellsAreRight,
 };
 
 /// A unit that is typed has no fault.
 pub fn typed_has_no_fault()
     ensures { TypedHasNoFault }
+{}
+
+/// A unit has at most one first fault.
+pub fn faults_are_unique()
+    ensures { FaultsAreUnique }
+{}
+
+/// A unit whose nodes have different numbers is typed by a table, or has a first fault.
+pub fn typed_or_at_fault()
+    ensures { TypedOrAtFault }
+{}
+
+/// What a table that types a unit has at the number of a node: the type that the node has at its place, and the variable
+/// behind it.
+pub fn cells_are_right()
+    ensures { CellsAreRight }
 {}
