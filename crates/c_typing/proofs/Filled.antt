@@ -1,7 +1,7 @@
 -- The table that is filled has each node's type and variable, since the numbers differ.
 use Rattle.std.proofs.Common.{◌≡◌, ℕ, zero, suc, List, [], ◌∷◌, Option, None, Some, inl, inr, Bool, true, false, Result, Ok, Err, ap, refl, ◌∙◌, sym, subst}
 use Rattle.std.specs.Option.{option_map}
-use Rattle.c_typing.specs.Definition.{inner, after, Meeting, Out, meetings_then, meetings_all_then, Cell, Table, at, is_kept, HasCell, AreRight}
+use Rattle.c_typing.specs.Definition.{behind_parts, after, Meeting, Out, meetings_then, meetings_all_then, Cell, Table, at, is_kept, HasCell, AreRight}
 use Rattle.c_typing.specs.Faults.{Fault}
 use Rattle.c_typing.specs.Moves.{opened}
 use Rattle.c_typing.specs.Options.{ok, unless_fault, ◌>>=◌}
@@ -47,7 +47,7 @@ at-kept false i var found t table h e = cc
 mutual
   pub kept : (v : Scopes) (r : Role) (e : Visit) (table : Table) (j : ℕ) → (IsIn j e → ⊥) → at j (fill v r e table) ≡ at j table
   kept v r (visit i p s es) table j h =
-      at-kept_elsewhere (keeps (inner v r s es) r s) j i (var_of v (inner v r s es) r s) (visited v r (visit i p s es)) (fill_all (given v r) (opened v r s) es table) (λ e. h (inl e))
+      at-kept_elsewhere (keeps (behind_parts v r s es) r s) j i (var_of v (behind_parts v r s es) r s) (visited v r (visit i p s es)) (fill_all (given v r) (opened v r s) es table) (λ e. h (inl e))
       ∙ kept_all (given v r) (opened v r s) es table j (λ k. h (inr k))
 
   pub kept_all : (roles : Slot → Role) (v : Scopes) (es : Parts) (table : Table) (j : ℕ) → (IsInSome j es → ⊥) → at j (fill_all roles v es table) ≡ at j table
@@ -70,10 +70,10 @@ parts-fine (Some f) a k y h = cc
 mutual
   pub filled : (v : Scopes) (r : Role) (e : Visit) (t : CType) (table final : Table) (xs : List Meeting) → Differ e → visited v r e ≡ Ok t → ((j : ℕ) → IsIn j e → at j final ≡ at j (fill v r e table)) → AreRight final xs → AreRight final (meetings_then v r e xs)
   filled v r (visit i p s es) t table final xs d h agrees rest =
-      let us : (us : List CType) × (visited_all (given v r) (opened v r s) es ≡ Ok us) = parts-fine (entry_fault v s) (visited_all (given v r) (opened v r s) es) (λ ts. row v (inner v r s es) r p s ts) t h in
+      let us : (us : List CType) × (visited_all (given v r) (opened v r s) es ≡ Ok us) = parts-fine (entry_fault v s) (visited_all (given v r) (opened v r s) es) (λ ts. row v (behind_parts v r s es) r p s ts) t h in
       let below = fill_all (given v r) (opened v r s) es table in
-      let b = keeps (inner v r s es) r s in
-      let var = var_of v (inner v r s es) r s in
+      let b = keeps (behind_parts v r s es) r s in
+      let var = var_of v (behind_parts v r s es) r s in
       let here : is_kept v r (visit i p s es) ≡ true → HasCell final v r (visit i p s es) = λ k.
       agrees i (inl refl) ∙ at-kept b i var (visited v r (visit i p s es)) t below k h
       ∙ ap (option_map (λ u. record { ty = u; var = var })) (sym (ap ok h) ∙ visited-ok v r (visit i p s es)) in

@@ -1,6 +1,6 @@
 -- The visit in order gives the type that is defined, or the first fault.
 use Rattle.std.proofs.Common.{◌≡◌, List, [], ◌∷◌, Option, None, Some, Result, Ok, Err, ap, refl, ◌∙◌, sym}
-use Rattle.c_typing.specs.Definition.{inner, after, if_fine, type_of, types_of, Meeting, Out, meetings_then, meetings_all_then, first_fault}
+use Rattle.c_typing.specs.Definition.{behind_parts, after, if_fine, type_of, types_of, Meeting, Out, meetings_then, meetings_all_then, first_fault}
 use Rattle.c_typing.specs.Faults.{Fault}
 use Rattle.c_typing.specs.Moves.{opened}
 use Rattle.c_typing.specs.Options.{or_else, ok, err, unless_fault, ◌>?◌, ◌>>=◌}
@@ -24,8 +24,8 @@ ok-more (Err e) b = refl
 mutual
   pub visited-ok : (v : Scopes) (r : Role) (e : Visit) → ok (visited v r e) ≡ type_of v r e
   visited-ok v r (visit i p s es) =
-      ok-node (entry_fault v s) (visited_all (given v r) (opened v r s) es) (λ ts. row v (inner v r s es) r p s ts)
-      ∙ ap (λ o. if_fine (entry_fault v s) (o >? λ ts. ok (row v (inner v r s es) r p s ts))) (visited_all-ok (given v r) (opened v r s) es)
+      ok-node (entry_fault v s) (visited_all (given v r) (opened v r s) es) (λ ts. row v (behind_parts v r s es) r p s ts)
+      ∙ ap (λ o. if_fine (entry_fault v s) (o >? λ ts. ok (row v (behind_parts v r s es) r p s ts))) (visited_all-ok (given v r) (opened v r s) es)
 
   pub visited_all-ok : (roles : Slot → Role) (v : Scopes) (es : Parts) → ok (visited_all roles v es) ≡ types_of roles v es
   visited_all-ok roles v none = refl
@@ -48,8 +48,8 @@ mutual
   pub visited-first : (v : Scopes) (r : Role) (e : Visit) (xs : List Meeting) → first_fault (meetings_then v r e xs) ≡ or_else (err (visited v r e)) (first_fault xs)
   visited-first v r (visit i p s es) xs =
       ap (or_else (entry_fault v s)) (visited_all-first (given v r) (opened v r s) es (Out v r (visit i p s es) ∷ xs))
-      ∙ ap (λ o. or_else (entry_fault v s) (or_else (err (visited_all (given v r) (opened v r s) es)) (or_else (o >? λ ts. err (row v (inner v r s es) r p s ts)) (first_fault xs)))) (sym (visited_all-ok (given v r) (opened v r s) es))
-      ∙ node-first (entry_fault v s) (visited_all (given v r) (opened v r s) es) (λ ts. row v (inner v r s es) r p s ts) (first_fault xs)
+      ∙ ap (λ o. or_else (entry_fault v s) (or_else (err (visited_all (given v r) (opened v r s) es)) (or_else (o >? λ ts. err (row v (behind_parts v r s es) r p s ts)) (first_fault xs)))) (sym (visited_all-ok (given v r) (opened v r s) es))
+      ∙ node-first (entry_fault v s) (visited_all (given v r) (opened v r s) es) (λ ts. row v (behind_parts v r s es) r p s ts) (first_fault xs)
 
   pub visited_all-first : (roles : Slot → Role) (v : Scopes) (es : Parts) (xs : List Meeting) → first_fault (meetings_all_then roles v es xs) ≡ or_else (err (visited_all roles v es)) (first_fault xs)
   visited_all-first roles v none xs = refl

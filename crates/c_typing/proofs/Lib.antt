@@ -1,3 +1,6 @@
+pub mod BridgeScopes
+pub mod BridgeTables
+pub mod BridgeTypes
 pub mod Building
 pub mod ExpressionExamples
 pub mod DeclarationExamples

@@ -22,8 +22,8 @@ abbrev mutual
   after_all roles v (part slot e es) = after_all roles (after v (roles slot) e) es
 
 -- the scopes behind the parts of a node
-abbrev pub inner : Scopes → Role → Shape → Parts → Scopes
-inner v r s es = after_all (given v r) (opened v r s) es
+abbrev pub behind_parts : Scopes → Role → Shape → Parts → Scopes
+behind_parts v r s es = after_all (given v r) (opened v r s) es
 
 abbrev pub if_fine : {A : Type 0} → Option Fault → Option A → Option A
 if_fine None o = o
@@ -33,7 +33,7 @@ if_fine (Some f) o = None
 -- where the node names a fault.
 abbrev mutual
   pub type_of : Scopes → Role → Visit → Option CType
-  type_of v r (visit i p s es) = if_fine (entry_fault v s) (types_of (given v r) (opened v r s) es >? λ ts. ok (row v (inner v r s es) r p s ts))
+  type_of v r (visit i p s es) = if_fine (entry_fault v s) (types_of (given v r) (opened v r s) es >? λ ts. ok (row v (behind_parts v r s es) r p s ts))
 
   pub types_of : (Slot → Role) → Scopes → Parts → Option (List CType)
   types_of roles v none = Some []
@@ -54,7 +54,7 @@ abbrev pub in_fault : Scopes → Visit → Option Fault
 in_fault v (visit i p s es) = entry_fault v s
 
 abbrev pub out_fault : Scopes → Role → Visit → Option Fault
-out_fault v r (visit i p s es) = types_of (given v r) (opened v r s) es >? λ ts. err (row v (inner v r s es) r p s ts)
+out_fault v r (visit i p s es) = types_of (given v r) (opened v r s) es >? λ ts. err (row v (behind_parts v r s es) r p s ts)
 
 abbrev pub fault_at : Meeting → Option Fault
 fault_at (In v r e) = in_fault v e
@@ -93,10 +93,10 @@ parts_of (visit i p s es) = es
 
 -- THE VARIABLE behind a node at its place
 abbrev pub var_at : Scopes → Role → Visit → Option CVar
-var_at v r (visit i p s es) = var_of v (inner v r s es) r s
+var_at v r (visit i p s es) = var_of v (behind_parts v r s es) r s
 
 abbrev pub is_kept : Scopes → Role → Visit → Bool
-is_kept v r (visit i p s es) = keeps (inner v r s es) r s
+is_kept v r (visit i p s es) = keeps (behind_parts v r s es) r s
 
 -- the table has this type and this variable at the node's number
 abbrev pub HasCell : Table → Scopes → Role → Visit → Type 0

@@ -1,7 +1,7 @@
 -- How scopes change where a node begins and where it ends (ISO 9899:1990, 6.1.2.1).
 use Rattle.std.specs.Prelude.{ℕ, ◌++◌, List, [], ◌∷◌, Option, None, Some, cond, nat_eq}
 use Rattle.std.specs.Option.{option_map}
-use Rattle.c_tree.specs.Node.{Shape, Specifier, Declarator, Part, Statement, Iteration, SpecifierShape, DeclaratorShape, StructTag, StructBody, EnumTag, EnumBody, StructDeclaration, Params, Enumerator, Block, ForDeclaration, no_more}
+use Rattle.c_tree.specs.Node.{Node, Shape, Specifier, Declarator, Part, Statement, Iteration, SpecifierShape, DeclaratorShape, StructTag, StructBody, EnumTag, EnumBody, StructDeclaration, Params, Enumerator, Block, ForDeclaration, Nodes, no_more}
 use Rattle.c_typing.specs.Declarators.{around_shape, name_of_shape, declared, formal, enumerator, a_member}
 use Rattle.c_typing.specs.Options.{if_there}
 use Rattle.c_typing.specs.Roles.{Role, Alone, Declares, Defines, Formal, Member, Formals, Body, owner_of}
@@ -62,11 +62,15 @@ left_params _ v w = leave v w
 abbrev pub behind_declarator : Role → DeclaratorShape → Scopes → Scopes
 behind_declarator r d w = if_there (declares w r d) (if_there (declares_member r d) w (with_member w)) (with_name w)
 
+abbrev pub behind_members : Scopes → Role → Node → Nodes → Scopes → Scopes
+behind_members v r specs no_more w = record w { members = w.members ++ inner_members w (owner_of r) (specified_type v specs) }
+behind_members v r specs _ w = w
+
 abbrev pub behind_specifier : Scopes → Role → SpecifierShape → Scopes → Scopes
 behind_specifier v r (StructTag which tag) w = mentioned w (mention r) (sort_of which) tag.name
 behind_specifier v r (EnumTag tag) w = mentioned w (mention r) Enums tag.name
 behind_specifier v r (StructBody which tag members) w = record w { complete = body_number v (sort_of which) tag ∷ w.complete }
-behind_specifier v r (StructDeclaration specs no_more) w = record w { members = w.members ++ inner_members w (owner_of r) (specified_type v specs) }
+behind_specifier v r (StructDeclaration specs declarators) w = behind_members v r specs declarators w
 behind_specifier v r _ w = w
 
 -- The scopes behind a node, from those before it and those behind its parts.

@@ -1,6 +1,6 @@
 -- The visit of a node in order: the first fault or the type, and the table behind it.
 use Rattle.std.specs.Prelude.{ℕ, zero, suc, List, [], ◌∷◌, Option, None, Some, Bool, cond, Result, Ok, Err}
-use Rattle.c_typing.specs.Definition.{after, inner, Cell, Table}
+use Rattle.c_typing.specs.Definition.{after, behind_parts, Cell, Table}
 use Rattle.c_typing.specs.Faults.{Fault}
 use Rattle.c_typing.specs.Moves.{opened}
 use Rattle.c_typing.specs.Options.{◌>>=◌, unless_fault}
@@ -14,7 +14,7 @@ use Rattle.c_typing.specs.Vars.{CVar}
 -- the type or the first fault: the tag of a body, the parts from left to right, then the node
 abbrev mutual
   pub visited : Scopes → Role → Visit → Result CType Fault
-  visited v r (visit i p s es) = unless_fault (entry_fault v s) (visited_all (given v r) (opened v r s) es >>= λ ts. row v (inner v r s es) r p s ts)
+  visited v r (visit i p s es) = unless_fault (entry_fault v s) (visited_all (given v r) (opened v r s) es >>= λ ts. row v (behind_parts v r s es) r p s ts)
 
   pub visited_all : (Slot → Role) → Scopes → Parts → Result (List CType) Fault
   visited_all roles v none = Ok []
@@ -37,7 +37,7 @@ put_kept kept i var found table = cond kept (put_found i var found table) table
 -- the table behind a node
 abbrev mutual
   pub fill : Scopes → Role → Visit → Table → Table
-  fill v r (visit i p s es) table = put_kept (keeps (inner v r s es) r s) i (var_of v (inner v r s es) r s) (visited v r (visit i p s es)) (fill_all (given v r) (opened v r s) es table)
+  fill v r (visit i p s es) table = put_kept (keeps (behind_parts v r s es) r s) i (var_of v (behind_parts v r s es) r s) (visited v r (visit i p s es)) (fill_all (given v r) (opened v r s) es table)
 
   pub fill_all : (Slot → Role) → Scopes → Parts → Table → Table
   fill_all roles v none table = table

@@ -1,9 +1,8 @@
 -- The parts of each kind of node in the order in which they are visited, which is that of the text.
-use Rattle.std.specs.Prelude.{ℕ, cond}
+use Rattle.std.specs.Prelude.{ℕ}
 use Rattle.c_tree.specs.declared.operator.StructOrUnion.{StructOrUnion}
 use Rattle.c_tree.specs.declared.place.Place.{Place}
 use Rattle.c_tree.specs.Node.{Node, node, Shape, Primary, Operation, Initializer, Specifier, Declarator, Part, Outer, Statement, Iteration, Jump, PrimaryShape, OperationShape, InitializerShape, SpecifierShape, DeclaratorShape, PartShape, OuterShape, StatementShape, IterationShape, JumpShape, Ident, Constant, StrConst, Paren, VaArg, Offsetof, Hole, Index, Call, Member, Arrow, CompoundLit, Unary, SizeofType, Cast, Binary, Cond, Assign, Init, Braces, Designated, TypeName, Specs, StructTag, StructBody, EnumTag, EnumBody, StructDeclaration, BitField, Param, Named, Nested, Unnamed, SpecWord, ArrayBound, VoidParams, Params, Enumerator, MemberDesignator, IndexDesignator, Declaration, Function, Empty, Block, ExprStmt, If, Switch, Case, Default, Label, While, Do, For, ForDeclaration, Goto, Continue, Break, Return, MaybeNode, absent, present, Nodes, no_more, more}
-use Rattle.c_typing.specs.Declarators.{is_bare}
 use Rattle.std.specs.Prelude.{Option}
 use Rattle.c_tree.specs.declared.token.Token.{Token}
 
@@ -12,8 +11,9 @@ pub data Slot : Type 0 where
   plain : Slot
   -- what is called
   callee : Slot
-  -- the specifiers of a declaration that declares no name
-  alone : Slot
+  -- the specifiers of a declaration of these, and one of these specifiers
+  specs_of : Nodes → Slot
+  item_of : Nodes → Slot
   -- the same as the whole
   same : Slot
   -- a declarator behind these specifiers: of a declaration, of the definition of a function, of a parameter, of a member
@@ -21,8 +21,10 @@ pub data Slot : Type 0 where
   defined_by : Node → Slot
   formal_by : Node → Slot
   member_by : Node → Slot
-  -- the next part of a declarator on the way to the name, and the suffix beside it
-  inward : Slot
+  -- the suffix beside the name of a declarator; the declarator inside another, and the suffix beside that
+  beside_name : Slot
+  toward : Node → Slot
+  beside : Node → Slot
   -- a member declaration in this body
   inside : StructOrUnion → Option Token → Slot
   -- the body of a function
@@ -83,7 +85,7 @@ abbrev mutual
 
   pub specifier_parts : SpecifierShape → Parts
   specifier_parts (TypeName specs declarator) = part plain (flat specs) (maybe plain declarator none)
-  specifier_parts (Specs items) = items_parts items
+  specifier_parts (Specs items) = each (item_of items) items none
   specifier_parts (StructTag which tag) = none
   specifier_parts (StructBody which tag members) = each (inside which tag) members none
   specifier_parts (EnumTag tag) = none
@@ -92,22 +94,16 @@ abbrev mutual
   specifier_parts (BitField declarator width) = maybe same declarator (part plain (flat width) none)
   specifier_parts (Param specs declarator) = part plain (flat specs) (maybe (formal_by specs) declarator none)
 
-  -- one specifier alone is all that the specifiers are
-  pub items_parts : Nodes → Parts
-  items_parts no_more = none
-  items_parts (more e no_more) = part same (flat e) none
-  items_parts (more e (more d es)) = part plain (flat e) (part plain (flat d) (each plain es none))
-
   -- what stands in parentheses comes before the suffixes
   pub declarator_parts : DeclaratorShape → Parts
-  declarator_parts (Named pointers name suffixes) = beside inward suffixes
-  declarator_parts (Nested pointers inner suffixes) = part (cond (is_bare inner) plain inward) (flat inner) (beside (cond (is_bare inner) inward plain) suffixes)
+  declarator_parts (Named pointers name suffixes) = first_in beside_name suffixes
+  declarator_parts (Nested pointers inner suffixes) = part (toward inner) (flat inner) (first_in (beside inner) suffixes)
   declarator_parts (Unnamed pointers suffixes) = each plain suffixes none
 
-  -- the suffixes, the first of them in this slot
-  pub beside : Slot → Nodes → Parts
-  beside s no_more = none
-  beside s (more e es) = part s (flat e) (each plain es none)
+  -- all of these, the first of them in this slot
+  pub first_in : Slot → Nodes → Parts
+  first_in s no_more = none
+  first_in s (more e es) = part s (flat e) (each plain es none)
 
   pub part_parts : PartShape → Parts
   part_parts (SpecWord word) = none
@@ -119,8 +115,7 @@ abbrev mutual
   part_parts (IndexDesignator index) = part plain (flat index) none
 
   pub outer_parts : OuterShape → Parts
-  outer_parts (Declaration specs no_more) = part alone (flat specs) none
-  outer_parts (Declaration specs (more d ds)) = part plain (flat specs) (part (declared_by specs) (flat d) (each (declared_by specs) ds none))
+  outer_parts (Declaration specs declarators) = part (specs_of declarators) (flat specs) (each (declared_by specs) declarators none)
   outer_parts (Function specs declarator block) = part plain (flat specs) (part (defined_by specs) (flat declarator) (part body (flat block) none))
   outer_parts Empty = none
 

@@ -1,6 +1,8 @@
 -- What a node is where it stands, as far as its kind doesn't say it.
-use Rattle.std.specs.Prelude.{ℕ}
-use Rattle.c_typing.specs.Parts.{Slot, plain, callee, alone, same, declared_by, defined_by, formal_by, member_by, inward, inside, body}
+use Rattle.std.specs.Prelude.{ℕ, cond}
+use Rattle.c_tree.specs.Node.{Nodes, no_more, more}
+use Rattle.c_typing.specs.Declarators.{is_bare}
+use Rattle.c_typing.specs.Parts.{Slot, plain, callee, same, specs_of, item_of, declared_by, defined_by, formal_by, member_by, beside_name, toward, beside, inside, body}
 use Rattle.c_typing.specs.Scopes.{Scopes}
 use Rattle.c_typing.specs.Specified.{Storage, specified_type, storage_of}
 use Rattle.c_typing.specs.Tags.{body_number, sort_of}
@@ -33,16 +35,29 @@ inner_role (Defines s t) = Formals
 inner_role Formals = Formals
 inner_role _ = Plain
 
--- the role of a part, under the scopes before its whole and by the role of that
+-- the specifiers of a declaration that declares no name
+abbrev pub specs_role : Nodes → Role
+specs_role no_more = Alone
+specs_role _ = Plain
+
+-- one specifier alone is all that the specifiers are
+abbrev pub item_role : Role → Nodes → Role
+item_role r (more e no_more) = r
+item_role r _ = Plain
+
+-- The role of a part, under the scopes before its whole and by the role of that.
 abbrev pub given : Scopes → Role → Slot → Role
 given v r plain = Plain
 given v r callee = Callee
-given v r alone = Alone
 given v r same = r
+given v r (specs_of declarators) = specs_role declarators
+given v r (item_of items) = item_role r items
 given v r (declared_by specs) = Declares (storage_of specs) (specified_type v specs)
 given v r (defined_by specs) = Defines (storage_of specs) (specified_type v specs)
 given v r (formal_by specs) = Formal (specified_type v specs)
 given v r (member_by specs) = Member (owner_of r) (specified_type v specs)
-given v r inward = inner_role r
+given v r beside_name = inner_role r
+given v r (toward d) = cond (is_bare d) Plain (inner_role r)
+given v r (beside d) = cond (is_bare d) (inner_role r) Plain
 given v r (inside which tag) = Inside (body_number v (sort_of which) tag)
 given v r body = Body

@@ -7,7 +7,7 @@ use Rattle.c_tree.specs.declared.token.Mark.TheVariants as marked
 use Rattle.c_tree.specs.declared.token.Token.{Token}
 use Rattle.c_tree.specs.declared.token.TokenKind.{TokenKind}
 use Rattle.c_tree.specs.declared.token.TokenKind.TheVariants as kinds
-use Rattle.c_tree.specs.Node.{Node, node, Shape, Primary, Operation, Initializer, Specifier, Declarator, Part, PrimaryShape, OperationShape, InitializerShape, SpecifierShape, DeclaratorShape, PartShape, Ident, Constant, StrConst, Paren, VaArg, Offsetof, Hole, Index, Call, Member, Arrow, CompoundLit, Unary, SizeofType, Cast, Binary, Cond, Assign, Init, TypeName, StructTag, StructBody, EnumTag, EnumBody, StructDeclaration, Enumerator, no_more}
+use Rattle.c_tree.specs.Node.{Node, node, Shape, Primary, Operation, Initializer, Specifier, Declarator, Part, PrimaryShape, OperationShape, InitializerShape, SpecifierShape, DeclaratorShape, PartShape, Ident, Constant, StrConst, Paren, VaArg, Offsetof, Hole, Index, Call, Member, Arrow, CompoundLit, Unary, SizeofType, Cast, Binary, Cond, Assign, Init, TypeName, StructTag, StructBody, EnumTag, EnumBody, StructDeclaration, Enumerator, Nodes, no_more}
 use Rattle.c_typing.specs.Arithmetic as kind
 use Rattle.c_typing.specs.Constants.{constant_type, string_type}
 use Rattle.c_typing.specs.Declarators.{around_maybe, name_of_shape, enumerator, clashes, member_clashes}
@@ -154,12 +154,17 @@ abbrev pub first_clash : Scopes → List held.Member → Option Fault
 first_clash w [] = None
 first_clash w (m ∷ ms) = cond (member_clashes w m) (Some (Redeclared m.place m.name)) (first_clash w ms)
 
+-- a declaration of members: one without a name gives its own members to the outer structure or union
+abbrev pub members_row : Scopes → Scopes → Role → Node → Nodes → Result CType Fault
+members_row v w r specs no_more = fine_unless (first_clash w (inner_members w (owner_of r) (specified_type v specs)))
+members_row v w r specs _ = Ok Void
+
 -- Type names and specifiers (6.5.2, 6.5.5).
 abbrev pub specifier_row : Scopes → Scopes → Role → SpecifierShape → Result CType Fault
 specifier_row v w r (TypeName specs declarator) = Ok (around_maybe declarator (specified_type v specs))
 specifier_row v w r (StructTag which tag) = fine_unless (tag_fault w (mention r) (sort_of which) tag)
 specifier_row v w r (EnumTag tag) = fine_unless (tag_fault w (mention r) Enums tag)
-specifier_row v w r (StructDeclaration specs no_more) = fine_unless (first_clash w (inner_members w (owner_of r) (specified_type v specs)))
+specifier_row v w r (StructDeclaration specs declarators) = members_row v w r specs declarators
 specifier_row v w r _ = Ok Void
 
 -- the place of a declared name

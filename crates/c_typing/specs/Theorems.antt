@@ -1,11 +1,15 @@
 -- The theorems of this crate as statements, which contracts can name.
 use Rattle.std.specs.Prelude.{◌≡◌, ◌⊎◌, true}
-use Rattle.c_tree.specs.Node.{Nodes}
-use Rattle.c_typing.specs.Definition.{Out, Table, IsAmong, is_kept, HasCell}
+use Rattle.c_tree.specs.Node.{Node, Nodes}
+use Rattle.c_typing.specs.Definition.{after, Out, Table, IsAmong, is_kept, HasCell}
 use Rattle.c_typing.specs.Faults.{Fault}
-use Rattle.c_typing.specs.Parts.{Visit}
+use Rattle.c_typing.specs.Order.{visited, fill}
+use Rattle.c_typing.specs.Parts.{Visit, flat}
 use Rattle.c_typing.specs.Roles.{Role}
 use Rattle.c_typing.specs.Scopes.{Scopes}
+use Rattle.c_typing.specs.ScopesByCase.{scoped}
+use Rattle.c_typing.specs.TablesByCase.{filled}
+use Rattle.c_typing.specs.TypesByCase.{typed}
 use Rattle.c_typing.specs.Unit.{places_of, AreNumbered, IsTyping, IsFirstFault}
 
 -- a unit that is typed has no fault
@@ -24,3 +28,8 @@ TypedOrAtFault = (unit : Nodes) → AreNumbered unit → ((table : Table) × IsT
 abbrev pub CellsAreRight : Type 0
 CellsAreRight = (unit : Nodes) (table : Table) (v : Scopes) (r : Role) (e : Visit)
     → IsTyping unit table → IsAmong (Out v r e) (places_of unit) → is_kept v r e ≡ true → HasCell table v r e
+
+-- What is written out for each kind is what is defined: the scopes behind a node, its type or first fault, and the table.
+abbrev pub ByCase : Type 0
+ByCase = (v : Scopes) (r : Role) (e : Node) (table : Table)
+    → (scoped v r e ≡ after v r (flat e)) × (typed v r e ≡ visited v r (flat e)) × (filled v r e table ≡ fill v r (flat e) table)
