@@ -3,13 +3,18 @@ use Rattle.std.proofs.Common.{◌≡◌, List, [], ◌∷◌, ◌⊎◌, inl, in
 use Rattle.c_tree.specs.Node.{Nodes}
 use Rattle.c_typing.specs.Definition.{Meeting, Out, Table, first_fault, AreRight, IsRight, HasCell, is_kept, IsAmong}
 use Rattle.c_typing.specs.Faults.{Fault}
-use Rattle.c_typing.specs.Options.{err}
+use Rattle.c_typing.specs.Options.{err, ◌>>=◌}
 use Rattle.c_typing.specs.Order.{visited_all, fill_all}
-use Rattle.c_typing.specs.Parts.{Visit}
-use Rattle.c_typing.specs.Roles.{Role}
+use Rattle.c_typing.specs.Parts.{plain, Visit, none}
+use Rattle.c_typing.specs.Roles.{Role, Plain}
 use Rattle.c_typing.specs.Scopes.{Scopes, at_start}
-use Rattle.c_typing.specs.Types.{CType}
+use Rattle.c_typing.specs.TablesByCase.{filled_each}
+use Rattle.c_typing.specs.Theorems.{UnitByCase}
+use Rattle.c_typing.specs.Types.{CType, Void}
+use Rattle.c_typing.specs.TypesByCase.{typed_each}
 use Rattle.c_typing.specs.Unit.{visits_of, plainly, places_of, AreNumbered, IsTyping, IsFirstFault}
+use Rattle.c_typing.proofs.BridgeTables as tables
+use Rattle.c_typing.proofs.BridgeTypes.{each-flat}
 use Rattle.c_typing.proofs.Filled.{filled_all}
 use Rattle.c_typing.proofs.First.{first-fault}
 
@@ -51,3 +56,26 @@ among table x (y ∷ ys) h m = elim m [ inl e ↦ subst (λ (z : Meeting). IsRig
 
 pub right-at : (unit : Nodes) (table : Table) (v : Scopes) (r : Role) (e : Visit) → IsTyping unit table → IsAmong (Out v r e) (places_of unit) → is_kept v r e ≡ true → HasCell table v r e
 right-at unit table v r e t m k = among table (Out v r e) (places_of unit) t.right m k
+
+-- A unit's trees by the visit that is written out for each kind.
+same-visit : (unit : Nodes) → (typed_each at_start Plain unit >>= λ _. Ok Void) ≡ (visited_all plainly at_start (visits_of unit) >>= λ _. Ok Void)
+same-visit unit = each-flat plainly plain at_start unit none (Ok Void) (λ _. Ok Void) (λ _. refl)
+
+same-table : (unit : Nodes) → fill_all plainly at_start (visits_of unit) [] ≡ filled_each at_start Plain unit []
+same-table unit = tables.each-flat plainly plain at_start unit none []
+
+fine-visit : (found : Result CType Fault) (a : Result (List CType) Fault) (t : CType) → (found >>= λ _. Ok Void) ≡ (a >>= λ _. Ok Void) → found ≡ Ok t → (ts : List CType) × (a ≡ Ok ts)
+fine-visit (Ok u) (Ok ts) t h k = (ts, refl)
+fine-visit (Ok u) (Err e) t h k = cc
+fine-visit (Err e) a t h k = cc
+
+faulty-visit : (found : Result CType Fault) (a : Result (List CType) Fault) (fault : Fault) → (found >>= λ _. Ok Void) ≡ (a >>= λ _. Ok Void) → found ≡ Err fault → a ≡ Err fault
+faulty-visit (Ok u) a fault h k = cc
+faulty-visit (Err e) (Ok ts) fault h k = cc
+faulty-visit (Err e) (Err d) fault h k = cc
+
+pub unit-by-case : (unit : Nodes) (found : Result CType Fault) → typed_each at_start Plain unit ≡ found → UnitByCase unit found
+unit-by-case unit (Ok t) h = λ d.
+    let ts = fine-visit (typed_each at_start Plain unit) (visited_all plainly at_start (visits_of unit)) t (same-visit unit) h in
+    subst (λ (x : Table). IsTyping unit x) (same-table unit) (typed unit ts.0 d ts.1)
+unit-by-case unit (Err fault) h = faulty unit fault (faulty-visit (typed_each at_start Plain unit) (visited_all plainly at_start (visits_of unit)) fault (same-visit unit) h)

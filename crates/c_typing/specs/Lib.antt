@@ -18,4 +18,5 @@ pub mod ScopesByCase
 pub mod TypesByCase
 pub mod TablesByCase
 pub mod Unit
+pub mod Functions
 pub mod Theorems

@@ -1,7 +1,7 @@
 // The theorems of typing, each in the contract of a function that does nothing: a call of it hands the fact to a caller's
 // proof.
 
-ghost use Rattle.c_typing.specs.Theorems.{TypedHasNoFault, FaultsAreUnique, TypedOrAtFault, CellsAreRight, ByCase};
+ghost use Rattle.c_typing.specs.Theorems.{TypedHasNoFault, FaultsAreUnique, TypedOrAtFault, CellsAreRight, ByCase, UnitsByCase, UnitsByCase};
 
 /// A unit that is typed has no fault.
 pub fn typed_has_no_fault()
@@ -28,4 +28,10 @@ pub fn cells_are_right()
 /// table.
 pub fn by_case()
     ensures { ByCase }
+{}
+
+/// The visit of a unit's trees one after the other, as it is written out for each kind: the table that it fills types the unit,
+/// or its fault is the first.
+pub fn units_by_case()
+    ensures { UnitsByCase }
 {}
