@@ -65,65 +65,106 @@ mutual
   typed_primary-flat v r i p (Constant token) = refl
   typed_primary-flat v r i p (StrConst literals) = refl
   typed_primary-flat v r i p (Paren inner) =
-      next (given v r) plain v inner none (λ ts. primary_row v r p (Paren inner) (ts)) (λ w1 t1. Ok t1) (typed-flat v Plain inner) (λ w1 t1. refl)
+      next (given v r) plain v inner none (λ ts. primary_row v r p (Paren inner) (ts)) (λ w1 t1. Ok t1) (typed-flat v Plain inner)
+      (λ w1 t1. refl)
   typed_primary-flat v r i p (VaArg list of) =
-      next (given v r) plain v list (part plain (flat of) none) (λ ts. primary_row v r p (VaArg list of) (ts)) (λ w1 _. typed w1 Plain of >>= λ t2. Ok t2) (typed-flat v Plain list) (λ w1 _. next (given v r) plain w1 of none (λ ts. primary_row v r p (VaArg list of) (Void ∷ ts)) (λ w2 t2. Ok t2) (typed-flat w1 Plain of) (λ w2 t2. refl))
+      next (given v r) plain v list (part plain (flat of) none) (λ ts. primary_row v r p (VaArg list of) (ts)) (λ w1 _. typed w1 Plain of >>= λ t2. Ok t2) (typed-flat v Plain list)
+      (λ w1 _. next (given v r) plain w1 of none (λ ts. primary_row v r p (VaArg list of) (Void ∷ ts)) (λ w2 t2. Ok t2) (typed-flat w1 Plain of)
+      (λ w2 t2. refl))
   typed_primary-flat v r i p (Offsetof of member path) =
-      next (given v r) plain v of (each plain path none) (λ _. Ok size) (λ w1 _. typed_each w1 Plain path >>= λ _. Ok size) (typed-flat v Plain of) (λ w1 _. each-flat (given v r) plain w1 path none (Ok size) (λ w2. Ok size) (λ w2. refl))
+      next (given v r) plain v of (each plain path none) (λ _. Ok size) (λ w1 _. typed_each w1 Plain path >>= λ _. Ok size) (typed-flat v Plain of)
+      (λ w1 _. each-flat (given v r) plain w1 path none (Ok size) (λ w2. Ok size)
+      (λ w2. refl))
   typed_primary-flat v r i p (Hole number) = refl
 
   typed_operation-flat : (v : Scopes) (r : Role) (i : ℕ) (p : Place) (k : OperationShape) → typed_operation v r p k ≡ visited v r (visit i p (Operation k) (operation_parts k))
   typed_operation-flat v r i p (Index array index) =
-      next (given v r) plain v array (part plain (flat index) none) (λ ts. operation_row v (behind_parts v r (Operation (Index array index)) (operation_parts (Index array index))) p (Index array index) (ts)) (λ w1 t1. typed w1 Plain index >>= λ t2. or_fault (indexed t1 t2) (NotPointer p)) (typed-flat v Plain array) (λ w1 t1. next (given v r) plain w1 index none (λ ts. operation_row v (behind_parts v r (Operation (Index array index)) (operation_parts (Index array index))) p (Index array index) (t1 ∷ ts)) (λ w2 t2. or_fault (indexed t1 t2) (NotPointer p)) (typed-flat w1 Plain index) (λ w2 t2. refl))
+      next (given v r) plain v array (part plain (flat index) none) (λ ts. operation_row v (behind_parts v r (Operation (Index array index)) (operation_parts (Index array index))) p (Index array index) (ts)) (λ w1 t1. typed w1 Plain index >>= λ t2. or_fault (indexed t1 t2) (NotPointer p)) (typed-flat v Plain array)
+      (λ w1 t1. next (given v r) plain w1 index none (λ ts. operation_row v (behind_parts v r (Operation (Index array index)) (operation_parts (Index array index))) p (Index array index) (t1 ∷ ts)) (λ w2 t2. or_fault (indexed t1 t2) (NotPointer p)) (typed-flat w1 Plain index)
+      (λ w2 t2. refl))
   typed_operation-flat v r i p (Call function paren arguments) =
-      next (given v r) callee v function (each plain arguments none) (λ ts. operation_row v (behind_parts v r (Operation (Call function paren arguments)) (operation_parts (Call function paren arguments))) p (Call function paren arguments) (ts)) (λ w1 t1. typed_each w1 Plain arguments >>= λ _. or_fault (called t1) (NotFunction p)) (typed-flat v Callee function) (λ w1 t1. each-flat (given v r) plain w1 arguments none (or_fault (called t1) (NotFunction p)) (λ w2. or_fault (called t1) (NotFunction p)) (λ w2. refl))
+      next (given v r) callee v function (each plain arguments none) (λ ts. operation_row v (behind_parts v r (Operation (Call function paren arguments)) (operation_parts (Call function paren arguments))) p (Call function paren arguments) (ts)) (λ w1 t1. typed_each w1 Plain arguments >>= λ _. or_fault (called t1) (NotFunction p)) (typed-flat v Callee function)
+      (λ w1 t1. each-flat (given v r) plain w1 arguments none (or_fault (called t1) (NotFunction p)) (λ w2. or_fault (called t1) (NotFunction p))
+      (λ w2. refl))
   typed_operation-flat v r i p (Member operand name) =
       ap (λ w. typed v Plain operand >>= λ t1. member w p name t1) (sym (within-flat v r (Operation (Member operand name))))
-      ∙ next (given v r) plain v operand none (λ ts. operation_row v (behind_parts v r (Operation (Member operand name)) (operation_parts (Member operand name))) p (Member operand name) (ts)) (λ w1 t1. member (behind_parts v r (Operation (Member operand name)) (operation_parts (Member operand name))) p name t1) (typed-flat v Plain operand) (λ w1 t1. refl)
+      ∙ next (given v r) plain v operand none (λ ts. operation_row v (behind_parts v r (Operation (Member operand name)) (operation_parts (Member operand name))) p (Member operand name) (ts)) (λ w1 t1. member (behind_parts v r (Operation (Member operand name)) (operation_parts (Member operand name))) p name t1) (typed-flat v Plain operand)
+      (λ w1 t1. refl)
   typed_operation-flat v r i p (Arrow operand name) =
       ap (λ w. typed v Plain operand >>= λ t1. or_fault (element t1) (NotPointer p) >>= λ t. member w p name t) (sym (within-flat v r (Operation (Arrow operand name))))
-      ∙ next (given v r) plain v operand none (λ ts. operation_row v (behind_parts v r (Operation (Arrow operand name)) (operation_parts (Arrow operand name))) p (Arrow operand name) (ts)) (λ w1 t1. or_fault (element t1) (NotPointer p) >>= λ t. member (behind_parts v r (Operation (Arrow operand name)) (operation_parts (Arrow operand name))) p name t) (typed-flat v Plain operand) (λ w1 t1. refl)
+      ∙ next (given v r) plain v operand none (λ ts. operation_row v (behind_parts v r (Operation (Arrow operand name)) (operation_parts (Arrow operand name))) p (Arrow operand name) (ts)) (λ w1 t1. or_fault (element t1) (NotPointer p) >>= λ t. member (behind_parts v r (Operation (Arrow operand name)) (operation_parts (Arrow operand name))) p name t) (typed-flat v Plain operand)
+      (λ w1 t1. refl)
   typed_operation-flat v r i p (CompoundLit of braces) =
-      next (given v r) plain v of (part plain (flat braces) none) (λ ts. operation_row v (behind_parts v r (Operation (CompoundLit of braces)) (operation_parts (CompoundLit of braces))) p (CompoundLit of braces) (ts)) (λ w1 t1. typed w1 Plain braces >>= λ _. Ok t1) (typed-flat v Plain of) (λ w1 t1. next (given v r) plain w1 braces none (λ ts. operation_row v (behind_parts v r (Operation (CompoundLit of braces)) (operation_parts (CompoundLit of braces))) p (CompoundLit of braces) (t1 ∷ ts)) (λ w2 _. Ok t1) (typed-flat w1 Plain braces) (λ w2 _. refl))
+      next (given v r) plain v of (part plain (flat braces) none) (λ ts. operation_row v (behind_parts v r (Operation (CompoundLit of braces)) (operation_parts (CompoundLit of braces))) p (CompoundLit of braces) (ts)) (λ w1 t1. typed w1 Plain braces >>= λ _. Ok t1) (typed-flat v Plain of)
+      (λ w1 t1. next (given v r) plain w1 braces none (λ ts. operation_row v (behind_parts v r (Operation (CompoundLit of braces)) (operation_parts (CompoundLit of braces))) p (CompoundLit of braces) (t1 ∷ ts)) (λ w2 _. Ok t1) (typed-flat w1 Plain braces)
+      (λ w2 _. refl))
   typed_operation-flat v r i p (Unary op operand) =
-      next (given v r) plain v operand none (λ ts. operation_row v (behind_parts v r (Operation (Unary op operand)) (operation_parts (Unary op operand))) p (Unary op operand) (ts)) (λ w1 t1. unary_row v p op operand t1) (typed-flat v Plain operand) (λ w1 t1. refl)
+      next (given v r) plain v operand none (λ ts. operation_row v (behind_parts v r (Operation (Unary op operand)) (operation_parts (Unary op operand))) p (Unary op operand) (ts)) (λ w1 t1. unary_row v p op operand t1) (typed-flat v Plain operand)
+      (λ w1 t1. refl)
   typed_operation-flat v r i p (SizeofType of) =
-      next (given v r) plain v of none (λ _. Ok size) (λ w1 _. Ok size) (typed-flat v Plain of) (λ w1 _. refl)
+      next (given v r) plain v of none (λ _. Ok size) (λ w1 _. Ok size) (typed-flat v Plain of)
+      (λ w1 _. refl)
   typed_operation-flat v r i p (Cast to operand) =
-      next (given v r) plain v to (part plain (flat operand) none) (λ ts. operation_row v (behind_parts v r (Operation (Cast to operand)) (operation_parts (Cast to operand))) p (Cast to operand) (ts)) (λ w1 t1. typed w1 Plain operand >>= λ _. Ok t1) (typed-flat v Plain to) (λ w1 t1. next (given v r) plain w1 operand none (λ ts. operation_row v (behind_parts v r (Operation (Cast to operand)) (operation_parts (Cast to operand))) p (Cast to operand) (t1 ∷ ts)) (λ w2 _. Ok t1) (typed-flat w1 Plain operand) (λ w2 _. refl))
+      next (given v r) plain v to (part plain (flat operand) none) (λ ts. operation_row v (behind_parts v r (Operation (Cast to operand)) (operation_parts (Cast to operand))) p (Cast to operand) (ts)) (λ w1 t1. typed w1 Plain operand >>= λ _. Ok t1) (typed-flat v Plain to)
+      (λ w1 t1. next (given v r) plain w1 operand none (λ ts. operation_row v (behind_parts v r (Operation (Cast to operand)) (operation_parts (Cast to operand))) p (Cast to operand) (t1 ∷ ts)) (λ w2 _. Ok t1) (typed-flat w1 Plain operand)
+      (λ w2 _. refl))
   typed_operation-flat v r i p (Binary op left right) =
-      next (given v r) plain v left (part plain (flat right) none) (λ ts. operation_row v (behind_parts v r (Operation (Binary op left right)) (operation_parts (Binary op left right))) p (Binary op left right) (ts)) (λ w1 t1. typed w1 Plain right >>= λ t2. Ok (combined op t1 t2)) (typed-flat v Plain left) (λ w1 t1. next (given v r) plain w1 right none (λ ts. operation_row v (behind_parts v r (Operation (Binary op left right)) (operation_parts (Binary op left right))) p (Binary op left right) (t1 ∷ ts)) (λ w2 t2. Ok (combined op t1 t2)) (typed-flat w1 Plain right) (λ w2 t2. refl))
+      next (given v r) plain v left (part plain (flat right) none) (λ ts. operation_row v (behind_parts v r (Operation (Binary op left right)) (operation_parts (Binary op left right))) p (Binary op left right) (ts)) (λ w1 t1. typed w1 Plain right >>= λ t2. Ok (combined op t1 t2)) (typed-flat v Plain left)
+      (λ w1 t1. next (given v r) plain w1 right none (λ ts. operation_row v (behind_parts v r (Operation (Binary op left right)) (operation_parts (Binary op left right))) p (Binary op left right) (t1 ∷ ts)) (λ w2 t2. Ok (combined op t1 t2)) (typed-flat w1 Plain right)
+      (λ w2 t2. refl))
   typed_operation-flat v r i p (Cond condition then otherwise) =
-      next (given v r) plain v condition (part plain (flat then) (part plain (flat otherwise) none)) (λ ts. operation_row v (behind_parts v r (Operation (Cond condition then otherwise)) (operation_parts (Cond condition then otherwise))) p (Cond condition then otherwise) (ts)) (λ w1 _. typed w1 Plain then >>= λ t2. typed (scoped w1 Plain then) Plain otherwise >>= λ t3. Ok (chosen t2 t3)) (typed-flat v Plain condition) (λ w1 _. next (given v r) plain w1 then (part plain (flat otherwise) none) (λ ts. operation_row v (behind_parts v r (Operation (Cond condition then otherwise)) (operation_parts (Cond condition then otherwise))) p (Cond condition then otherwise) (Void ∷ ts)) (λ w2 t2. typed w2 Plain otherwise >>= λ t3. Ok (chosen t2 t3)) (typed-flat w1 Plain then) (λ w2 t2. next (given v r) plain w2 otherwise none (λ ts. operation_row v (behind_parts v r (Operation (Cond condition then otherwise)) (operation_parts (Cond condition then otherwise))) p (Cond condition then otherwise) (Void ∷ t2 ∷ ts)) (λ w3 t3. Ok (chosen t2 t3)) (typed-flat w2 Plain otherwise) (λ w3 t3. refl)))
+      next (given v r) plain v condition (part plain (flat then) (part plain (flat otherwise) none)) (λ ts. operation_row v (behind_parts v r (Operation (Cond condition then otherwise)) (operation_parts (Cond condition then otherwise))) p (Cond condition then otherwise) (ts)) (λ w1 _. typed w1 Plain then >>= λ t2. typed (scoped w1 Plain then) Plain otherwise >>= λ t3. Ok (chosen t2 t3)) (typed-flat v Plain condition)
+      (λ w1 _. next (given v r) plain w1 then (part plain (flat otherwise) none) (λ ts. operation_row v (behind_parts v r (Operation (Cond condition then otherwise)) (operation_parts (Cond condition then otherwise))) p (Cond condition then otherwise) (Void ∷ ts)) (λ w2 t2. typed w2 Plain otherwise >>= λ t3. Ok (chosen t2 t3)) (typed-flat w1 Plain then)
+      (λ w2 t2. next (given v r) plain w2 otherwise none (λ ts. operation_row v (behind_parts v r (Operation (Cond condition then otherwise)) (operation_parts (Cond condition then otherwise))) p (Cond condition then otherwise) (Void ∷ t2 ∷ ts)) (λ w3 t3. Ok (chosen t2 t3)) (typed-flat w2 Plain otherwise)
+      (λ w3 t3. refl)))
   typed_operation-flat v r i p (Assign op left right) =
-      next (given v r) plain v left (part plain (flat right) none) (λ ts. operation_row v (behind_parts v r (Operation (Assign op left right)) (operation_parts (Assign op left right))) p (Assign op left right) (ts)) (λ w1 t1. typed w1 Plain right >>= λ _. if_lvalue v p left t1) (typed-flat v Plain left) (λ w1 t1. next (given v r) plain w1 right none (λ ts. operation_row v (behind_parts v r (Operation (Assign op left right)) (operation_parts (Assign op left right))) p (Assign op left right) (t1 ∷ ts)) (λ w2 _. if_lvalue v p left t1) (typed-flat w1 Plain right) (λ w2 _. refl))
+      next (given v r) plain v left (part plain (flat right) none) (λ ts. operation_row v (behind_parts v r (Operation (Assign op left right)) (operation_parts (Assign op left right))) p (Assign op left right) (ts)) (λ w1 t1. typed w1 Plain right >>= λ _. if_lvalue v p left t1) (typed-flat v Plain left)
+      (λ w1 t1. next (given v r) plain w1 right none (λ ts. operation_row v (behind_parts v r (Operation (Assign op left right)) (operation_parts (Assign op left right))) p (Assign op left right) (t1 ∷ ts)) (λ w2 _. if_lvalue v p left t1) (typed-flat w1 Plain right)
+      (λ w2 _. refl))
 
   typed_initializer-flat : (v : Scopes) (r : Role) (i : ℕ) (p : Place) (k : InitializerShape) → typed_initializer v r p k ≡ visited v r (visit i p (Initializer k) (initializer_parts k))
   typed_initializer-flat v r i p (Init name declarator initial) =
-      next (given v r) same v declarator (part plain (flat name) (part plain (flat initial) none)) (λ ts. initializer_row (Init name declarator initial) (ts)) (λ w1 _. typed w1 Plain name >>= λ t2. typed (scoped w1 Plain name) Plain initial >>= λ _. Ok t2) (typed-flat v r declarator) (λ w1 _. next (given v r) plain w1 name (part plain (flat initial) none) (λ ts. initializer_row (Init name declarator initial) (Void ∷ ts)) (λ w2 t2. typed w2 Plain initial >>= λ _. Ok t2) (typed-flat w1 Plain name) (λ w2 t2. next (given v r) plain w2 initial none (λ ts. initializer_row (Init name declarator initial) (Void ∷ t2 ∷ ts)) (λ w3 _. Ok t2) (typed-flat w2 Plain initial) (λ w3 _. refl)))
+      next (given v r) same v declarator (part plain (flat name) (part plain (flat initial) none)) (λ ts. initializer_row (Init name declarator initial) (ts)) (λ w1 _. typed w1 Plain name >>= λ t2. typed (scoped w1 Plain name) Plain initial >>= λ _. Ok t2) (typed-flat v r declarator)
+      (λ w1 _. next (given v r) plain w1 name (part plain (flat initial) none) (λ ts. initializer_row (Init name declarator initial) (Void ∷ ts)) (λ w2 t2. typed w2 Plain initial >>= λ _. Ok t2) (typed-flat w1 Plain name)
+      (λ w2 t2. next (given v r) plain w2 initial none (λ ts. initializer_row (Init name declarator initial) (Void ∷ t2 ∷ ts)) (λ w3 _. Ok t2) (typed-flat w2 Plain initial)
+      (λ w3 _. refl)))
   typed_initializer-flat v r i p (Braces elements comma) =
-      each-flat (given v r) plain v elements none (Ok Void) (λ w1. Ok Void) (λ w1. refl)
+      each-flat (given v r) plain v elements none (Ok Void) (λ w1. Ok Void)
+      (λ w1. refl)
   typed_initializer-flat v r i p (Designated designators initial) =
-      each-flat (given v r) plain v designators (part plain (flat initial) none) (Ok Void) (λ w1. typed w1 Plain initial >>= λ _. Ok Void) (λ w1. next (given v r) plain w1 initial none (λ _. Ok Void) (λ w2 _. Ok Void) (typed-flat w1 Plain initial) (λ w2 _. refl))
+      each-flat (given v r) plain v designators (part plain (flat initial) none) (Ok Void) (λ w1. typed w1 Plain initial >>= λ _. Ok Void)
+      (λ w1. next (given v r) plain w1 initial none (λ _. Ok Void) (λ w2 _. Ok Void) (typed-flat w1 Plain initial)
+      (λ w2 _. refl))
 
   typed_specifier-flat : (v : Scopes) (r : Role) (i : ℕ) (p : Place) (k : SpecifierShape) → typed_specifier v r p k ≡ visited v r (visit i p (Specifier k) (specifier_parts k))
   typed_specifier-flat v r i p (TypeName specs declarator) =
-      next (given v r) plain v specs (maybe plain declarator none) (λ _. Ok (around_maybe declarator (specified_type v specs))) (λ w1 _. typed_maybe w1 Plain declarator >>= λ _. Ok (around_maybe declarator (specified_type v specs))) (typed-flat v Plain specs) (λ w1 _. maybe-flat (given v r) plain w1 declarator none (Ok (around_maybe declarator (specified_type v specs))) (λ w2. Ok (around_maybe declarator (specified_type v specs))) (λ w2. refl))
+      next (given v r) plain v specs (maybe plain declarator none) (λ _. Ok (around_maybe declarator (specified_type v specs))) (λ w1 _. typed_maybe w1 Plain declarator >>= λ _. Ok (around_maybe declarator (specified_type v specs))) (typed-flat v Plain specs)
+      (λ w1 _. maybe-flat (given v r) plain w1 declarator none (Ok (around_maybe declarator (specified_type v specs))) (λ w2. Ok (around_maybe declarator (specified_type v specs)))
+      (λ w2. refl))
   typed_specifier-flat v r i p (Specs items) =
-      each-flat (given v r) (item_of items) v items none (Ok Void) (λ w1. Ok Void) (λ w1. refl)
+      each-flat (given v r) (item_of items) v items none (Ok Void) (λ w1. Ok Void)
+      (λ w1. refl)
   typed_specifier-flat v r i p (StructTag which tag) = refl
   typed_specifier-flat v r i p (StructBody which tag members) =
-      ap (unless_fault (body_fault v (sort_of which) tag)) (each-flat (given v r) (inside which tag) (body_opened v (sort_of which) tag) members none (Ok Void) (λ w1. Ok Void) (λ w1. refl))
+      ap (unless_fault (body_fault v (sort_of which) tag)) (each-flat (given v r) (inside which tag) (body_opened v (sort_of which) tag) members none (Ok Void) (λ w1. Ok Void)
+      (λ w1. refl))
   typed_specifier-flat v r i p (EnumTag tag) = refl
   typed_specifier-flat v r i p (EnumBody tag enumerators comma) =
-      ap (unless_fault (body_fault v Enums tag)) (each-flat (given v r) plain (body_opened v Enums tag) enumerators none (Ok Void) (λ w1. Ok Void) (λ w1. refl))
+      ap (unless_fault (body_fault v Enums tag)) (each-flat (given v r) plain (body_opened v Enums tag) enumerators none (Ok Void) (λ w1. Ok Void)
+      (λ w1. refl))
   typed_specifier-flat v r i p (StructDeclaration specs declarators) =
       ap (λ w. typed v Plain specs >>= λ _. typed_each (scoped v Plain specs) (roles.Member (owner_of r) (specified_type v specs)) declarators >>= λ _. members_row v w r specs declarators) (sym (within-flat v r (Specifier (StructDeclaration specs declarators))))
-      ∙ next (given v r) plain v specs (each (member_by specs) declarators none) (λ _. members_row v (behind_parts v r (Specifier (StructDeclaration specs declarators)) (specifier_parts (StructDeclaration specs declarators))) r specs declarators) (λ w1 _. typed_each w1 (roles.Member (owner_of r) (specified_type v specs)) declarators >>= λ _. members_row v (behind_parts v r (Specifier (StructDeclaration specs declarators)) (specifier_parts (StructDeclaration specs declarators))) r specs declarators) (typed-flat v Plain specs) (λ w1 _. each-flat (given v r) (member_by specs) w1 declarators none (members_row v (behind_parts v r (Specifier (StructDeclaration specs declarators)) (specifier_parts (StructDeclaration specs declarators))) r specs declarators) (λ w2. members_row v (behind_parts v r (Specifier (StructDeclaration specs declarators)) (specifier_parts (StructDeclaration specs declarators))) r specs declarators) (λ w2. refl))
+      ∙ next (given v r) plain v specs (each (member_by specs) declarators none) (λ _. members_row v (behind_parts v r (Specifier (StructDeclaration specs declarators)) (specifier_parts (StructDeclaration specs declarators))) r specs declarators) (λ w1 _. typed_each w1 (roles.Member (owner_of r) (specified_type v specs)) declarators >>= λ _. members_row v (behind_parts v r (Specifier (StructDeclaration specs declarators)) (specifier_parts (StructDeclaration specs declarators))) r specs declarators) (typed-flat v Plain specs)
+      (λ w1 _. each-flat (given v r) (member_by specs) w1 declarators none (members_row v (behind_parts v r (Specifier (StructDeclaration specs declarators)) (specifier_parts (StructDeclaration specs declarators))) r specs declarators) (λ w2. members_row v (behind_parts v r (Specifier (StructDeclaration specs declarators)) (specifier_parts (StructDeclaration specs declarators))) r specs declarators)
+      (λ w2. refl))
   typed_specifier-flat v r i p (BitField declarator width) =
-      maybe-flat (given v r) same v declarator (part plain (flat width) none) (Ok Void) (λ w1. typed w1 Plain width >>= λ _. Ok Void) (λ w1. next (given v r) plain w1 width none (λ _. Ok Void) (λ w2 _. Ok Void) (typed-flat w1 Plain width) (λ w2 _. refl))
+      maybe-flat (given v r) same v declarator (part plain (flat width) none) (Ok Void) (λ w1. typed w1 Plain width >>= λ _. Ok Void)
+      (λ w1. next (given v r) plain w1 width none (λ _. Ok Void) (λ w2 _. Ok Void) (typed-flat w1 Plain width)
+      (λ w2 _. refl))
   typed_specifier-flat v r i p (Param specs declarator) =
-      next (given v r) plain v specs (maybe (formal_by specs) declarator none) (λ _. Ok Void) (λ w1 _. typed_maybe w1 (Formal (specified_type v specs)) declarator >>= λ _. Ok Void) (typed-flat v Plain specs) (λ w1 _. maybe-flat (given v r) (formal_by specs) w1 declarator none (Ok Void) (λ w2. Ok Void) (λ w2. refl))
+      next (given v r) plain v specs (maybe (formal_by specs) declarator none) (λ _. Ok Void) (λ w1 _. typed_maybe w1 (Formal (specified_type v specs)) declarator >>= λ _. Ok Void) (typed-flat v Plain specs)
+      (λ w1 _. maybe-flat (given v r) (formal_by specs) w1 declarator none (Ok Void) (λ w2. Ok Void)
+      (λ w2. refl))
 
   typed_declarator-flat : (v : Scopes) (r : Role) (i : ℕ) (p : Place) (k : DeclaratorShape) → typed_declarator v r p k ≡ visited v r (visit i p (Declarator k) (declarator_parts k))
   typed_declarator-flat v r i p (Named pointers name suffixes) =
@@ -131,64 +172,99 @@ mutual
       ∙ beside-flat (given v r) beside_name v suffixes (declarator_row (behind_parts v r (Declarator (Named pointers name suffixes)) (declarator_parts (Named pointers name suffixes))) r p (Named pointers name suffixes)) refl
   typed_declarator-flat v r i p (Nested pointers inner suffixes) =
       ap (λ w. typed v (cond (is_bare inner) Plain (inner_role r)) inner >>= λ _. typed_beside (scoped v (cond (is_bare inner) Plain (inner_role r)) inner) (cond (is_bare inner) (inner_role r) Plain) suffixes >>= λ _. declarator_row w r p (Nested pointers inner suffixes)) (sym (within-flat v r (Declarator (Nested pointers inner suffixes))))
-      ∙ next (given v r) (toward inner) v inner (first_in (beside inner) suffixes) (λ _. declarator_row (behind_parts v r (Declarator (Nested pointers inner suffixes)) (declarator_parts (Nested pointers inner suffixes))) r p (Nested pointers inner suffixes)) (λ w1 _. typed_beside w1 (cond (is_bare inner) (inner_role r) Plain) suffixes >>= λ _. declarator_row (behind_parts v r (Declarator (Nested pointers inner suffixes)) (declarator_parts (Nested pointers inner suffixes))) r p (Nested pointers inner suffixes)) (typed-flat v (cond (is_bare inner) Plain (inner_role r)) inner) (λ w1 _. beside-flat (given v r) (beside inner) w1 suffixes (declarator_row (behind_parts v r (Declarator (Nested pointers inner suffixes)) (declarator_parts (Nested pointers inner suffixes))) r p (Nested pointers inner suffixes)) refl)
+      ∙ next (given v r) (toward inner) v inner (first_in (beside inner) suffixes) (λ _. declarator_row (behind_parts v r (Declarator (Nested pointers inner suffixes)) (declarator_parts (Nested pointers inner suffixes))) r p (Nested pointers inner suffixes)) (λ w1 _. typed_beside w1 (cond (is_bare inner) (inner_role r) Plain) suffixes >>= λ _. declarator_row (behind_parts v r (Declarator (Nested pointers inner suffixes)) (declarator_parts (Nested pointers inner suffixes))) r p (Nested pointers inner suffixes)) (typed-flat v (cond (is_bare inner) Plain (inner_role r)) inner)
+      (λ w1 _. beside-flat (given v r) (beside inner) w1 suffixes (declarator_row (behind_parts v r (Declarator (Nested pointers inner suffixes)) (declarator_parts (Nested pointers inner suffixes))) r p (Nested pointers inner suffixes)) refl)
   typed_declarator-flat v r i p (Unnamed pointers suffixes) =
       ap (λ w. typed_each v Plain suffixes >>= λ _. declarator_row w r p (Unnamed pointers suffixes)) (sym (within-flat v r (Declarator (Unnamed pointers suffixes))))
-      ∙ each-flat (given v r) plain v suffixes none (declarator_row (behind_parts v r (Declarator (Unnamed pointers suffixes)) (declarator_parts (Unnamed pointers suffixes))) r p (Unnamed pointers suffixes)) (λ w1. declarator_row (behind_parts v r (Declarator (Unnamed pointers suffixes)) (declarator_parts (Unnamed pointers suffixes))) r p (Unnamed pointers suffixes)) (λ w1. refl)
+      ∙ each-flat (given v r) plain v suffixes none (declarator_row (behind_parts v r (Declarator (Unnamed pointers suffixes)) (declarator_parts (Unnamed pointers suffixes))) r p (Unnamed pointers suffixes)) (λ w1. declarator_row (behind_parts v r (Declarator (Unnamed pointers suffixes)) (declarator_parts (Unnamed pointers suffixes))) r p (Unnamed pointers suffixes))
+      (λ w1. refl)
 
   typed_part-flat : (v : Scopes) (r : Role) (i : ℕ) (p : Place) (k : PartShape) → typed_part v r p k ≡ visited v r (visit i p (Part k) (part_parts k))
   typed_part-flat v r i p (SpecWord word) = refl
   typed_part-flat v r i p (ArrayBound words bound) =
-      maybe-flat (given v r) plain v bound none (Ok Void) (λ w1. Ok Void) (λ w1. refl)
+      maybe-flat (given v r) plain v bound none (Ok Void) (λ w1. Ok Void)
+      (λ w1. refl)
   typed_part-flat v r i p VoidParams = refl
   typed_part-flat v r i p (Params params variadic) =
-      each-flat (given v r) plain (deeper v) params none (Ok Void) (λ w1. Ok Void) (λ w1. refl)
+      each-flat (given v r) plain (deeper v) params none (Ok Void) (λ w1. Ok Void)
+      (λ w1. refl)
   typed_part-flat v r i p (Enumerator name value) =
       ap (λ w. typed_maybe v Plain value >>= λ _. name_row w name.place (enumerator w name)) (sym (within-flat v r (Part (Enumerator name value))))
-      ∙ maybe-flat (given v r) plain v value none (name_row (behind_parts v r (Part (Enumerator name value)) (part_parts (Enumerator name value))) name.place (enumerator (behind_parts v r (Part (Enumerator name value)) (part_parts (Enumerator name value))) name)) (λ w1. name_row (behind_parts v r (Part (Enumerator name value)) (part_parts (Enumerator name value))) name.place (enumerator (behind_parts v r (Part (Enumerator name value)) (part_parts (Enumerator name value))) name)) (λ w1. refl)
+      ∙ maybe-flat (given v r) plain v value none (name_row (behind_parts v r (Part (Enumerator name value)) (part_parts (Enumerator name value))) name.place (enumerator (behind_parts v r (Part (Enumerator name value)) (part_parts (Enumerator name value))) name)) (λ w1. name_row (behind_parts v r (Part (Enumerator name value)) (part_parts (Enumerator name value))) name.place (enumerator (behind_parts v r (Part (Enumerator name value)) (part_parts (Enumerator name value))) name))
+      (λ w1. refl)
   typed_part-flat v r i p (MemberDesignator member) = refl
   typed_part-flat v r i p (IndexDesignator index) =
-      next (given v r) plain v index none (λ _. Ok Void) (λ w1 _. Ok Void) (typed-flat v Plain index) (λ w1 _. refl)
+      next (given v r) plain v index none (λ _. Ok Void) (λ w1 _. Ok Void) (typed-flat v Plain index)
+      (λ w1 _. refl)
 
   typed_outer-flat : (v : Scopes) (r : Role) (i : ℕ) (p : Place) (k : OuterShape) → typed_outer v r p k ≡ visited v r (visit i p (Outer k) (outer_parts k))
   typed_outer-flat v r i p (Declaration specs declarators) =
-      next (given v r) (specs_of declarators) v specs (each (declared_by specs) declarators none) (λ _. Ok Void) (λ w1 _. typed_each w1 (Declares (storage_of specs) (specified_type v specs)) declarators >>= λ _. Ok Void) (typed-flat v (specs_role declarators) specs) (λ w1 _. each-flat (given v r) (declared_by specs) w1 declarators none (Ok Void) (λ w2. Ok Void) (λ w2. refl))
+      next (given v r) (specs_of declarators) v specs (each (declared_by specs) declarators none) (λ _. Ok Void) (λ w1 _. typed_each w1 (Declares (storage_of specs) (specified_type v specs)) declarators >>= λ _. Ok Void) (typed-flat v (specs_role declarators) specs)
+      (λ w1 _. each-flat (given v r) (declared_by specs) w1 declarators none (Ok Void) (λ w2. Ok Void)
+      (λ w2. refl))
   typed_outer-flat v r i p (Function specs declarator block) =
-      next (given v r) plain v specs (part (defined_by specs) (flat declarator) (part body (flat block) none)) (λ _. Ok Void) (λ w1 _. typed w1 (Defines (storage_of specs) (specified_type v specs)) declarator >>= λ _. typed (scoped w1 (Defines (storage_of specs) (specified_type v specs)) declarator) Body block >>= λ _. Ok Void) (typed-flat v Plain specs) (λ w1 _. next (given v r) (defined_by specs) w1 declarator (part body (flat block) none) (λ _. Ok Void) (λ w2 _. typed w2 Body block >>= λ _. Ok Void) (typed-flat w1 (Defines (storage_of specs) (specified_type v specs)) declarator) (λ w2 _. next (given v r) body w2 block none (λ _. Ok Void) (λ w3 _. Ok Void) (typed-flat w2 Body block) (λ w3 _. refl)))
+      next (given v r) plain v specs (part (defined_by specs) (flat declarator) (part body (flat block) none)) (λ _. Ok Void) (λ w1 _. typed w1 (Defines (storage_of specs) (specified_type v specs)) declarator >>= λ _. typed (scoped w1 (Defines (storage_of specs) (specified_type v specs)) declarator) Body block >>= λ _. Ok Void) (typed-flat v Plain specs)
+      (λ w1 _. next (given v r) (defined_by specs) w1 declarator (part body (flat block) none) (λ _. Ok Void) (λ w2 _. typed w2 Body block >>= λ _. Ok Void) (typed-flat w1 (Defines (storage_of specs) (specified_type v specs)) declarator)
+      (λ w2 _. next (given v r) body w2 block none (λ _. Ok Void) (λ w3 _. Ok Void) (typed-flat w2 Body block)
+      (λ w3 _. refl)))
   typed_outer-flat v r i p Empty = refl
 
   typed_statement-flat : (v : Scopes) (r : Role) (i : ℕ) (p : Place) (k : StatementShape) → typed_statement v r p k ≡ visited v r (visit i p (Statement k) (statement_parts k))
   typed_statement-flat v r i p (Block items) =
-      each-flat (given v r) plain (opened_block v r) items none (Ok Void) (λ w1. Ok Void) (λ w1. refl)
+      each-flat (given v r) plain (opened_block v r) items none (Ok Void) (λ w1. Ok Void)
+      (λ w1. refl)
   typed_statement-flat v r i p (ExprStmt value) =
-      maybe-flat (given v r) plain v value none (Ok Void) (λ w1. Ok Void) (λ w1. refl)
+      maybe-flat (given v r) plain v value none (Ok Void) (λ w1. Ok Void)
+      (λ w1. refl)
   typed_statement-flat v r i p (If condition then otherwise) =
-      next (given v r) plain v condition (part plain (flat then) (maybe plain otherwise none)) (λ _. Ok Void) (λ w1 _. typed w1 Plain then >>= λ _. typed_maybe (scoped w1 Plain then) Plain otherwise >>= λ _. Ok Void) (typed-flat v Plain condition) (λ w1 _. next (given v r) plain w1 then (maybe plain otherwise none) (λ _. Ok Void) (λ w2 _. typed_maybe w2 Plain otherwise >>= λ _. Ok Void) (typed-flat w1 Plain then) (λ w2 _. maybe-flat (given v r) plain w2 otherwise none (Ok Void) (λ w3. Ok Void) (λ w3. refl)))
+      next (given v r) plain v condition (part plain (flat then) (maybe plain otherwise none)) (λ _. Ok Void) (λ w1 _. typed w1 Plain then >>= λ _. typed_maybe (scoped w1 Plain then) Plain otherwise >>= λ _. Ok Void) (typed-flat v Plain condition)
+      (λ w1 _. next (given v r) plain w1 then (maybe plain otherwise none) (λ _. Ok Void) (λ w2 _. typed_maybe w2 Plain otherwise >>= λ _. Ok Void) (typed-flat w1 Plain then)
+      (λ w2 _. maybe-flat (given v r) plain w2 otherwise none (Ok Void) (λ w3. Ok Void)
+      (λ w3. refl)))
   typed_statement-flat v r i p (Switch value inner) =
-      next (given v r) plain v value (part plain (flat inner) none) (λ _. Ok Void) (λ w1 _. typed w1 Plain inner >>= λ _. Ok Void) (typed-flat v Plain value) (λ w1 _. next (given v r) plain w1 inner none (λ _. Ok Void) (λ w2 _. Ok Void) (typed-flat w1 Plain inner) (λ w2 _. refl))
+      next (given v r) plain v value (part plain (flat inner) none) (λ _. Ok Void) (λ w1 _. typed w1 Plain inner >>= λ _. Ok Void) (typed-flat v Plain value)
+      (λ w1 _. next (given v r) plain w1 inner none (λ _. Ok Void) (λ w2 _. Ok Void) (typed-flat w1 Plain inner)
+      (λ w2 _. refl))
   typed_statement-flat v r i p (Case value inner) =
-      next (given v r) plain v value (part plain (flat inner) none) (λ _. Ok Void) (λ w1 _. typed w1 Plain inner >>= λ _. Ok Void) (typed-flat v Plain value) (λ w1 _. next (given v r) plain w1 inner none (λ _. Ok Void) (λ w2 _. Ok Void) (typed-flat w1 Plain inner) (λ w2 _. refl))
+      next (given v r) plain v value (part plain (flat inner) none) (λ _. Ok Void) (λ w1 _. typed w1 Plain inner >>= λ _. Ok Void) (typed-flat v Plain value)
+      (λ w1 _. next (given v r) plain w1 inner none (λ _. Ok Void) (λ w2 _. Ok Void) (typed-flat w1 Plain inner)
+      (λ w2 _. refl))
   typed_statement-flat v r i p (Default inner) =
-      next (given v r) plain v inner none (λ _. Ok Void) (λ w1 _. Ok Void) (typed-flat v Plain inner) (λ w1 _. refl)
+      next (given v r) plain v inner none (λ _. Ok Void) (λ w1 _. Ok Void) (typed-flat v Plain inner)
+      (λ w1 _. refl)
   typed_statement-flat v r i p (Label label inner) =
-      next (given v r) plain v inner none (λ _. Ok Void) (λ w1 _. Ok Void) (typed-flat v Plain inner) (λ w1 _. refl)
+      next (given v r) plain v inner none (λ _. Ok Void) (λ w1 _. Ok Void) (typed-flat v Plain inner)
+      (λ w1 _. refl)
 
   typed_iteration-flat : (v : Scopes) (r : Role) (i : ℕ) (p : Place) (k : IterationShape) → typed_iteration v r p k ≡ visited v r (visit i p (Iteration k) (iteration_parts k))
   typed_iteration-flat v r i p (While condition inner) =
-      next (given v r) plain v condition (part plain (flat inner) none) (λ _. Ok Void) (λ w1 _. typed w1 Plain inner >>= λ _. Ok Void) (typed-flat v Plain condition) (λ w1 _. next (given v r) plain w1 inner none (λ _. Ok Void) (λ w2 _. Ok Void) (typed-flat w1 Plain inner) (λ w2 _. refl))
+      next (given v r) plain v condition (part plain (flat inner) none) (λ _. Ok Void) (λ w1 _. typed w1 Plain inner >>= λ _. Ok Void) (typed-flat v Plain condition)
+      (λ w1 _. next (given v r) plain w1 inner none (λ _. Ok Void) (λ w2 _. Ok Void) (typed-flat w1 Plain inner)
+      (λ w2 _. refl))
   typed_iteration-flat v r i p (Do inner condition) =
-      next (given v r) plain v inner (part plain (flat condition) none) (λ _. Ok Void) (λ w1 _. typed w1 Plain condition >>= λ _. Ok Void) (typed-flat v Plain inner) (λ w1 _. next (given v r) plain w1 condition none (λ _. Ok Void) (λ w2 _. Ok Void) (typed-flat w1 Plain condition) (λ w2 _. refl))
+      next (given v r) plain v inner (part plain (flat condition) none) (λ _. Ok Void) (λ w1 _. typed w1 Plain condition >>= λ _. Ok Void) (typed-flat v Plain inner)
+      (λ w1 _. next (given v r) plain w1 condition none (λ _. Ok Void) (λ w2 _. Ok Void) (typed-flat w1 Plain condition)
+      (λ w2 _. refl))
   typed_iteration-flat v r i p (For first condition step inner) =
-      maybe-flat (given v r) plain v first (maybe plain condition (maybe plain step (part plain (flat inner) none))) (Ok Void) (λ w1. typed_maybe w1 Plain condition >>= λ _. typed_maybe (scoped_maybe w1 Plain condition) Plain step >>= λ _. typed (scoped_maybe (scoped_maybe w1 Plain condition) Plain step) Plain inner >>= λ _. Ok Void) (λ w1. maybe-flat (given v r) plain w1 condition (maybe plain step (part plain (flat inner) none)) (Ok Void) (λ w2. typed_maybe w2 Plain step >>= λ _. typed (scoped_maybe w2 Plain step) Plain inner >>= λ _. Ok Void) (λ w2. maybe-flat (given v r) plain w2 step (part plain (flat inner) none) (Ok Void) (λ w3. typed w3 Plain inner >>= λ _. Ok Void) (λ w3. next (given v r) plain w3 inner none (λ _. Ok Void) (λ w4 _. Ok Void) (typed-flat w3 Plain inner) (λ w4 _. refl))))
+      maybe-flat (given v r) plain v first (maybe plain condition (maybe plain step (part plain (flat inner) none))) (Ok Void) (λ w1. typed_maybe w1 Plain condition >>= λ _. typed_maybe (scoped_maybe w1 Plain condition) Plain step >>= λ _. typed (scoped_maybe (scoped_maybe w1 Plain condition) Plain step) Plain inner >>= λ _. Ok Void)
+      (λ w1. maybe-flat (given v r) plain w1 condition (maybe plain step (part plain (flat inner) none)) (Ok Void) (λ w2. typed_maybe w2 Plain step >>= λ _. typed (scoped_maybe w2 Plain step) Plain inner >>= λ _. Ok Void)
+      (λ w2. maybe-flat (given v r) plain w2 step (part plain (flat inner) none) (Ok Void) (λ w3. typed w3 Plain inner >>= λ _. Ok Void)
+      (λ w3. next (given v r) plain w3 inner none (λ _. Ok Void) (λ w4 _. Ok Void) (typed-flat w3 Plain inner)
+      (λ w4 _. refl))))
   typed_iteration-flat v r i p (ForDeclaration declaration condition step inner) =
-      next (given v r) plain (deeper v) declaration (maybe plain condition (maybe plain step (part plain (flat inner) none))) (λ _. Ok Void) (λ w1 _. typed_maybe w1 Plain condition >>= λ _. typed_maybe (scoped_maybe w1 Plain condition) Plain step >>= λ _. typed (scoped_maybe (scoped_maybe w1 Plain condition) Plain step) Plain inner >>= λ _. Ok Void) (typed-flat (deeper v) Plain declaration) (λ w1 _. maybe-flat (given v r) plain w1 condition (maybe plain step (part plain (flat inner) none)) (Ok Void) (λ w2. typed_maybe w2 Plain step >>= λ _. typed (scoped_maybe w2 Plain step) Plain inner >>= λ _. Ok Void) (λ w2. maybe-flat (given v r) plain w2 step (part plain (flat inner) none) (Ok Void) (λ w3. typed w3 Plain inner >>= λ _. Ok Void) (λ w3. next (given v r) plain w3 inner none (λ _. Ok Void) (λ w4 _. Ok Void) (typed-flat w3 Plain inner) (λ w4 _. refl))))
+      next (given v r) plain (deeper v) declaration (maybe plain condition (maybe plain step (part plain (flat inner) none))) (λ _. Ok Void) (λ w1 _. typed_maybe w1 Plain condition >>= λ _. typed_maybe (scoped_maybe w1 Plain condition) Plain step >>= λ _. typed (scoped_maybe (scoped_maybe w1 Plain condition) Plain step) Plain inner >>= λ _. Ok Void) (typed-flat (deeper v) Plain declaration)
+      (λ w1 _. maybe-flat (given v r) plain w1 condition (maybe plain step (part plain (flat inner) none)) (Ok Void) (λ w2. typed_maybe w2 Plain step >>= λ _. typed (scoped_maybe w2 Plain step) Plain inner >>= λ _. Ok Void)
+      (λ w2. maybe-flat (given v r) plain w2 step (part plain (flat inner) none) (Ok Void) (λ w3. typed w3 Plain inner >>= λ _. Ok Void)
+      (λ w3. next (given v r) plain w3 inner none (λ _. Ok Void) (λ w4 _. Ok Void) (typed-flat w3 Plain inner)
+      (λ w4 _. refl))))
 
   typed_jump-flat : (v : Scopes) (r : Role) (i : ℕ) (p : Place) (k : JumpShape) → typed_jump v r p k ≡ visited v r (visit i p (Jump k) (jump_parts k))
   typed_jump-flat v r i p (Goto label) = refl
   typed_jump-flat v r i p Continue = refl
   typed_jump-flat v r i p Break = refl
   typed_jump-flat v r i p (Return value) =
-      maybe-flat (given v r) plain v value none (Ok Void) (λ w1. Ok Void) (λ w1. refl)
+      maybe-flat (given v r) plain v value none (Ok Void) (λ w1. Ok Void)
+      (λ w1. refl)
 
   maybe-flat : (roles : Slot → Role) (slot : Slot) (v : Scopes) (m : MaybeNode) (rest : Parts) (k : Result CType Fault) (f : Scopes → Result CType Fault)
       → ((w : Scopes) → f w ≡ (visited_all roles w rest >>= λ _. k))

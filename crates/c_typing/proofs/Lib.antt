@@ -6,4 +6,5 @@ pub mod ExpressionExamples
 pub mod DeclarationExamples
 pub mod Filled
 pub mod First
+pub mod UnitExamples
 pub mod Units

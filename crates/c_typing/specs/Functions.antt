@@ -1,14 +1,13 @@
 -- The definitions of functions in a unit (ISO 9899:1990, 6.7.1), and the tags of its structures and unions.
-use Rattle.std.specs.Prelude.{ℕ, List, [], ◌∷◌, get_or, Option, None, Some, Bool, true, false, cond, ◌&&◌, ◌||◌, nat_eq}
+use Rattle.std.specs.Prelude.{ℕ, List, [], ◌∷◌, get_or, Option, None, Bool, true, false, cond, ◌&&◌, ◌||◌, nat_eq}
 use Rattle.std.specs.Option.{option_map}
 use Rattle.c_grammar.specs.Specifiers.{is_inline}
-use Rattle.c_tree.specs.declared.keyword.Keyword.{Keyword}
 use Rattle.c_tree.specs.declared.place.Place.{Place}
 use Rattle.c_tree.specs.declared.token.Token.{Token}
-use Rattle.c_tree.specs.Node.{Node, node, Shape, Specifier, Declarator, Part, Outer, DeclaratorShape, PartShape, OuterShape, Specs, Param, Named, Nested, Unnamed, VoidParams, Params, Function, MaybeNode, absent, present, Nodes, no_more, more}
-use Rattle.c_typing.specs.Declarators.{name_of, is_bare, static_of}
+use Rattle.c_tree.specs.Node.{Node, node, Specifier, Declarator, Part, Outer, DeclaratorShape, Specs, Param, Named, Nested, Unnamed, Params, Function, MaybeNode, absent, present, Nodes, no_more, more}
+use Rattle.c_typing.specs.Declarators.{name_of, is_bare}
 use Rattle.c_typing.specs.Definition.{after, after_all}
-use Rattle.c_typing.specs.Options.{if_there, ◌>?◌}
+use Rattle.c_typing.specs.Options.{if_there}
 use Rattle.c_typing.specs.Parts.{flat}
 use Rattle.c_typing.specs.Roles.{Plain}
 use Rattle.c_typing.specs.Scopes.{Scopes, Entry, at_start}
@@ -90,7 +89,7 @@ defined v specs declarator block name = record {
   file = name.place.file;
   formals = formals_of declarator;
   body = block;
-  place = name.place
+  place = name.place;
 }
 
 abbrev pub defined_in : Scopes → Node → Option Defined

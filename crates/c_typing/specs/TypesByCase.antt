@@ -42,57 +42,109 @@ abbrev mutual
   typed_primary v r p (Hole number) = Ok Void
 
   pub typed_operation : Scopes → Role → Place → OperationShape → Result CType Fault
-  typed_operation v r p (Index array index) = typed v Plain array >>= λ t1. typed (scoped v Plain array) Plain index >>= λ t2. or_fault (indexed t1 t2) (NotPointer p)
-  typed_operation v r p (Call function paren arguments) = typed v Callee function >>= λ t1. typed_each (scoped v Callee function) Plain arguments >>= λ _. or_fault (called t1) (NotFunction p)
+  typed_operation v r p (Index array index) =
+      typed v Plain array >>= λ t1.
+      typed (scoped v Plain array) Plain index >>= λ t2.
+      or_fault (indexed t1 t2) (NotPointer p)
+  typed_operation v r p (Call function paren arguments) =
+      typed v Callee function >>= λ t1.
+      typed_each (scoped v Callee function) Plain arguments >>= λ _.
+      or_fault (called t1) (NotFunction p)
   typed_operation v r p (Member operand name) = typed v Plain operand >>= λ t1. member (scoped v Plain operand) p name t1
-  typed_operation v r p (Arrow operand name) = typed v Plain operand >>= λ t1. or_fault (element t1) (NotPointer p) >>= λ t. member (scoped v Plain operand) p name t
+  typed_operation v r p (Arrow operand name) =
+      typed v Plain operand >>= λ t1.
+      or_fault (element t1) (NotPointer p) >>= λ t.
+      member (scoped v Plain operand) p name t
   typed_operation v r p (CompoundLit of braces) = typed v Plain of >>= λ t1. typed (scoped v Plain of) Plain braces >>= λ _. Ok t1
   typed_operation v r p (Unary op operand) = typed v Plain operand >>= λ t1. unary_row v p op operand t1
   typed_operation v r p (SizeofType of) = typed v Plain of >>= λ _. Ok size
   typed_operation v r p (Cast to operand) = typed v Plain to >>= λ t1. typed (scoped v Plain to) Plain operand >>= λ _. Ok t1
   typed_operation v r p (Binary op left right) = typed v Plain left >>= λ t1. typed (scoped v Plain left) Plain right >>= λ t2. Ok (combined op t1 t2)
-  typed_operation v r p (Cond condition then otherwise) = typed v Plain condition >>= λ _. typed (scoped v Plain condition) Plain then >>= λ t2. typed (scoped (scoped v Plain condition) Plain then) Plain otherwise >>= λ t3. Ok (chosen t2 t3)
+  typed_operation v r p (Cond condition then otherwise) =
+      typed v Plain condition >>= λ _.
+      typed (scoped v Plain condition) Plain then >>= λ t2.
+      typed (scoped (scoped v Plain condition) Plain then) Plain otherwise >>= λ t3.
+      Ok (chosen t2 t3)
   typed_operation v r p (Assign op left right) = typed v Plain left >>= λ t1. typed (scoped v Plain left) Plain right >>= λ _. if_lvalue v p left t1
 
   pub typed_initializer : Scopes → Role → Place → InitializerShape → Result CType Fault
-  typed_initializer v r p (Init name declarator initial) = typed v r declarator >>= λ _. typed (scoped v r declarator) Plain name >>= λ t2. typed (scoped (scoped v r declarator) Plain name) Plain initial >>= λ _. Ok t2
+  typed_initializer v r p (Init name declarator initial) =
+      typed v r declarator >>= λ _.
+      typed (scoped v r declarator) Plain name >>= λ t2.
+      typed (scoped (scoped v r declarator) Plain name) Plain initial >>= λ _.
+      Ok t2
   typed_initializer v r p (Braces elements comma) = typed_each v Plain elements >>= λ _. Ok Void
-  typed_initializer v r p (Designated designators initial) = typed_each v Plain designators >>= λ _. typed (scoped_each v Plain designators) Plain initial >>= λ _. Ok Void
+  typed_initializer v r p (Designated designators initial) =
+      typed_each v Plain designators >>= λ _.
+      typed (scoped_each v Plain designators) Plain initial >>= λ _.
+      Ok Void
 
   pub typed_specifier : Scopes → Role → Place → SpecifierShape → Result CType Fault
-  typed_specifier v r p (TypeName specs declarator) = typed v Plain specs >>= λ _. typed_maybe (scoped v Plain specs) Plain declarator >>= λ _. Ok (around_maybe declarator (specified_type v specs))
+  typed_specifier v r p (TypeName specs declarator) =
+      typed v Plain specs >>= λ _.
+      typed_maybe (scoped v Plain specs) Plain declarator >>= λ _.
+      Ok (around_maybe declarator (specified_type v specs))
   typed_specifier v r p (Specs items) = typed_each v (item_role r items) items >>= λ _. Ok Void
   typed_specifier v r p (StructTag which tag) = fine_unless (tag_fault v (mention r) (sort_of which) tag)
   typed_specifier v r p (StructBody which tag members) = unless_fault (body_fault v (sort_of which) tag) (typed_each (body_opened v (sort_of which) tag) (Inside (body_number v (sort_of which) tag)) members >>= λ _. Ok Void)
   typed_specifier v r p (EnumTag tag) = fine_unless (tag_fault v (mention r) Enums tag)
   typed_specifier v r p (EnumBody tag enumerators comma) = unless_fault (body_fault v Enums tag) (typed_each (body_opened v Enums tag) Plain enumerators >>= λ _. Ok Void)
-  typed_specifier v r p (StructDeclaration specs declarators) = typed v Plain specs >>= λ _. typed_each (scoped v Plain specs) (roles.Member (owner_of r) (specified_type v specs)) declarators >>= λ _. members_row v (scoped_each (scoped v Plain specs) (roles.Member (owner_of r) (specified_type v specs)) declarators) r specs declarators
-  typed_specifier v r p (BitField declarator width) = typed_maybe v r declarator >>= λ _. typed (scoped_maybe v r declarator) Plain width >>= λ _. Ok Void
-  typed_specifier v r p (Param specs declarator) = typed v Plain specs >>= λ _. typed_maybe (scoped v Plain specs) (Formal (specified_type v specs)) declarator >>= λ _. Ok Void
+  typed_specifier v r p (StructDeclaration specs declarators) =
+      typed v Plain specs >>= λ _.
+      typed_each (scoped v Plain specs) (roles.Member (owner_of r) (specified_type v specs)) declarators >>= λ _.
+      members_row v (scoped_each (scoped v Plain specs) (roles.Member (owner_of r) (specified_type v specs)) declarators) r specs declarators
+  typed_specifier v r p (BitField declarator width) =
+      typed_maybe v r declarator >>= λ _.
+      typed (scoped_maybe v r declarator) Plain width >>= λ _.
+      Ok Void
+  typed_specifier v r p (Param specs declarator) =
+      typed v Plain specs >>= λ _.
+      typed_maybe (scoped v Plain specs) (Formal (specified_type v specs)) declarator >>= λ _.
+      Ok Void
 
   pub typed_declarator : Scopes → Role → Place → DeclaratorShape → Result CType Fault
-  typed_declarator v r p (Named pointers name suffixes) = typed_beside v (inner_role r) suffixes >>= λ _. declarator_row (scoped_beside v (inner_role r) suffixes) r p (Named pointers name suffixes)
-  typed_declarator v r p (Nested pointers inner suffixes) = typed v (cond (is_bare inner) Plain (inner_role r)) inner >>= λ _. typed_beside (scoped v (cond (is_bare inner) Plain (inner_role r)) inner) (cond (is_bare inner) (inner_role r) Plain) suffixes >>= λ _. declarator_row (scoped_beside (scoped v (cond (is_bare inner) Plain (inner_role r)) inner) (cond (is_bare inner) (inner_role r) Plain) suffixes) r p (Nested pointers inner suffixes)
-  typed_declarator v r p (Unnamed pointers suffixes) = typed_each v Plain suffixes >>= λ _. declarator_row (scoped_each v Plain suffixes) r p (Unnamed pointers suffixes)
+  typed_declarator v r p (Named pointers name suffixes) =
+      typed_beside v (inner_role r) suffixes >>= λ _.
+      declarator_row (scoped_beside v (inner_role r) suffixes) r p (Named pointers name suffixes)
+  typed_declarator v r p (Nested pointers inner suffixes) =
+      typed v (cond (is_bare inner) Plain (inner_role r)) inner >>= λ _.
+      typed_beside (scoped v (cond (is_bare inner) Plain (inner_role r)) inner) (cond (is_bare inner) (inner_role r) Plain) suffixes >>= λ _.
+      declarator_row (scoped_beside (scoped v (cond (is_bare inner) Plain (inner_role r)) inner) (cond (is_bare inner) (inner_role r) Plain) suffixes) r p (Nested pointers inner suffixes)
+  typed_declarator v r p (Unnamed pointers suffixes) =
+      typed_each v Plain suffixes >>= λ _.
+      declarator_row (scoped_each v Plain suffixes) r p (Unnamed pointers suffixes)
 
   pub typed_part : Scopes → Role → Place → PartShape → Result CType Fault
   typed_part v r p (SpecWord word) = Ok Void
   typed_part v r p (ArrayBound words bound) = typed_maybe v Plain bound >>= λ _. Ok Void
   typed_part v r p VoidParams = Ok Void
   typed_part v r p (Params params variadic) = typed_each (deeper v) Plain params >>= λ _. Ok Void
-  typed_part v r p (Enumerator name value) = typed_maybe v Plain value >>= λ _. name_row (scoped_maybe v Plain value) name.place (enumerator (scoped_maybe v Plain value) name)
+  typed_part v r p (Enumerator name value) =
+      typed_maybe v Plain value >>= λ _.
+      name_row (scoped_maybe v Plain value) name.place (enumerator (scoped_maybe v Plain value) name)
   typed_part v r p (MemberDesignator member) = Ok Void
   typed_part v r p (IndexDesignator index) = typed v Plain index >>= λ _. Ok Void
 
   pub typed_outer : Scopes → Role → Place → OuterShape → Result CType Fault
-  typed_outer v r p (Declaration specs declarators) = typed v (specs_role declarators) specs >>= λ _. typed_each (scoped v (specs_role declarators) specs) (Declares (storage_of specs) (specified_type v specs)) declarators >>= λ _. Ok Void
-  typed_outer v r p (Function specs declarator block) = typed v Plain specs >>= λ _. typed (scoped v Plain specs) (Defines (storage_of specs) (specified_type v specs)) declarator >>= λ _. typed (scoped (scoped v Plain specs) (Defines (storage_of specs) (specified_type v specs)) declarator) Body block >>= λ _. Ok Void
+  typed_outer v r p (Declaration specs declarators) =
+      typed v (specs_role declarators) specs >>= λ _.
+      typed_each (scoped v (specs_role declarators) specs) (Declares (storage_of specs) (specified_type v specs)) declarators >>= λ _.
+      Ok Void
+  typed_outer v r p (Function specs declarator block) =
+      typed v Plain specs >>= λ _.
+      typed (scoped v Plain specs) (Defines (storage_of specs) (specified_type v specs)) declarator >>= λ _.
+      typed (scoped (scoped v Plain specs) (Defines (storage_of specs) (specified_type v specs)) declarator) Body block >>= λ _.
+      Ok Void
   typed_outer v r p Empty = Ok Void
 
   pub typed_statement : Scopes → Role → Place → StatementShape → Result CType Fault
   typed_statement v r p (Block items) = typed_each (opened_block v r) Plain items >>= λ _. Ok Void
   typed_statement v r p (ExprStmt value) = typed_maybe v Plain value >>= λ _. Ok Void
-  typed_statement v r p (If condition then otherwise) = typed v Plain condition >>= λ _. typed (scoped v Plain condition) Plain then >>= λ _. typed_maybe (scoped (scoped v Plain condition) Plain then) Plain otherwise >>= λ _. Ok Void
+  typed_statement v r p (If condition then otherwise) =
+      typed v Plain condition >>= λ _.
+      typed (scoped v Plain condition) Plain then >>= λ _.
+      typed_maybe (scoped (scoped v Plain condition) Plain then) Plain otherwise >>= λ _.
+      Ok Void
   typed_statement v r p (Switch value inner) = typed v Plain value >>= λ _. typed (scoped v Plain value) Plain inner >>= λ _. Ok Void
   typed_statement v r p (Case value inner) = typed v Plain value >>= λ _. typed (scoped v Plain value) Plain inner >>= λ _. Ok Void
   typed_statement v r p (Default inner) = typed v Plain inner >>= λ _. Ok Void
@@ -101,8 +153,18 @@ abbrev mutual
   pub typed_iteration : Scopes → Role → Place → IterationShape → Result CType Fault
   typed_iteration v r p (While condition inner) = typed v Plain condition >>= λ _. typed (scoped v Plain condition) Plain inner >>= λ _. Ok Void
   typed_iteration v r p (Do inner condition) = typed v Plain inner >>= λ _. typed (scoped v Plain inner) Plain condition >>= λ _. Ok Void
-  typed_iteration v r p (For first condition step inner) = typed_maybe v Plain first >>= λ _. typed_maybe (scoped_maybe v Plain first) Plain condition >>= λ _. typed_maybe (scoped_maybe (scoped_maybe v Plain first) Plain condition) Plain step >>= λ _. typed (scoped_maybe (scoped_maybe (scoped_maybe v Plain first) Plain condition) Plain step) Plain inner >>= λ _. Ok Void
-  typed_iteration v r p (ForDeclaration declaration condition step inner) = typed (deeper v) Plain declaration >>= λ _. typed_maybe (scoped (deeper v) Plain declaration) Plain condition >>= λ _. typed_maybe (scoped_maybe (scoped (deeper v) Plain declaration) Plain condition) Plain step >>= λ _. typed (scoped_maybe (scoped_maybe (scoped (deeper v) Plain declaration) Plain condition) Plain step) Plain inner >>= λ _. Ok Void
+  typed_iteration v r p (For first condition step inner) =
+      typed_maybe v Plain first >>= λ _.
+      typed_maybe (scoped_maybe v Plain first) Plain condition >>= λ _.
+      typed_maybe (scoped_maybe (scoped_maybe v Plain first) Plain condition) Plain step >>= λ _.
+      typed (scoped_maybe (scoped_maybe (scoped_maybe v Plain first) Plain condition) Plain step) Plain inner >>= λ _.
+      Ok Void
+  typed_iteration v r p (ForDeclaration declaration condition step inner) =
+      typed (deeper v) Plain declaration >>= λ _.
+      typed_maybe (scoped (deeper v) Plain declaration) Plain condition >>= λ _.
+      typed_maybe (scoped_maybe (scoped (deeper v) Plain declaration) Plain condition) Plain step >>= λ _.
+      typed (scoped_maybe (scoped_maybe (scoped (deeper v) Plain declaration) Plain condition) Plain step) Plain inner >>= λ _.
+      Ok Void
 
   pub typed_jump : Scopes → Role → Place → JumpShape → Result CType Fault
   typed_jump v r p (Goto label) = Ok Void

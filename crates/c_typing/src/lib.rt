@@ -4,4 +4,7 @@
 
 mod theorems;
 
-pub use theorems::{by_case, cells_are_right, faults_are_unique, typed_has_no_fault, typed_or_at_fault, units_by_case};
+pub use theorems::{
+    by_case, cells_are_right, faults_are_unique, typed_has_no_fault, typed_or_at_fault,
+    units_by_case,
+};
