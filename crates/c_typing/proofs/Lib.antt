@@ -1,0 +1,10 @@
+pub mod BridgeScopes
+pub mod BridgeTables
+pub mod BridgeTypes
+pub mod Building
+pub mod ExpressionExamples
+pub mod DeclarationExamples
+pub mod Filled
+pub mod First
+pub mod UnitExamples
+pub mod Units

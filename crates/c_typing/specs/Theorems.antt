@@ -1,0 +1,45 @@
+-- The theorems of this crate as statements, which contracts can name.
+use Rattle.std.specs.Prelude.{◌≡◌, ◌⊎◌, true, [], Result, Ok, Err}
+use Rattle.c_tree.specs.Node.{Node, Nodes}
+use Rattle.c_typing.specs.Definition.{after, Out, Table, IsAmong, is_kept, HasCell}
+use Rattle.c_typing.specs.Faults.{Fault}
+use Rattle.c_typing.specs.Order.{visited, fill}
+use Rattle.c_typing.specs.Parts.{Visit, flat}
+use Rattle.c_typing.specs.Roles.{Role, Plain}
+use Rattle.c_typing.specs.Scopes.{Scopes, at_start}
+use Rattle.c_typing.specs.ScopesByCase.{scoped}
+use Rattle.c_typing.specs.TablesByCase.{filled, filled_each}
+use Rattle.c_typing.specs.Types.{CType}
+use Rattle.c_typing.specs.TypesByCase.{typed, typed_each}
+use Rattle.c_typing.specs.Unit.{places_of, AreNumbered, IsTyping, IsFirstFault}
+
+-- a unit that is typed has no fault
+abbrev pub TypedHasNoFault : Type 0
+TypedHasNoFault = (unit : Nodes) (table : Table) (fault : Fault) → IsTyping unit table → IsFirstFault unit fault → ⊥
+
+-- a unit has at most one first fault
+abbrev pub FaultsAreUnique : Type 0
+FaultsAreUnique = (unit : Nodes) (a b : Fault) → IsFirstFault unit a → IsFirstFault unit b → a ≡ b
+
+-- A unit whose nodes have different numbers is typed by a table, or has a first fault.
+abbrev pub TypedOrAtFault : Type 0
+TypedOrAtFault = (unit : Nodes) → AreNumbered unit → ((table : Table) × IsTyping unit table) ⊎ ((fault : Fault) × IsFirstFault unit fault)
+
+-- What a table that types a unit has at the number of a place's node: its type there, and the variable behind it.
+abbrev pub CellsAreRight : Type 0
+CellsAreRight = (unit : Nodes) (table : Table) (v : Scopes) (r : Role) (e : Visit)
+    → IsTyping unit table → IsAmong (Out v r e) (places_of unit) → is_kept v r e ≡ true → HasCell table v r e
+
+-- What is written out for each kind is what is defined: the scopes behind a node, its type or first fault, and the table.
+abbrev pub ByCase : Type 0
+ByCase = (v : Scopes) (r : Role) (e : Node) (table : Table)
+    → (scoped v r e ≡ after v r (flat e)) × (typed v r e ≡ visited v r (flat e)) × (filled v r e table ≡ fill v r (flat e) table)
+
+-- A unit's trees that are visited one after the other as it is written out for each kind: the table types the unit, or the
+-- fault is the first.
+abbrev pub UnitByCase : Nodes → Result CType Fault → Type 0
+UnitByCase unit (Ok t) = AreNumbered unit → IsTyping unit (filled_each at_start Plain unit [])
+UnitByCase unit (Err fault) = IsFirstFault unit fault
+
+abbrev pub UnitsByCase : Type 0
+UnitsByCase = (unit : Nodes) (found : Result CType Fault) → typed_each at_start Plain unit ≡ found → UnitByCase unit found

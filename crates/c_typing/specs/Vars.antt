@@ -1,0 +1,16 @@
+-- Variables: what a name stands for, if it stands for a variable.
+use Rattle.std.specs.Prelude.{ℕ}
+
+-- A variable by its linkage and storage (ISO 9899:1990, 6.1.2.2, 6.1.2.4). The token is that of the declared name. The first
+-- three have static storage. The last two are what a return and a call leave behind; no name stands for them.
+pub data CVar : Type 0 where
+  -- one over all files, by its name
+  Extern : ℕ → CVar
+  -- one in its file: file, name
+  FileStatic : ℕ → ℕ → CVar
+  -- one a declaration: file, token, name
+  LocalStatic : ℕ → ℕ → ℕ → CVar
+  Param : ℕ → ℕ → ℕ → CVar
+  Local : ℕ → ℕ → ℕ → CVar
+  Result : CVar
+  Called : ℕ → ℕ → ℕ → CVar
