@@ -1,8 +1,8 @@
 -- The table of callouts: which row a written callout is.
-use Rattle.std.specs.Prelude.{ℕ, Bool, true, false, cond, List, [], codes, Option, None, Some}
+use Rattle.std.specs.Prelude.{ℕ, cond, List, [], codes, Option, None, Some}
 use Rattle.c_tree.specs.Symbol.{Symbol, IntLiteral}
-use Rattle.metal_grammar.specs.Words.{Spelling, is_spelled, Literal, contents_of}
-use Rattle.metal_grammar.specs.Written.{Argument, Name, Text, WrittenCallout, Digit, Asked}
+use Rattle.metal_grammar.specs.Words.{Spelling, is_spelled, contents_of}
+use Rattle.metal_grammar.specs.Written.{Name, Text, WrittenCallout, Digit, Asked}
 
 -- the rows that ask of a hole alone
 abbrev pub row_of_hole : Spelling → ℕ → Option ℕ

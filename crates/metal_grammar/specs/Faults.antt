@@ -1,11 +1,11 @@
 -- The faults that a written text may have, each by itself.
 use Rattle.std.specs.Prelude.{ℕ, ◌+◌, Bool, true, false, cond, not, nat_eq, nat_lt, ◌&&◌, ◌||◌, is_some, is_none, List, [], ◌∷◌, ◌++◌, length, flat_map, filter, codes, Option, None, Some}
 use Rattle.metal_grammar.specs.Words.{Spelling, is_spelled, Literal}
-use Rattle.metal_grammar.specs.Written.{Row, lone, row, members, StateName, OfMachine, OfVariable, WrittenCallout, Digit, Asked, WrittenItem, Callout, Destination, To, Split, WrittenAction, Alternative, WrittenRule, Content, Declares, Rules, Clause}
+use Rattle.metal_grammar.specs.Written.{members, StateName, OfMachine, OfVariable, Asked, WrittenItem, Callout, Destination, To, Split, WrittenAction, Alternative, WrittenRule, Content, Declares, Clause}
 use Rattle.metal_grammar.specs.Grammar.{some}
 use Rattle.metal_grammar.specs.Message.{message_with}
 use Rattle.metal_grammar.specs.Callouts.{row_of}
-use Rattle.metal_grammar.specs.Rules.{is_among, behind_clause, Declared, count_of_rules, PlacedRule, targets_of, variable_of, callout_names, pattern_names, action_names_of, all_pattern_names, all_callout_names, variables_of_states, has_end}
+use Rattle.metal_grammar.specs.Rules.{is_among, behind_clause, Declared, PlacedRule, targets_of, variable_of, callout_names, pattern_names, action_names_of, all_pattern_names, all_callout_names, variables_of_states, has_end}
 
 -- so many of a thing are declared by this content: state variables, holes and rules
 abbrev pub count_of_holes : Content → ℕ

@@ -2,14 +2,13 @@
 use Rattle.std.specs.Prelude.{◌≡◌, ◌≤◌, ◌⊎◌, ℕ, ◌+◌, Bool, true, false, not, ◌&&◌, ◌||◌, is_some, List, [], ◌∷◌, ◌++◌, length, codes, Option, None, Some}
 use Rattle.c_tree.specs.declared.keyword.Keyword.{Keyword}
 use Rattle.c_tree.specs.Symbol.{Symbol, IntLiteral}
-use Rattle.c_tree.specs.Syntax.{Syntax}
 use Rattle.c_tree.specs.Height.{height_of}
 use Rattle.c_grammar.specs.Levels.{comma_level}
 use Rattle.c_grammar.specs.Nonterminal.{Expression}
 use Rattle.c_grammar.specs.Grammar.{IsOf}
 use Rattle.c_grammar.specs.Specifiers.{is_type_word, is_basic}
 use Rattle.metal_grammar.specs.Words.{Spelling, is_spelled}
-use Rattle.metal_grammar.specs.Written.{Row, lone, row, members, WrittenType, KindOfHole, BasicType, TagType, Declaration, WrittenCallout, Digit, Asked, WrittenItem, Pattern, Callout, Dollars, Destination, To, Split, WrittenAction, Alternative, WrittenRule, Section, Content, Nothing, Declares, Rules, Clause}
+use Rattle.metal_grammar.specs.Written.{Row, lone, row, WrittenType, BasicType, Declaration, WrittenCallout, Digit, Asked, WrittenItem, Pattern, Callout, Dollars, Destination, To, Split, WrittenAction, Alternative, WrittenRule, Content, Nothing, Declares, Rules, Clause}
 use Rattle.metal_grammar.specs.Phrases.{clause_tokens}
 use Rattle.metal_grammar.specs.Clauses.{clauses_of}
 use Rattle.metal_grammar.specs.Holes.{HoleType, AnyArguments, AnyFnCall, DeclaredHole, hole_type, declared_holes, Operand, are_placed}

@@ -3,7 +3,7 @@ use Rattle.std.specs.Prelude.{â„•, zero, suc, Bool, true, false, cond, nat_eq, â
 use Rattle.c_tree.specs.declared.keyword.Keyword.{Keyword}
 use Rattle.c_tree.specs.declared.operator.StructOrUnion.{StructOrUnion}
 use Rattle.c_tree.specs.Symbol.{Symbol, Word}
-use Rattle.c_tree.specs.Syntax.{Syntax, Primary, Operation, Part, PrimarySyntax, OperationSyntax, PartSyntax, Ident, Paren, VaArg, Offsetof, Index, Call, Member, Arrow, Unary, Cast, Binary, Cond, Assign, IndexDesignator, Syntaxes, no_more, more}
+use Rattle.c_tree.specs.Syntax.{Syntax, Primary, Operation, Part, PrimarySyntax, OperationSyntax, Ident, Paren, VaArg, Offsetof, Index, Call, Member, Arrow, Unary, Cast, Binary, Cond, Assign, IndexDesignator, Syntaxes, no_more, more}
 use Rattle.metal_grammar.specs.Words.{Spelling, is_spelled}
 use Rattle.metal_grammar.specs.Written.{members, WrittenType, KindOfHole, BasicType, TagType, Declaration}
 use Rattle.std.specs.Prelude.{codes, is_some}

@@ -1,5 +1,5 @@
 -- The machine that a written text is. Where the text has a fault it is of no interest.
-use Rattle.std.specs.Prelude.{ℕ, zero, suc, ◌+◌, Bool, true, false, cond, not, nat_eq, ◌&&◌, ◌||◌, List, [], ◌∷◌, ◌++◌, length, map, flat_map, filter, filter_map, codes, Option, None, Some, unwrap_or}
+use Rattle.std.specs.Prelude.{ℕ, ◌+◌, Bool, cond, not, nat_eq, ◌&&◌, ◌||◌, List, [], ◌∷◌, ◌++◌, length, map, flat_map, filter, filter_map, codes, Option, None, Some, unwrap_or}
 use Rattle.metal_grammar.specs.Words.{Spelling, is_spelled}
 use Rattle.metal_grammar.specs.Written.{members, StateName, OfMachine, OfVariable, WrittenCallout, WrittenItem, Pattern, Callout, Dollars, Destination, To, Split, WrittenAction, Clause}
 use Rattle.metal_grammar.specs.Holes.{DeclaredHole}
@@ -7,7 +7,7 @@ use Rattle.metal_grammar.specs.Patterns.{with_holes}
 use Rattle.metal_grammar.specs.Message.{Piece, message_with}
 use Rattle.metal_grammar.specs.Callouts.{row_of, hole_asked, text_asked}
 use Rattle.metal_grammar.specs.Machine.{Hole, Source, FromGlobal, FromObject, Target, ToGlobal, ToObject, ToUnknown, Dest, Always, ByTruth, Condition, Item, Base, Holds, EndOfPath, Rule, Machine}
-use Rattle.metal_grammar.specs.Rules.{is_among, holes_of, PlacedRule, rules_of, targets_of}
+use Rattle.metal_grammar.specs.Rules.{holes_of, PlacedRule, rules_of, targets_of}
 use Rattle.metal_grammar.specs.Faults.{is_stop}
 
 -- each of these once, where it stands first

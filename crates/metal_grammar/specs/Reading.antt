@@ -5,7 +5,7 @@ use Rattle.c_tree.specs.Symbol.{Symbol}
 use Rattle.c_grammar.specs.Symbols.{after_sign}
 use Rattle.c_grammar.specs.Found.{◌>>=◌, if_there}
 use Rattle.metal_grammar.specs.Words.{Spelling}
-use Rattle.metal_grammar.specs.Written.{Clause, Content}
+use Rattle.metal_grammar.specs.Written.{Clause}
 use Rattle.metal_grammar.specs.Clauses.{clauses_of}
 use Rattle.metal_grammar.specs.Grammar.{Before, nothing_before, behind_content, is_head, is_content, is_last}
 use Rattle.metal_grammar.specs.Machine.{Machine}

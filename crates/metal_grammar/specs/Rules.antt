@@ -1,8 +1,8 @@
 -- The declared names and the rules of a text, each with the position of its first symbol, and what a rule names.
-use Rattle.std.specs.Prelude.{ℕ, ◌+◌, Bool, true, false, cond, nat_eq, ◌||◌, List, [], ◌∷◌, ◌++◌, length, flat_map, filter, map, codes, Option, None, Some}
+use Rattle.std.specs.Prelude.{ℕ, ◌+◌, Bool, false, nat_eq, ◌||◌, List, [], ◌∷◌, ◌++◌, length, flat_map, filter, map, Option, None, Some}
 use Rattle.c_tree.specs.Phrase.{Phrase, ◌⨾◌}
-use Rattle.metal_grammar.specs.Words.{Spelling, is_spelled}
-use Rattle.metal_grammar.specs.Written.{Row, lone, row, members, Declaration, StateName, OfMachine, OfVariable, Name, Text, WrittenCallout, Digit, Asked, WrittenItem, Pattern, Callout, Dollars, Destination, To, Split, WrittenAction, Alternative, WrittenRule, Section, Content, Nothing, Declares, Rules, Clause}
+use Rattle.metal_grammar.specs.Words.{Spelling}
+use Rattle.metal_grammar.specs.Written.{Row, lone, row, members, StateName, OfMachine, OfVariable, Name, Asked, WrittenItem, Pattern, Callout, Destination, To, Split, WrittenAction, Alternative, WrittenRule, Content, Declares, Rules, Clause}
 use Rattle.metal_grammar.specs.Phrases.{word, maybe_phrase, type_phrase, state_phrase, rule_phrase, head_phrase, phrase_tokens, clause_tokens}
 use Rattle.metal_grammar.specs.Holes.{DeclaredHole, declared_holes}
 use Rattle.metal_grammar.specs.Patterns.{names_in}

@@ -1,12 +1,12 @@
 -- The steps of the reader: each reads one line of the grammar in front of a list of symbols, and gives what follows it.
-use Rattle.std.specs.Prelude.{ℕ, zero, suc, Bool, true, false, cond, ◌||◌, ◌&&◌, is_some, List, [], ◌∷◌, length, filter_map, codes, Option, None, Some}
+use Rattle.std.specs.Prelude.{ℕ, zero, suc, Bool, true, false, cond, ◌||◌, ◌&&◌, List, [], ◌∷◌, length, filter_map, codes, Option, None, Some}
 use Rattle.c_tree.specs.declared.keyword.Keyword.{Keyword}
 use Rattle.c_tree.specs.declared.keyword.Keyword.TheVariants as words
 use Rattle.c_tree.specs.declared.operator.StructOrUnion.{StructOrUnion}
 use Rattle.c_tree.specs.declared.operator.StructOrUnion.TheVariants as which_word
 use Rattle.c_tree.specs.declared.punctuator.Punctuator.{Punctuator}
 use Rattle.c_tree.specs.declared.punctuator.Punctuator.TheVariants as marks
-use Rattle.c_tree.specs.Symbol.{Symbol, Word, Reserved, Sign, IntLiteral, StringLiteral}
+use Rattle.c_tree.specs.Symbol.{Symbol, Word, Reserved, IntLiteral, StringLiteral}
 use Rattle.c_grammar.specs.Symbols.{is_sign, after_sign, after_keyword, begins, take_symbol, run_of, after_run}
 use Rattle.c_grammar.specs.Levels.{comma_level}
 use Rattle.c_grammar.specs.Specifiers.{is_type_word}

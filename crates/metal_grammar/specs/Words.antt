@@ -1,6 +1,5 @@
 -- The words and strings of a checker. Its words are plain names, told apart by how they are spelled.
 use Rattle.std.specs.Prelude.{ℕ, Bool, cond, List, [], ◌∷◌, drop, bytes_eq}
-use Rattle.c_tree.specs.Symbol.{Symbol, IntLiteral}
 
 -- the bytes of each name
 abbrev pub Spelling : Type 0
