@@ -1,0 +1,45 @@
+-- The table of callouts: which row a written callout is.
+use Rattle.std.specs.Prelude.{ℕ, cond, List, [], codes, Option, None, Some}
+use Rattle.c_tree.specs.Symbol.{Symbol, IntLiteral}
+use Rattle.metal_grammar.specs.Words.{Spelling, is_spelled, contents_of}
+use Rattle.metal_grammar.specs.Written.{Name, Text, WrittenCallout, Digit, Asked}
+
+-- the rows that ask of a hole alone
+abbrev pub row_of_hole : Spelling → ℕ → Option ℕ
+row_of_hole spelling name =
+    cond (is_spelled spelling (codes "mc_is_const") name) (Some 0) (
+    cond (is_spelled spelling (codes "mc_is_global") name) (Some 1) (
+    cond (is_spelled spelling (codes "mc_is_param") name) (Some 2) (
+    cond (is_spelled spelling (codes "mc_is_local") name) (Some 3) None)))
+
+-- the row that asks of a hole and a text
+abbrev pub row_of_both : Spelling → ℕ → Option ℕ
+row_of_both spelling name = cond (is_spelled spelling (codes "mc_name_is") name) (Some 4) None
+
+-- the row that asks of a text alone
+abbrev pub row_of_text : Spelling → ℕ → Option ℕ
+row_of_text spelling name = cond (is_spelled spelling (codes "mc_in_function") name) (Some 5) None
+
+-- `0` never holds, and `1` always does
+abbrev pub row_of_digit : Spelling → Symbol → Option ℕ
+row_of_digit spelling (IntLiteral value name) = cond (is_spelled spelling (codes "0") name) (Some 6) (Some 7)
+row_of_digit spelling _ = None
+
+-- the row of a callout, whose arguments are as many as the row's and of its kinds
+abbrev pub row_of : Spelling → WrittenCallout → Option ℕ
+row_of spelling (Digit digit) = row_of_digit spelling digit
+row_of spelling (Asked name (Name hole) None) = row_of_hole spelling name
+row_of spelling (Asked name (Name hole) (Some text)) = row_of_both spelling name
+row_of spelling (Asked name (Text text) None) = row_of_text spelling name
+row_of spelling (Asked name (Text text) (Some other)) = None
+
+-- the name of the hole that a callout asks of
+abbrev pub hole_asked : WrittenCallout → Option ℕ
+hole_asked (Asked name (Name hole) text) = Some hole
+hole_asked _ = None
+
+-- the text that it asks of
+abbrev pub text_asked : Spelling → WrittenCallout → List ℕ
+text_asked spelling (Asked name (Name hole) (Some text)) = contents_of spelling text
+text_asked spelling (Asked name (Text text) other) = contents_of spelling text
+text_asked spelling _ = []

@@ -1,0 +1,17 @@
+pub mod Words
+pub mod Written
+pub mod Phrases
+pub mod Holes
+pub mod Patterns
+pub mod Clauses
+pub mod Grammar
+pub mod Message
+pub mod Machine
+pub mod Rules
+pub mod Callouts
+pub mod Faults
+pub mod FirstFault
+pub mod Meaning
+pub mod Definition
+pub mod Steps
+pub mod Reading

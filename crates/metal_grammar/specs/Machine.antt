@@ -1,0 +1,55 @@
+-- What a text says: a machine with one global state, and for each of its variables states of the objects that the variable
+-- takes. Holes, states and rules have numbers. The state variables are the first holes.
+use Rattle.std.specs.Prelude.{ℕ, Bool, List, Option}
+use Rattle.c_tree.specs.Syntax.{Syntax}
+use Rattle.metal_grammar.specs.Holes.{HoleType}
+use Rattle.metal_grammar.specs.Message.{Piece}
+
+pub record Hole : Type 0 where
+  pub name : ℕ
+  pub of : HoleType
+
+-- a state by its number: of the whole machine, or of a variable
+pub data Source : Type 0 where
+  FromGlobal : ℕ → Source
+  FromObject : ℕ → ℕ → Source
+
+-- A rule may also make the state of a variable's object unknown.
+pub data Target : Type 0 where
+  ToGlobal : ℕ → Target
+  ToObject : ℕ → ℕ → Target
+  ToUnknown : ℕ → Target
+
+pub data Dest : Type 0 where
+  Always : Target → Dest
+  ByTruth : Target → Target → Dest
+
+-- The rows of callouts are `mc_is_const`, `mc_is_global`, `mc_is_param`, `mc_is_local`, `mc_name_is`, `mc_in_function`, `0` and
+-- `1`, from 0 on. The hole is 0 where the row has none, and the text has no bytes.
+pub record Condition : Type 0 where
+  pub negated : Bool
+  pub row : ℕ
+  pub hole : ℕ
+  pub text : List ℕ
+
+pub data Item : Type 0 where
+  Base : Syntax → Item
+  Holds : Condition → Item
+  EndOfPath : Item
+
+pub record Rule : Type 0 where
+  pub number : ℕ
+  pub source : Source
+  pub alternatives : List (List Item)
+  pub dest : Dest
+  pub action : Option (List Piece)
+
+-- `globals` are the names of the global states from number 2 on, behind `start` and `stop`; `states` has the names of the
+-- states of each variable.
+pub record Machine : Type 0 where
+  pub name : ℕ
+  pub variables : ℕ
+  pub holes : List Hole
+  pub globals : List ℕ
+  pub states : List (List ℕ)
+  pub rules : List Rule
