@@ -1,0 +1,10 @@
+pub mod Events
+pub mod Words
+pub mod Forms
+pub mod Evaluation
+pub mod Facts
+pub mod TreeForms
+pub mod Flow
+pub mod TreeFlow
+pub mod Steps
+pub mod Traces
