@@ -8,3 +8,4 @@ pub mod Flow
 pub mod TreeFlow
 pub mod Steps
 pub mod Traces
+pub mod Listing
