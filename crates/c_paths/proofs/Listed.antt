@@ -21,7 +21,7 @@ among_either a [] ys h = inr h
 among_either a (x ∷ xs) ys (inl h) = inl (inl h)
 among_either a (x ∷ xs) ys (inr h) = elim (among_either a xs ys h) [ inl y ↦ inl (inr y) | inr y ↦ inr y ]
 
-among_before : (a b : List Item) (bs : List (List Item)) → Among b bs → Among (a ++ b) (before_each a bs)
+pub among_before : (a b : List Item) (bs : List (List Item)) → Among b bs → Among (a ++ b) (before_each a bs)
 among_before a b [] h = absurd h
 among_before a b (c ∷ bs) (inl h) = inl (ap (λ x. a ++ x) h)
 among_before a b (c ∷ bs) (inr h) = inr (among_before a b bs h)

@@ -9,3 +9,4 @@ pub mod TreeFlow
 pub mod Steps
 pub mod Traces
 pub mod Listing
+pub mod Theorems

@@ -1,9 +1,12 @@
 -- Lists of all evaluations, of all steps, and of the longest traces of at most so many steps.
 use Rattle.std.specs.Prelude.{◌≡◌, ◌⊎◌, ℕ, zero, suc, Bool, true, false, not, ◌||◌, ◌&&◌, ◌==◌, List, [], ◌∷◌, ◌++◌, Option, None, Some}
-use Rattle.c_paths.specs.Events.{Item, branched}
+use Rattle.c_paths.specs.Events.{Item, branched, exited}
+use Rattle.c_paths.specs.Facts.{Facts}
 use Rattle.c_paths.specs.Forms.{Form, Plain, Inverts, Keeps, Both, Any, Chooses, Follows, Row, done, operand, item}
 use Rattle.c_paths.specs.Flow.{Flow, Does, Block, If, While, Do, For, Switch, Case, Default, Label, Goto, Break, Continue, Return, Flows, no_flows, flows}
 use Rattle.c_paths.specs.Steps.{Task, Run, Test, Turn, Behind, Close, in_order, after_break, after_continue}
+use Rattle.c_paths.specs.TreeFlow.{flow_of}
+use Rattle.c_paths.specs.Traces.{Definition}
 
 -- a is one of the list
 abbrev pub Among : {A : Type 0} → A → List A → Type 0
@@ -182,3 +185,15 @@ holds_of_each f (s ∷ ss) = f s.1 && holds_of_each f ss
 abbrev pub ends_within : (body : Flow) (whole : List Task) → ℕ → List Task → Bool
 ends_within body whole zero k = holds_of_each (λ h. false) (steps body whole k)
 ends_within body whole (suc n) k = holds_of_each (ends_within body whole n) (steps body whole k)
+
+-- what n steps of a function give, or fewer where no more are there
+abbrev pub longest_traces : Facts → Definition → ℕ → List (List Item)
+longest_traces F d n = longest (flow_of F d.place d.body) (Close (exited d.place d.close) ∷ []) n (Run (flow_of F d.place d.body) ∷ Close (exited d.place d.close) ∷ [])
+
+-- no more than n steps of the function can be made
+abbrev pub finishes_within : Facts → Definition → ℕ → Bool
+finishes_within F d n = ends_within (flow_of F d.place d.body) (Close (exited d.place d.close) ∷ []) n (Run (flow_of F d.place d.body) ∷ Close (exited d.place d.close) ∷ [])
+
+-- the list is a beginning of one of these
+abbrev pub Begins : List Item → List (List Item) → Type 0
+Begins l ws = (w rest : List Item) × Among w ws × (w ≡ l ++ rest)
