@@ -1,3 +1,6 @@
 pub mod Listed
 pub mod ListedSteps
 pub mod ListedTraces
+pub mod ExampleTrees
+pub mod ExampleEvaluations
+pub mod Examples
