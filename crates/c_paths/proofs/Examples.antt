@@ -9,40 +9,40 @@ use Rattle.c_paths.specs.Listing.{longest_traces, finishes_within}
 use Rattle.c_paths.proofs.ExampleTrees.{at, word, ident, number, paren, call, unary_at, binary_at, conditional, assigned, arrow, cast_at, block, stmt, nothing, if_then, if_else, switch, case_of, default, label, while, do_while, for_loop, for_declared, goto, break, continue, return, declarator, init, braces, declaration, outside, inside, function, end}
 
 -- the calls `g()` and `h()`, and what they give
-abbrev g : ℕ → Node
+abbrev pub g : ℕ → Node
 g n = call n (ident 3 n) no_more
 
-abbrev h : ℕ → Node
+abbrev pub h : ℕ → Node
 h n = call n (ident 4 n) no_more
 
-abbrev runs_g : ℕ → List Item
+abbrev pub runs_g : ℕ → List Item
 runs_g n = evaluated (ident 3 n) ∷ evaluated (g n) ∷ []
 
-abbrev runs_h : ℕ → List Item
+abbrev pub runs_h : ℕ → List Item
 runs_h n = evaluated (ident 4 n) ∷ evaluated (h n) ∷ []
 
 -- the condition n at this place comes out so
-abbrev goes : ℕ → ℕ → Bool → List Item
+abbrev pub goes : ℕ → ℕ → Bool → List Item
 goes name n truth = evaluated (ident name n) ∷ branched (ident name n) truth ∷ []
 
-abbrev ends : List Item
+abbrev pub ends : List Item
 ends = end ∷ []
 
 abbrev variable : ℕ → ℕ → Variable
 variable name n = record { place = at n; name = name }
 
 -- { if (a && !b) g(); }
-abbrev both : Definition
+abbrev pub both : Definition
 both = function (if_then 2 (binary_at 4 binary.LogAnd (ident 0 4) (unary_at 6 unary.Not (ident 1 7))) (stmt (g 9)) ∷ [])
 
-both_traces : longest_traces outside both 20 ≡
+pub both_traces : longest_traces outside both 20 ≡
     (goes 0 4 true ++ goes 1 7 false ++ runs_g 9 ++ ends)
     ∷ (goes 0 4 false ++ ends)
     ∷ (goes 0 4 true ++ goes 1 7 true ++ ends)
     ∷ []
 both_traces = refl
 
-both_finishes : finishes_within outside both 20 ≡ true
+pub both_finishes : finishes_within outside both 20 ≡ true
 both_finishes = refl
 
 -- { if (a) g(); else h(); }
@@ -59,16 +59,16 @@ otherwise_finishes : finishes_within outside otherwise 20 ≡ true
 otherwise_finishes = refl
 
 -- { switch (n) { case 1: g(); default: h(); } }
-abbrev chosen : Definition
+abbrev pub chosen : Definition
 chosen = function (switch 2 (ident 5 4) (block 6 (case_of 7 (number 1 8) (stmt (g 10)) ∷ default 14 (stmt (h 16)) ∷ [])) ∷ [])
 
-chosen_traces : longest_traces outside chosen 20 ≡
+pub chosen_traces : longest_traces outside chosen 20 ≡
     (evaluated (ident 5 4) ∷ runs_g 10 ++ runs_h 16 ++ ends)
     ∷ (evaluated (ident 5 4) ∷ runs_h 16 ++ ends)
     ∷ []
 chosen_traces = refl
 
-chosen_finishes : finishes_within outside chosen 20 ≡ true
+pub chosen_finishes : finishes_within outside chosen 20 ≡ true
 chosen_finishes = refl
 
 -- { switch (n) { case 1: g(); break; case 2: h(); } }
@@ -86,7 +86,7 @@ passed_by_finishes : finishes_within outside passed_by 20 ≡ true
 passed_by_finishes = refl
 
 -- { while (n) g(); }, up to the second turn
-abbrev repeated : Definition
+abbrev pub repeated : Definition
 repeated = function (while 2 (ident 5 4) (stmt (g 6)) ∷ [])
 
 repeated_traces : longest_traces outside repeated 6 ≡
@@ -107,7 +107,7 @@ at_least_once_traces : longest_traces outside at_least_once 7 ≡
 at_least_once_traces = refl
 
 -- { for (;;) ; }: no exit is reached
-abbrev spinning : Definition
+abbrev pub spinning : Definition
 spinning = function (for_loop 2 absent absent absent (nothing 7) ∷ [])
 
 spinning_traces : longest_traces outside spinning 30 ≡

@@ -4,3 +4,4 @@ pub mod ListedTraces
 pub mod ExampleTrees
 pub mod ExampleEvaluations
 pub mod Examples
+pub mod ExampleTraces
