@@ -1,7 +1,7 @@
 -- Lists that are traces of a function, and lists that are none.
 use Rattle.std.proofs.Common.{◌≡◌, ℕ, zero, suc, true, false, List, [], ◌∷◌, ◌++◌, ◌⊎◌, inl, inr, None, refl, sym, ap, ◌∙◌, subst}
 use Rattle.c_tree.specs.Node.{Node}
-use Rattle.c_paths.specs.Events.{Item, evaluated, branched}
+use Rattle.c_paths.specs.Events.{Item, evaluated, branched, Exited}
 use Rattle.c_paths.specs.Facts.{Facts}
 use Rattle.c_paths.specs.Forms.{done}
 use Rattle.c_paths.specs.Flow.{Flow, Does, Block, For, flows, no_flows}
@@ -9,7 +9,7 @@ use Rattle.c_paths.specs.Steps.{Task, Run, Test, Turn, Close}
 use Rattle.c_paths.specs.Traces.{Runs, Definition, Trace}
 use Rattle.c_paths.specs.Listing.{Begins, longest_traces, finishes_within}
 use Rattle.c_paths.proofs.ListedTraces.{listed_are_traces, finished_lists_are_all}
-use Rattle.c_paths.proofs.ExampleTrees.{ident, outside, end}
+use Rattle.c_paths.proofs.ExampleTrees.{at, ident, outside}
 use Rattle.c_paths.proofs.Examples.{g, h, goes, runs_g, runs_h, ends, both, both_traces, both_finishes, chosen, chosen_traces, chosen_finishes, repeated, spinning}
 
 of_one : (P : Type 0) (l a : List Item) → ((r : List Item) → a ≡ l ++ r → P) → Begins l (a ∷ []) → P
@@ -96,8 +96,8 @@ front_of_nothing (x ∷ l) r e = cc
 no_exit : (l : List Item) → Trace outside spinning l → l ≡ []
 no_exit l (n, rest, r) = front_of_nothing l rest (in_block n (l ++ rest) r)
   where
-    in_block : (n : ℕ) (l : List Item) → Runs (Block (flows loop no_flows)) (Close end ∷ []) n (Run (Block (flows loop no_flows)) ∷ Close end ∷ []) l → l ≡ []
+    in_block : (n : ℕ) (l : List Item) → Runs (Block (flows loop no_flows)) (Close (Exited (at 0) (at 99)) ∷ []) n (Run (Block (flows loop no_flows)) ∷ Close (Exited (at 0) (at 99)) ∷ []) l → l ≡ []
     in_block zero l e = e
     in_block (suc n) l (inl e) = e
     in_block (suc n) l (inr (x, y, h, s, r, e)) =
-        e ∙ ap (λ z. z ++ y) s.0 ∙ nothing_in_loop (Block (flows loop no_flows)) (Close end ∷ []) (Close end ∷ []) n y (subst (λ z. Runs (Block (flows loop no_flows)) (Close end ∷ []) n z y) s.1 r)
+        e ∙ ap (λ z. z ++ y) s.0 ∙ nothing_in_loop (Block (flows loop no_flows)) (Close (Exited (at 0) (at 99)) ∷ []) (Close (Exited (at 0) (at 99)) ∷ []) n y (subst (λ z. Runs (Block (flows loop no_flows)) (Close (Exited (at 0) (at 99)) ∷ []) n z y) s.1 r)

@@ -2,10 +2,11 @@
 use Rattle.std.proofs.Common.{◌≡◌, ℕ, Bool, true, false, not, List, [], ◌∷◌, ◌++◌, ◌⊎◌, inl, inr, Option, None, Some, refl, sym, ap, ◌∙◌, subst}
 use Rattle.std.specs.Prelude.{◌||◌, nat_eq, IsTrue}
 use Rattle.c_paths.specs.Events.{Item, branched}
+use Rattle.c_paths.specs.Membership.{Among}
 use Rattle.c_paths.specs.Words.{Nothing, Only, Then, Either}
 use Rattle.c_paths.specs.Forms.{Form, Plain, Inverts, Keeps, Both, Any, Chooses, Follows, Row, done, operand, item}
 use Rattle.c_paths.specs.Evaluation.{Evaluates, Happens, MaybeCondition}
-use Rattle.c_paths.specs.Listing.{Among, before_each, joined, words_of, words_in, words_of_maybe}
+use Rattle.c_paths.specs.Listing.{before_each, joined, words_of, words_in, words_of_maybe}
 
 pub among_front : {A : Type 0} (a : A) (xs ys : List A) → Among a xs → Among a (xs ++ ys)
 among_front a [] ys h = absurd h

@@ -1,13 +1,14 @@
 -- The lists of the longest traces are right.
 use Rattle.std.proofs.Common.{◌≡◌, ◌↔◌, ℕ, zero, suc, Bool, true, false, List, [], ◌∷◌, ◌++◌, ◌⊎◌, inl, inr, refl, sym, ap, ◌∙◌, subst, append_assoc}
 use Rattle.std.specs.Prelude.{◌&&◌}
-use Rattle.c_paths.specs.Events.{Item, exited}
+use Rattle.c_paths.specs.Membership.{Among}
+use Rattle.c_paths.specs.Events.{Item, Exited}
 use Rattle.c_paths.specs.Facts.{Facts}
 use Rattle.c_paths.specs.Flow.{Flow}
 use Rattle.c_paths.specs.Steps.{Task, Run, Close, Step}
 use Rattle.c_paths.specs.TreeFlow.{flow_of}
 use Rattle.c_paths.specs.Traces.{Runs, TraceFrom, Definition, Trace}
-use Rattle.c_paths.specs.Listing.{Among, before_each, stepped, or_nothing, steps, longest, holds_of_each, ends_within, longest_traces, finishes_within, Begins}
+use Rattle.c_paths.specs.Listing.{before_each, stepped, or_nothing, steps, longest, holds_of_each, ends_within, longest_traces, finishes_within, Begins}
 use Rattle.c_paths.proofs.Listed.{among_front, among_back, among_either, among_before, of_before}
 use Rattle.c_paths.proofs.ListedSteps.{steps_listed}
 
@@ -99,11 +100,11 @@ module _ (body : Flow) (whole : List Task) where
   shorter_begins n k l rest b = (b.0, rest ++ b.1, b.2, b.3 ∙ append_assoc l rest b.1)
 
 pub listed_are_traces : (F : Facts) (d : Definition) (n : ℕ) (l : List Item) → Begins l (longest_traces F d n) → Trace F d l
-listed_are_traces F d n l b = begins_trace (flow_of F d.place d.body) (Close (exited d.place d.close) ∷ []) n (Run (flow_of F d.place d.body) ∷ Close (exited d.place d.close) ∷ []) l b
+listed_are_traces F d n l b = begins_trace (flow_of F d.place d.body) (Close (Exited d.place d.close) ∷ []) n (Run (flow_of F d.place d.body) ∷ Close (Exited d.place d.close) ∷ []) l b
 
 pub finished_lists_are_all : (F : Facts) (d : Definition) (n : ℕ) → finishes_within F d n ≡ true → (l : List Item) → Trace F d l ↔ Begins l (longest_traces F d n)
 finished_lists_are_all F d n t l =
     let body = flow_of F d.place d.body in
-    let whole = Close (exited d.place d.close) ∷ [] in
-    let start = Run (flow_of F d.place d.body) ∷ Close (exited d.place d.close) ∷ [] in
+    let whole = Close (Exited d.place d.close) ∷ [] in
+    let start = Run (flow_of F d.place d.body) ∷ Close (Exited d.place d.close) ∷ [] in
     (λ r. shorter_begins body whole n start l r.1 (ended_begins body whole n r.0 start (l ++ r.1) t r.2), λ b. begins_trace body whole n start l b)

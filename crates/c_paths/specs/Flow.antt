@@ -1,6 +1,6 @@
 -- Statements (ISO 9899:1990, 6.6), by what they do to the flow of control.
 use Rattle.std.specs.Prelude.{ℕ, Option}
-use Rattle.c_paths.specs.Events.{Item}
+use Rattle.c_paths.specs.Events.{Event}
 use Rattle.c_paths.specs.Forms.{Form, Row}
 
 mutual
@@ -22,7 +22,7 @@ mutual
     Break : Flow
     Continue : Flow
     -- what is evaluated, and the exit behind it
-    Return : Row → Item → Flow
+    Return : Row → Event → Flow
 
   pub data Flows : Type 0 where
     no_flows : Flows

@@ -1,3 +1,4 @@
+pub mod Membership
 pub mod Events
 pub mod Words
 pub mod Forms

@@ -1,17 +1,14 @@
 -- Lists of all evaluations, of all steps, and of the longest traces of at most so many steps.
 use Rattle.std.specs.Prelude.{◌≡◌, ◌⊎◌, ℕ, zero, suc, Bool, true, false, not, ◌||◌, ◌&&◌, ◌==◌, List, [], ◌∷◌, ◌++◌, Option, None, Some}
-use Rattle.c_paths.specs.Events.{Item, branched, exited}
+use Rattle.path_theory.specs.Marks.{EventMark}
+use Rattle.c_paths.specs.Membership.{Among}
+use Rattle.c_paths.specs.Events.{Item, branched, Exited}
 use Rattle.c_paths.specs.Facts.{Facts}
 use Rattle.c_paths.specs.Forms.{Form, Plain, Inverts, Keeps, Both, Any, Chooses, Follows, Row, done, operand, item}
 use Rattle.c_paths.specs.Flow.{Flow, Does, Block, If, While, Do, For, Switch, Case, Default, Label, Goto, Break, Continue, Return, Flows, no_flows, flows}
 use Rattle.c_paths.specs.Steps.{Task, Run, Test, Turn, Behind, Close, in_order, after_break, after_continue}
 use Rattle.c_paths.specs.TreeFlow.{flow_of}
 use Rattle.c_paths.specs.Traces.{Definition}
-
--- a is one of the list
-abbrev pub Among : {A : Type 0} → A → List A → Type 0
-Among a [] = ⊥
-Among a (b ∷ bs) = (a ≡ b) ⊎ Among a bs
 
 -- this list before each of those
 abbrev pub before_each : List Item → List (List Item) → List (List Item)
@@ -151,7 +148,7 @@ steps_of body whole (Label M s) k = silently (Run s ∷ k)
 steps_of body whole (Goto L) k = with_each [] (labels_at L body whole)
 steps_of body whole Break k = silently (after_break k)
 steps_of body whole Continue k = silently (after_continue k)
-steps_of body whole (Return r e) k = to_each (joined (words_in r) ((e ∷ []) ∷ [])) ([] ∷ [])
+steps_of body whole (Return r e) k = to_each (joined (words_in r) ((EventMark e ∷ []) ∷ [])) ([] ∷ [])
 
 -- all steps from a continuation
 abbrev pub steps : (body : Flow) (whole : List Task) → List Task → List (List Item × List Task)
@@ -160,7 +157,7 @@ steps body whole (Run s ∷ k) = steps_of body whole s k
 steps body whole (Test c u s ∷ k) = to_each (words_of_maybe c true) ((Run s ∷ Turn c u s ∷ k) ∷ []) ++ to_each (words_of_maybe c false) (k ∷ [])
 steps body whole (Turn c u s ∷ k) = to_each (words_in u) ((Test c u s ∷ k) ∷ [])
 steps body whole (Behind ∷ k) = silently k
-steps body whole (Close e ∷ k) = (e ∷ [], []) ∷ []
+steps body whole (Close e ∷ k) = (EventMark e ∷ [], []) ∷ []
 
 -- what each step gives before what its continuation gives
 abbrev pub stepped : (List Task → List (List Item)) → List (List Item × List Task) → List (List Item)
@@ -188,11 +185,11 @@ ends_within body whole (suc n) k = holds_of_each (ends_within body whole n) (ste
 
 -- what n steps of a function give, or fewer where no more are there
 abbrev pub longest_traces : Facts → Definition → ℕ → List (List Item)
-longest_traces F d n = longest (flow_of F d.place d.body) (Close (exited d.place d.close) ∷ []) n (Run (flow_of F d.place d.body) ∷ Close (exited d.place d.close) ∷ [])
+longest_traces F d n = longest (flow_of F d.place d.body) (Close (Exited d.place d.close) ∷ []) n (Run (flow_of F d.place d.body) ∷ Close (Exited d.place d.close) ∷ [])
 
 -- no more than n steps of the function can be made
 abbrev pub finishes_within : Facts → Definition → ℕ → Bool
-finishes_within F d n = ends_within (flow_of F d.place d.body) (Close (exited d.place d.close) ∷ []) n (Run (flow_of F d.place d.body) ∷ Close (exited d.place d.close) ∷ [])
+finishes_within F d n = ends_within (flow_of F d.place d.body) (Close (Exited d.place d.close) ∷ []) n (Run (flow_of F d.place d.body) ∷ Close (Exited d.place d.close) ∷ [])
 
 -- the list is a beginning of one of these
 abbrev pub Begins : List Item → List (List Item) → Type 0

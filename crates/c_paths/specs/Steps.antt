@@ -2,7 +2,8 @@
 -- A jump takes the continuation of its target, wherever that stands, so that it goes into blocks, loops and switches too
 -- (ISO 9899:1990, 6.6.1, 6.6.4.2 and 6.6.6).
 use Rattle.std.specs.Prelude.{◌≡◌, ℕ, suc, zero, true, false, List, [], ◌∷◌, ◌++◌, ◌⊎◌, Option, Some, None}
-use Rattle.c_paths.specs.Events.{Item}
+use Rattle.path_theory.specs.Marks.{EventMark}
+use Rattle.c_paths.specs.Events.{Event, Item}
 use Rattle.c_paths.specs.Words.{Only, Then}
 use Rattle.c_paths.specs.Forms.{Form, Row, done}
 use Rattle.c_paths.specs.Evaluation.{Happens, Condition, MaybeCondition}
@@ -18,7 +19,7 @@ pub data Task : Type 0 where
   -- an open switch ends here
   Behind : Task
   -- the closing brace of the function, with its exit
-  Close : Item → Task
+  Close : Event → Task
 
 -- the statements of a block in order, and then k
 abbrev pub in_order : Flows → List Task → List Task
@@ -124,7 +125,7 @@ StepOf body whole (Label M s) k l h = (l ≡ []) × (h ≡ Run s ∷ k)
 StepOf body whole (Goto L) k l h = (l ≡ []) × LabelAt L body whole h
 StepOf body whole Break k l h = (l ≡ []) × (h ≡ after_break k)
 StepOf body whole Continue k l h = (l ≡ []) × (h ≡ after_continue k)
-StepOf body whole (Return r e) k l h = Then (Happens r) (Only e) l × (h ≡ [])
+StepOf body whole (Return r e) k l h = Then (Happens r) (Only (EventMark e)) l × (h ≡ [])
 
 -- one step; what is behind the closing brace is whole
 abbrev pub Step : (body : Flow) (whole : List Task) → List Task → List Item → List Task → Type 0
@@ -133,4 +134,4 @@ Step body whole (Run s ∷ k) l h = StepOf body whole s k l h
 Step body whole (Test c u s ∷ k) l h = (MaybeCondition c true l × (h ≡ Run s ∷ Turn c u s ∷ k)) ⊎ (MaybeCondition c false l × (h ≡ k))
 Step body whole (Turn c u s ∷ k) l h = Happens u l × (h ≡ Test c u s ∷ k)
 Step body whole (Behind ∷ k) l h = (l ≡ []) × (h ≡ k)
-Step body whole (Close e ∷ k) l h = (l ≡ e ∷ []) × (h ≡ [])
+Step body whole (Close e ∷ k) l h = (l ≡ EventMark e ∷ []) × (h ≡ [])

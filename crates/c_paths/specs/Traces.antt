@@ -2,7 +2,7 @@
 use Rattle.std.specs.Prelude.{◌≡◌, ℕ, suc, zero, List, [], ◌∷◌, ◌++◌, ◌⊎◌}
 use Rattle.c_tree.specs.declared.place.Place.{Place}
 use Rattle.c_tree.specs.Node.{Node}
-use Rattle.c_paths.specs.Events.{Item, exited}
+use Rattle.c_paths.specs.Events.{Event, Item, Exited}
 use Rattle.c_paths.specs.Facts.{Facts}
 use Rattle.c_paths.specs.Flow.{Flow}
 use Rattle.c_paths.specs.TreeFlow.{flow_of}
@@ -19,7 +19,7 @@ abbrev pub TraceFrom : (body : Flow) (whole : List Task) → List Task → List 
 TraceFrom body whole k l = (n : ℕ) × (rest : List Item) × Runs body whole n k (l ++ rest)
 
 -- a trace of a body whose end gives this exit
-abbrev pub BodyTrace : Flow → Item → List Item → Type 0
+abbrev pub BodyTrace : Flow → Event → List Item → Type 0
 BodyTrace body end l = TraceFrom body (Close end ∷ []) (Run body ∷ Close end ∷ []) l
 
 -- a function with a body
@@ -32,4 +32,4 @@ pub record Definition : Type 0 where
 
 -- a trace of the function
 abbrev pub Trace : Facts → Definition → List Item → Type 0
-Trace F d l = BodyTrace (flow_of F d.place d.body) (exited d.place d.close) l
+Trace F d l = BodyTrace (flow_of F d.place d.body) (Exited d.place d.close) l

@@ -3,7 +3,7 @@ use Rattle.std.specs.Prelude.{Option, None, Some}
 use Rattle.c_tree.specs.declared.place.Place.{Place}
 use Rattle.c_tree.specs.declared.token.Token.{Token}
 use Rattle.c_tree.specs.Node.{Node, node, Primary, Operation, Initializer, Specifier, Declarator, Part, Outer, Statement, Iteration, Jump, OuterShape, StatementShape, IterationShape, JumpShape, Init, Braces, Designated, Declaration, Function, Empty, Block, ExprStmt, If, Switch, Case, Default, Label, While, Do, For, ForDeclaration, Goto, Continue, Break, Return, MaybeNode, absent, present, Nodes, no_more, more}
-use Rattle.c_paths.specs.Events.{Variable, declared, exited}
+use Rattle.c_paths.specs.Events.{Variable, declared, Exited}
 use Rattle.c_paths.specs.Facts.{Facts}
 use Rattle.c_paths.specs.Forms.{Form, Row, done, operand, item}
 use Rattle.c_paths.specs.Flow.{Flow, Flows, no_flows, flows}
@@ -84,7 +84,7 @@ abbrev mutual
   jump_flow F f p (Goto label) = flow.Goto label.name
   jump_flow F f p Continue = flow.Continue
   jump_flow F f p Break = flow.Break
-  jump_flow F f p (Return value) = flow.Return (maybe_row F value) (exited f p)
+  jump_flow F f p (Return value) = flow.Return (maybe_row F value) (Exited f p)
 
   pub maybe_flow : Facts → Place → MaybeNode → Flow
   maybe_flow F f absent = flow.Does done
