@@ -1,0 +1,120 @@
+-- Expressions with all of their evaluations. The names are 0 a, 1 b, 2 c, 3 g, 4 h, 6 p, 7 x.
+use Rattle.std.proofs.Common.{◌≡◌, ℕ, true, false, List, [], ◌∷◌, None, Some, refl}
+use Rattle.c_tree.specs.declared.operator.BinaryOp.TheVariants as binary
+use Rattle.c_tree.specs.declared.operator.UnaryOp.TheVariants as unary
+use Rattle.c_tree.specs.Node.{Node, no_more, more}
+use Rattle.c_paths.specs.Events.{Item, evaluated, dereferenced, branched, called}
+use Rattle.c_paths.specs.TreeForms.{form_of}
+use Rattle.c_paths.specs.Listing.{words_of}
+use Rattle.c_paths.proofs.ExampleTrees.{ident, number, paren, call, unary_at, binary_at, conditional, assigned, arrow, cast_at, nodes, outside, inside}
+
+abbrev a : Node
+a = ident 0 1
+
+abbrev b : Node
+b = ident 1 5
+
+abbrev c : Node
+c = ident 2 7
+
+-- p->x: the tree `*p` is read on the way
+through_pointer : words_of (form_of outside (arrow 1 (ident 6 1) 7)) None ≡
+    (evaluated (ident 6 1) ∷ dereferenced (ident 6 1) ∷ evaluated (arrow 1 (ident 6 1) 7) ∷ []) ∷ []
+through_pointer = refl
+
+-- a = *b: the left operand comes first
+assignment : words_of (form_of outside (assigned 1 a (unary_at 4 unary.Deref b))) None ≡
+    (evaluated a ∷ evaluated b ∷ evaluated (unary_at 4 unary.Deref b) ∷ evaluated (assigned 1 a (unary_at 4 unary.Deref b)) ∷ []) ∷ []
+assignment = refl
+
+-- sizeof(*p) evaluates nothing below it
+size : words_of (form_of outside (unary_at 1 unary.Sizeof (paren 2 (unary_at 3 unary.Deref (ident 6 4))))) None ≡
+    (evaluated (unary_at 1 unary.Sizeof (paren 2 (unary_at 3 unary.Deref (ident 6 4)))) ∷ []) ∷ []
+size = refl
+
+abbrev inner_call : Node
+inner_call = call 3 (ident 4 3) no_more
+
+abbrev outer_call : Node
+outer_call = call 1 (ident 3 1) (nodes (inner_call ∷ paren 7 b ∷ []))
+
+-- g(h(), (b)): the callee, the arguments, the call, and its mark if the callee has a body
+calls : words_of (form_of inside outer_call) None ≡
+    (evaluated (ident 3 1) ∷ evaluated (ident 4 3) ∷ evaluated inner_call ∷ called inner_call ∷ evaluated b ∷ evaluated outer_call ∷ called outer_call ∷ []) ∷ []
+calls = refl
+
+calls_outside : words_of (form_of outside outer_call) None ≡
+    (evaluated (ident 3 1) ∷ evaluated (ident 4 3) ∷ evaluated inner_call ∷ evaluated b ∷ evaluated outer_call ∷ []) ∷ []
+calls_outside = refl
+
+abbrev conjunction : Node
+conjunction = binary_at 1 binary.LogAnd a b
+
+-- a && b, for its value
+conjunction_value : words_of (form_of outside conjunction) None ≡
+    (evaluated a ∷ branched a false ∷ evaluated conjunction ∷ [])
+    ∷ (evaluated a ∷ branched a true ∷ evaluated b ∷ branched b false ∷ evaluated conjunction ∷ [])
+    ∷ (evaluated a ∷ branched a true ∷ evaluated b ∷ branched b true ∷ evaluated conjunction ∷ [])
+    ∷ []
+conjunction_value = refl
+
+-- as a condition it has no event of its own
+conjunction_holds : words_of (form_of outside conjunction) (Some true) ≡
+    (evaluated a ∷ branched a true ∷ evaluated b ∷ branched b true ∷ []) ∷ []
+conjunction_holds = refl
+
+-- !(a || b), as a condition that fails
+disjunction_turned : words_of (form_of outside (unary_at 1 unary.Not (paren 2 (binary_at 1 binary.LogOr a b)))) (Some false) ≡
+    (evaluated a ∷ branched a true ∷ [])
+    ∷ (evaluated a ∷ branched a false ∷ evaluated b ∷ branched b true ∷ [])
+    ∷ []
+disjunction_turned = refl
+
+-- !a, for its value
+negation_value : words_of (form_of outside (unary_at 0 unary.Not a)) None ≡ (evaluated a ∷ evaluated (unary_at 0 unary.Not a) ∷ []) ∷ []
+negation_value = refl
+
+-- a == (0) holds where a fails
+is_zero_holds : words_of (form_of outside (binary_at 1 binary.Equal a (paren 3 (number 0 4)))) (Some true) ≡
+    (evaluated a ∷ branched a false ∷ []) ∷ []
+is_zero_holds = refl
+
+-- (a) != (T)0 holds where a does
+is_no_zero_holds : words_of (form_of outside (binary_at 0 binary.NotEqual (paren 0 a) (cast_at 4 (number 0 7)))) (Some true) ≡
+    (evaluated a ∷ branched a true ∷ []) ∷ []
+is_no_zero_holds = refl
+
+-- a == 0, for its value
+is_zero_value : words_of (form_of outside (binary_at 1 binary.Equal a (number 0 3))) None ≡
+    (evaluated a ∷ evaluated (number 0 3) ∷ evaluated (binary_at 1 binary.Equal a (number 0 3)) ∷ []) ∷ []
+is_zero_value = refl
+
+-- a == 1, and 0 == b, are conditions like any other
+is_one_holds : words_of (form_of outside (binary_at 1 binary.Equal a (number 1 3))) (Some true) ≡
+    (evaluated a ∷ evaluated (number 1 3) ∷ evaluated (binary_at 1 binary.Equal a (number 1 3)) ∷ branched (binary_at 1 binary.Equal a (number 1 3)) true ∷ []) ∷ []
+is_one_holds = refl
+
+zero_first_holds : words_of (form_of outside (binary_at 3 binary.Equal (number 0 3) b)) (Some true) ≡
+    (evaluated (number 0 3) ∷ evaluated b ∷ evaluated (binary_at 3 binary.Equal (number 0 3) b) ∷ branched (binary_at 3 binary.Equal (number 0 3) b) true ∷ []) ∷ []
+zero_first_holds = refl
+
+-- a, b
+comma_holds : words_of (form_of outside (binary_at 1 binary.Comma a b)) (Some true) ≡ (evaluated a ∷ evaluated b ∷ branched b true ∷ []) ∷ []
+comma_holds = refl
+
+comma_value : words_of (form_of outside (binary_at 1 binary.Comma a b)) None ≡
+    (evaluated a ∷ evaluated b ∷ evaluated (binary_at 1 binary.Comma a b) ∷ []) ∷ []
+comma_value = refl
+
+-- a ? b : c
+choice_value : words_of (form_of outside (conditional 1 a b c)) None ≡
+    (evaluated a ∷ branched a true ∷ evaluated b ∷ evaluated (conditional 1 a b c) ∷ [])
+    ∷ (evaluated a ∷ branched a false ∷ evaluated c ∷ evaluated (conditional 1 a b c) ∷ [])
+    ∷ []
+choice_value = refl
+
+choice_fails : words_of (form_of outside (conditional 1 a b c)) (Some false) ≡
+    (evaluated a ∷ branched a true ∷ evaluated b ∷ branched b false ∷ [])
+    ∷ (evaluated a ∷ branched a false ∷ evaluated c ∷ branched c false ∷ [])
+    ∷ []
+choice_fails = refl

@@ -1,0 +1,13 @@
+pub mod Membership
+pub mod Events
+pub mod Words
+pub mod Forms
+pub mod Evaluation
+pub mod Facts
+pub mod TreeForms
+pub mod Flow
+pub mod TreeFlow
+pub mod Steps
+pub mod Traces
+pub mod Listing
+pub mod Theorems

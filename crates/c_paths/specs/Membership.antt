@@ -1,0 +1,7 @@
+-- Which values stand in a list.
+use Rattle.std.specs.Prelude.{◌≡◌, ◌⊎◌, List, [], ◌∷◌}
+
+-- a is one of the list
+abbrev pub Among : {A : Type 0} → A → List A → Type 0
+Among a [] = ⊥
+Among a (b ∷ bs) = (a ≡ b) ⊎ Among a bs
