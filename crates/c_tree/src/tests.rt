@@ -3,6 +3,8 @@
 use crate::equality::equal_tree;
 use crate::*;
 use bumpalo::Bump;
+use bumpalo::collections::into_bump_slice;
+use std::alloc::AllocError;
 use std::process::Abort;
 use std::test::Fail;
 
@@ -111,146 +113,180 @@ fn operands_are_compared(rt: HostRuntime) {
     expect_other(&rt, &dot, &plain);
 }
 
-#[test]
-fn assignments_are_compared(rt: HostRuntime) {
-    let (x, e) = (word(1), word(2));
-    let name = node(1, Kind::Primary(Primary::Ident { name: &x }));
-    let value = node(2, Kind::Primary(Primary::Ident { name: &e }));
-    let declarator = node(
-        3,
-        Kind::Declarator(Declarator::Named {
-            pointers: &[],
-            name: &x,
-            suffixes: Trees { all: &[] },
+fn put<'a>(arena: &'a Arena, id: u32, kind: Kind<'a>) -> Result<&'a Tree<'a>, AllocError> {
+    let tree = Tree {
+        id,
+        first: PLACE,
+        kind,
+    };
+    Ok(arena.try_alloc(tree)?)
+}
+
+fn name(arena: &Arena, id: u32) -> Result<&Tree, AllocError> {
+    let name = arena.try_alloc(word(id))?;
+    put(arena, id, Kind::Primary(Primary::Ident { name }))
+}
+
+fn none(arena: &Arena) -> Trees {
+    Trees {
+        all: into_bump_slice(Vec::new(arena)),
+    }
+}
+
+fn two<'a>(arena: &'a Arena, first: &Tree<'a>, second: &Tree<'a>) -> Result<Trees<'a>, AllocError> {
+    let mut all = Vec::new(arena);
+    all.push(*first)?;
+    all.push(*second)?;
+    Ok(Trees {
+        all: into_bump_slice(all),
+    })
+}
+
+fn assign<'a>(
+    arena: &'a Arena,
+    id: u32,
+    op: AssignOp,
+    left: &'a Tree<'a>,
+    right: &'a Tree<'a>,
+) -> Result<&'a Tree<'a>, AllocError> {
+    put(
+        arena,
+        id,
+        Kind::Operation(Operation::Assign { op, left, right }),
+    )
+}
+
+/// `int name = initial`, with the name for its declarator.
+fn init<'a>(
+    arena: &'a Arena,
+    id: u32,
+    name: &'a Tree<'a>,
+    initial: &'a Tree<'a>,
+) -> Result<&'a Tree<'a>, AllocError> {
+    put(
+        arena,
+        id,
+        Kind::Initializer(Initializer::Init {
+            name,
+            declarator: name,
+            initial,
         }),
-    );
-    let braces = node(
-        4,
+    )
+}
+
+fn braces(arena: &Arena, id: u32) -> Result<&Tree, AllocError> {
+    put(
+        arena,
+        id,
         Kind::Initializer(Initializer::Braces {
-            elements: Trees { all: &[] },
+            elements: none(arena),
             comma: false,
         }),
-    );
-    let declared = node(
-        5,
-        Kind::Initializer(Initializer::Init {
-            name: &name,
-            declarator: &declarator,
-            initial: &value,
-        }),
-    );
-    let braced = node(
-        6,
-        Kind::Initializer(Initializer::Init {
-            name: &name,
-            declarator: &declarator,
-            initial: &braces,
-        }),
-    );
-    let assigned = node(
-        7,
-        Kind::Operation(Operation::Assign {
-            op: AssignOp::Plain,
-            left: &name,
-            right: &value,
-        }),
-    );
-    let added = node(
-        8,
-        Kind::Operation(Operation::Assign {
-            op: AssignOp::Add,
-            left: &name,
-            right: &value,
-        }),
-    );
-    let of_braces = node(
-        9,
-        Kind::Operation(Operation::Assign {
-            op: AssignOp::Plain,
-            left: &name,
-            right: &braces,
-        }),
-    );
-    expect_same(&rt, &declared, &assigned);
-    expect_other(&rt, &declared, &added);
-    expect_other(&rt, &assigned, &added);
-    expect_other(&rt, &braced, &of_braces);
-    expect_other(&rt, &braced, &declared);
-    expect_same(&rt, &braced, &braced);
+    )
 }
 
 #[test]
-fn tokens_are_yielded(rt: HostRuntime) {
+fn assignments_are_compared(rt: HostRuntime) -> Result<(), Fail> {
+    let arena = Bump::new(rt.alloc());
+    let x = name(&arena, 1)?;
+    let value = name(&arena, 2)?;
+    let braces = braces(&arena, 3)?;
+    let declared = init(&arena, 4, x, value)?;
+    let braced = init(&arena, 5, x, braces)?;
+    let assigned = assign(&arena, 6, AssignOp::Plain, x, value)?;
+    let added = assign(&arena, 7, AssignOp::Add, x, value)?;
+    let of_braces = assign(&arena, 8, AssignOp::Plain, x, braces)?;
+    expect_same(&rt, declared, assigned);
+    expect_other(&rt, declared, added);
+    expect_other(&rt, assigned, added);
+    expect_other(&rt, braced, of_braces);
+    expect_other(&rt, braced, declared);
+    expect_same(&rt, braced, braced);
+    Ok(())
+}
+
+/// `name(first, second)`
+fn call<'a>(
+    arena: &'a Arena,
+    id: u32,
+    callee: &'a Tree<'a>,
+    first: &Tree<'a>,
+    second: &Tree<'a>,
+) -> Result<&'a Tree<'a>, AllocError> {
+    let arguments = two(arena, first, second)?;
+    put(
+        arena,
+        id,
+        Kind::Operation(Operation::Call {
+            callee,
+            open: PLACE,
+            arguments,
+        }),
+    )
+}
+
+#[test]
+fn tokens_are_yielded(rt: HostRuntime) -> Result<(), Fail> {
+    let arena = Bump::new(rt.alloc());
+    let call = call(
+        &arena,
+        4,
+        name(&arena, 1)?,
+        name(&arena, 2)?,
+        name(&arena, 3)?,
+    )?;
     let (f, a, b) = (word(1), word(2), word(3));
     let (open, comma, close) = (
         sign(Punctuator::OpenParen),
         sign(Punctuator::Comma),
         sign(Punctuator::CloseParen),
     );
-    let callee = node(1, Kind::Primary(Primary::Ident { name: &f }));
-    let arguments = [
-        node(2, Kind::Primary(Primary::Ident { name: &a })),
-        node(3, Kind::Primary(Primary::Ident { name: &b })),
-    ];
-    let call = node(
-        4,
-        Kind::Operation(Operation::Call {
-            callee: &callee,
-            open: PLACE,
-            arguments: Trees { all: &arguments },
-        }),
-    );
     let tokens = [f, open, a, comma, b, close];
-    assert!(rt; yields(&call, &tokens));
-    assert!(rt; !yields(&call, &tokens[..5]), "one fewer");
+    assert!(rt; yields(call, &tokens));
+    assert!(rt; !yields(call, &tokens[..5]), "one fewer");
     assert!(rt;
-        !yields(&call, &[f, open, a, comma, b, close, close]),
+        !yields(call, &[f, open, a, comma, b, close, close]),
         "one more"
     );
-    assert!(rt; !yields(&call, &[f, open, a, comma, a, close]), "one other");
-    let hole = node(5, Kind::Primary(Primary::Hole { number: 0 }));
-    assert!(rt; yields(&hole, &[]), "a hole");
-    assert!(rt; !yields(&hole, &tokens), "a hole");
+    assert!(rt; !yields(call, &[f, open, a, comma, a, close]), "one other");
+    let hole = put(&arena, 5, Kind::Primary(Primary::Hole { number: 0 }))?;
+    assert!(rt; yields(hole, &[]), "a hole");
+    assert!(rt; !yields(hole, &tokens), "a hole");
+    Ok(())
+}
+
+/// A leaf has the height 1.
+fn expect_leaf(rt: &impl Abort, name: &Token) {
+    let leaf = Tree {
+        id: 1,
+        first: PLACE,
+        kind: Kind::Primary(Primary::Ident { name }),
+    };
+    assert_eq!(rt; height(&leaf), 1);
 }
 
 #[test]
 fn trees_are_copied(rt: HostRuntime) -> Result<(), Fail> {
-    let (x, f) = (word(1), word(2));
-    let leaf = Tree {
-        id: 1,
-        first: PLACE,
-        kind: Kind::Primary(Primary::Ident { name: &x }),
-    };
-    assert_eq!(rt; height(&leaf), 1);
-    let arguments = [leaf, node(2, Kind::Primary(Primary::Ident { name: &f }))];
-    let call = node(
-        3,
-        Kind::Operation(Operation::Call {
-            callee: &leaf,
-            open: PLACE,
-            arguments: Trees { all: &arguments },
-        }),
-    );
-    let returned = node(4, Kind::Jump(Jump::Return { value: Some(&call) }));
-    let chosen = node(
-        5,
+    expect_leaf(&rt, &word(1));
+    let arena = Bump::new(rt.alloc());
+    let x = name(&arena, 1)?;
+    let call = call(&arena, 2, x, x, x)?;
+    let returned = put(&arena, 3, Kind::Jump(Jump::Return { value: Some(call) }))?;
+    let chosen = put(
+        &arena,
+        4,
         Kind::Statement(Statement::If {
-            condition: &leaf,
-            then: &returned,
+            condition: x,
+            then: returned,
             otherwise: None,
         }),
-    );
-    let items = [chosen, returned];
-    let block = node(
-        6,
-        Kind::Statement(Statement::Block {
-            items: Trees { all: &items },
-        }),
-    );
-    let arena = Bump::new(rt.alloc());
-    let copy = copy_tree(&arena, &block)?;
-    assert!(rt; equal_tree(copy, &block));
-    assert_eq!(rt; copy.id, 6);
-    assert!(rt; !equal_tree(copy, &chosen));
+    )?;
+    let items = two(&arena, chosen, returned)?;
+    let block = put(&arena, 5, Kind::Statement(Statement::Block { items }))?;
+    let second = Bump::new(rt.alloc());
+    let copy = copy_tree(&second, block)?;
+    assert!(rt; equal_tree(copy, block));
+    assert_eq!(rt; copy.id, 5);
+    assert!(rt; !equal_tree(copy, chosen));
     Ok(())
 }
