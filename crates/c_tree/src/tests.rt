@@ -201,7 +201,8 @@ fn assignments_are_compared(rt: HostRuntime) -> Result<(), Fail> {
     expect_other(&rt, assigned, added);
     expect_other(&rt, braced, of_braces);
     expect_other(&rt, braced, declared);
-    expect_same(&rt, braced, braced);
+    let again = init(&arena, 9, name(&arena, 1)?, braces)?;
+    expect_same(&rt, braced, again);
     Ok(())
 }
 
@@ -270,7 +271,7 @@ fn trees_are_copied(rt: HostRuntime) -> Result<(), Fail> {
     expect_leaf(&rt, &word(1));
     let arena = Bump::new(rt.alloc());
     let x = name(&arena, 1)?;
-    let call = call(&arena, 2, x, x, x)?;
+    let call = call(&arena, 2, x, name(&arena, 6)?, name(&arena, 7)?)?;
     let returned = put(&arena, 3, Kind::Jump(Jump::Return { value: Some(call) }))?;
     let chosen = put(
         &arena,
