@@ -1,0 +1,9 @@
+pub mod Codes
+pub mod Symbol
+pub mod Syntax
+pub mod Node
+pub mod Views
+pub mod Forget
+pub mod Height
+pub mod Phrase
+pub mod Tokens

@@ -10,7 +10,7 @@ use Rattle.c_tree.specs.Phrase.{Phrase, nothing, one, all, ◌⨾◌, phrase_the
 use Rattle.c_tree.specs.Forget.{view_all}
 use Rattle.c_tree.specs.Tokens.{more_phrase}
 use Rattle.tree_yields.specs.After.{same_symbol, after_symbol, after_symbols, after_phrase}
-use Rattle.c_tree.proofs.SameSymbols.{same_symbol-decides}
+use Rattle.tree_yields.proofs.SameSymbols.{same_symbol-decides}
 
 after_symbol-then : (s : Symbol) (ts : List Symbol) → after_symbol s (s ∷ ts) ≡ Some ts
 after_symbol-then s ts = ap (λ b. cond b (Some ts) None) ((same_symbol-decides s s).1 refl)

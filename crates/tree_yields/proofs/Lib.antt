@@ -1,1 +1,2 @@
 pub mod AfterPhrases
+pub mod SameSymbols

@@ -10,7 +10,7 @@ use Rattle.c_tree.specs.declared.token.FloatEnd.{FloatEnd}
 use Rattle.c_tree.specs.declared.token.FloatEnd.TheVariants as ends
 use Rattle.c_tree.specs.Codes.{keyword_code, punctuator_code}
 use Rattle.c_tree.specs.Symbol.{Symbol, Integer, Word, Reserved, Sign, IntLiteral, FloatLiteral, CharLiteral, StringLiteral}
-use Rattle.c_tree.specs.After.{same_bool, end_code, same_integer, same_symbol}
+use Rattle.tree_yields.specs.After.{same_bool, end_code, same_integer, same_symbol}
 
 keywords : List Keyword
 keywords =
