@@ -47,7 +47,12 @@ fn matches_at(pattern: Pattern, node: &Tree) -> bool
             _ => false,
         },
         Pattern::Dereference => match &node.kind {
-            Kind::Operation(Operation::Unary { op: UnaryOp::Deref, .. }) => true,
+            Kind::Operation(
+                Operation::Unary {
+                    op: UnaryOp::Deref,
+                    ..
+                },
+            ) => true,
             _ => false,
         },
     }
