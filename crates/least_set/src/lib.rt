@@ -20,11 +20,15 @@
 //! This is the worklist of tabulation (Reps, Horwitz, Sagiv: Precise interprocedural dataflow analysis via graph
 //! reachability, POPL 1995), apart from its program: path edges are members, and an edge into a callee is a context.
 //!
+//! Rules that keep what they have computed (a cache of summaries, say) are `CachingRules`, and `least_caching` takes them by
+//! `&mut`: what they are of, their `source`, stays as it is, and what follows is said of that.
+//!
 //! An instance is proved by saying which members are exactly those that its functions return; `proofs/Enumerating.antt` has
 //! the steps of a loop that makes such a list. Members and contexts are of types at which `==` says that two values are one
 //! (`Key`). They need not be `Copy`, and the driver copies none.
 #![tactic(auto)]
 
+mod driver;
 mod indexes;
 mod keys;
 mod logs;
@@ -33,6 +37,7 @@ mod one_premise;
 mod tests;
 mod two_premises;
 
+pub use driver::least_caching;
 pub use keys::Key;
 pub use one_premise::{Steps, closure};
-pub use two_premises::{Entered, Rules, Wait, least};
+pub use two_premises::{CachingRules, Entered, Rules, Wait, least};

@@ -4,7 +4,7 @@ ghost use Rattle.std.specs.Prelude.{◌≡◌, ◌⊎◌, IfOk, nat_eq, true};
 ghost use Rattle.std.specs.List.{list_any};
 ghost use Rattle.least_set.specs.Logs.{IsExactly, SomeGives};
 
-use crate::{Entered, Key, Rules, Steps, Wait, closure, least};
+use crate::{CachingRules, Entered, Key, Rules, Steps, Wait, closure, least, least_caching};
 use std::alloc::{AllocError, Global};
 use std::test::Fail;
 
@@ -182,6 +182,52 @@ impl Rules for Program<'_> {
     }
 }
 
+/// The same rules, which keep how often they were asked.
+#[derive(Drop)]
+struct Counted<'a> {
+    program: Program<'a>,
+    asked: usize,
+}
+
+impl<'a> CachingRules for Counted<'a> {
+    type Member = Point;
+
+    type Context = u32;
+
+    type Waiter = Point;
+
+    type Source = Program<'a>;
+
+    ghost source = { λ c. c.program };
+
+    ghost base = { ⟦<Program<'a> as Rules>⟧.base };
+
+    ghost goes = { ⟦<Program<'a> as Rules>⟧.goes };
+
+    ghost waits = { ⟦<Program<'a> as Rules>⟧.waits };
+
+    ghost ends = { ⟦<Program<'a> as Rules>⟧.ends };
+
+    ghost wakes = { ⟦<Program<'a> as Rules>⟧.wakes };
+
+    fn begin(&self, alloc: Global) -> Result<Vec<Point>, AllocError> {
+        self.program.begin(alloc)
+    }
+
+    fn enter(
+        &mut self,
+        alloc: Global,
+        member: &Point,
+    ) -> Result<Entered<Point, u32, Point>, AllocError> {
+        self.asked = self.asked.saturating_add(1);
+        self.program.enter(alloc, member)
+    }
+
+    fn wake(&self, alloc: Global, waiter: &Point, end: &Point) -> Result<Vec<Point>, AllocError> {
+        self.program.wake(alloc, waiter, end)
+    }
+}
+
 #[test]
 fn reaches_each_number_once(rt: HostRuntime) -> Result<(), Fail> {
     let graph = Graph {
@@ -202,49 +248,78 @@ fn reaches_each_number_once(rt: HostRuntime) -> Result<(), Fail> {
     Ok(())
 }
 
-/// The function at 1 calls the one at 10 from 1 and from 3, and never comes to 5. The one at 10 calls itself from 11, once.
-#[test]
-fn returns_to_the_calls_that_were_made(rt: HostRuntime) -> Result<(), Fail> {
-    let program = Program {
+const CALLS: &[Call] = &[
+    Call {
+        at: 1,
+        entry: 10,
+        back: 2,
+    },
+    Call {
+        at: 3,
+        entry: 10,
+        back: 4,
+    },
+    Call {
+        at: 5,
+        entry: 10,
+        back: 6,
+    },
+    Call {
+        at: 11,
+        entry: 10,
+        back: 12,
+    },
+];
+
+/// The function at 1 calls the one at 10 from 1 and from 3, and never comes to 5. The one at 10 calls itself from 11.
+fn two_functions() -> Program<'static> {
+    Program {
         start: 1,
         edges: &[(2, 3), (10, 11), (10, 13), (12, 13)],
-        calls: &[
-            Call {
-                at: 1,
-                entry: 10,
-                back: 2,
-            },
-            Call {
-                at: 3,
-                entry: 10,
-                back: 4,
-            },
-            Call {
-                at: 5,
-                entry: 10,
-                back: 6,
-            },
-            Call {
-                at: 11,
-                entry: 10,
-                back: 12,
-            },
-        ],
+        calls: CALLS,
         ends: &[13],
+    }
+}
+
+/// Entries and nodes, in the order in which they are found.
+const EXPECTED: [Point; 8] = [
+    Point { entry: 1, node: 1 },
+    Point {
+        entry: 10,
+        node: 10,
+    },
+    Point {
+        entry: 10,
+        node: 11,
+    },
+    Point {
+        entry: 10,
+        node: 13,
+    },
+    Point { entry: 1, node: 2 },
+    Point {
+        entry: 10,
+        node: 12,
+    },
+    Point { entry: 1, node: 3 },
+    Point { entry: 1, node: 4 },
+];
+
+#[test]
+fn returns_to_the_calls_that_were_made(rt: HostRuntime) -> Result<(), Fail> {
+    let log = least(rt.alloc(), &two_functions())?;
+    assert_eq!(rt; log.as_slice(), EXPECTED.as_slice());
+    Ok(())
+}
+
+#[test]
+fn asks_once_for_each_member(rt: HostRuntime) -> Result<(), Fail> {
+    let mut rules = Counted {
+        program: two_functions(),
+        asked: 0,
     };
-    let log = least(rt.alloc(), &program)?;
-    let main = |node| Point { entry: 1, node };
-    let callee = |node| Point { entry: 10, node };
-    let expected = [
-        main(1),
-        callee(10),
-        callee(11),
-        callee(13),
-        main(2),
-        callee(12),
-        main(3),
-        main(4),
-    ];
-    assert_eq!(rt; log.as_slice(), expected.as_slice());
+    let log = least_caching(rt.alloc(), &mut rules)?;
+    assert_eq!(rt; log.as_slice(), EXPECTED.as_slice());
+    assert_eq!(rt; rules.asked, 8);
     Ok(())
 }

@@ -1,8 +1,8 @@
 use Rattle.std.proofs.Common.{take}
 use Rattle.least_set.specs.Logs.{Adds, SomeGives}
 use Rattle.least_set.specs.TwoPremises.{Met}
-use Rattle.least_set.proofs.two_premises.answer.Given as goal
+use Rattle.least_set.proofs.driver.answer.Given as goal
 
 -- the ends that were gone through have answered
 abbrev pub invariant-loop-end : goal.invariant-loop-end
-invariant-loop-end g l = Adds (SomeGives (Met (g.R.Rules.wakes l.rules) l.fn.log.keys l.waiter) (take l.end-index l.ends)) l.fn.log.keys l.log.keys
+invariant-loop-end g l = Adds (SomeGives (Met (g.R.CachingRules.wakes (g.R.CachingRules.source l.rules)) l.fn.log.keys l.waiter) (take l.end-index l.ends)) l.fn.log.keys l.log.keys

@@ -5,7 +5,7 @@ use Rattle.least_set.specs.Indexes.{at, Extends}
 use Rattle.least_set.specs.TwoPremises.{Answers, Kept}
 use Rattle.least_set.proofs.Growing.{not_shorter}
 use Rattle.least_set.proofs.Meeting.{all_met_before, answers_nothing, answers_more, keeps_nothing, keeps_more}
-use Rattle.least_set.proofs.two_premises.join.Goals as goal
+use Rattle.least_set.proofs.driver.join.Goals as goal
 
 nothing_left : {X : Type 0} (l : List X) → length l ≡ 0 → l ≡ []
 nothing_left [] h = refl
@@ -15,7 +15,7 @@ pub loop-wait-init : goal.loop-wait-init
 loop-wait-init g c = record {
   split = refl;
   len = search rules;
-  adds = answers_nothing (g.R.Rules.wakes c.args.rules.now) c.args.log.now.keys (at g.R.Context.PartialEq.eq c.args.ended.now);
+  adds = answers_nothing (g.R.CachingRules.wakes (g.R.CachingRules.source c.args.rules.now)) c.args.log.now.keys (at g.R.Context.PartialEq.eq c.args.ended.now);
   extends = keeps_nothing (at g.R.Context.PartialEq.eq c.args.waiting.now);
 }
 
@@ -26,7 +26,7 @@ answer-requires g c j m =
 
 pub loop-wait-preserved : goal.loop-wait-preserved
 loop-wait-preserved g c =
-    let wakes = g.R.Rules.wakes c.args.rules.now in
+    let wakes = g.R.CachingRules.wakes (g.R.CachingRules.source c.args.rules.now) in
     let ends = at g.R.Context.PartialEq.eq c.args.ended.now in
     let old = c.args.log.now.keys in
     let at_loop = c.loop-wait in
@@ -48,6 +48,6 @@ returns g c =
     let none = c.in-None.ensures.steps in
     let empty : into_iter_items at_loop.wait-iterator ≡ [] = nothing_left _ (sym at_loop.invariant.len ∙ none.0) in
     let all = sym (append-nil at_loop.yielded) ∙ rw empty at at_loop.invariant.split ∙ c.into_iter-wait-iterator.ensures.into_iter_gives.0 in record {
-      log = subst (λ l. Adds (Answers (g.R.Rules.wakes c.args.rules.now) c.args.log.now.keys (at g.R.Context.PartialEq.eq c.args.ended.now) l) c.args.log.now.keys at_loop.log.keys) all at_loop.invariant.adds;
+      log = subst (λ l. Adds (Answers (g.R.CachingRules.wakes (g.R.CachingRules.source c.args.rules.now)) c.args.log.now.keys (at g.R.Context.PartialEq.eq c.args.ended.now) l) c.args.log.now.keys at_loop.log.keys) all at_loop.invariant.adds;
       waiting = subst (λ l. Extends (Kept l) (at g.R.Context.PartialEq.eq c.args.waiting.now) (at g.R.Context.PartialEq.eq at_loop.waiting)) all at_loop.invariant.extends;
     }

@@ -4,10 +4,10 @@ use Rattle.least_set.specs.Logs.{Adds, SomeGives}
 use Rattle.least_set.specs.TwoPremises.{Met}
 use Rattle.least_set.proofs.Growing.{adds_nothing, adds_next, all_of, not_shorter}
 use Rattle.least_set.proofs.Meeting.{met_before}
-use Rattle.least_set.proofs.two_premises.answer.Goals as goal
+use Rattle.least_set.proofs.driver.answer.Goals as goal
 
 pub loop-end-init : goal.loop-end-init
-loop-end-init g c = adds_nothing (Met (g.R.Rules.wakes c.args.rules.now) c.args.log.now.keys c.args.waiter.now) c.args.log.now.keys
+loop-end-init g c = adds_nothing (Met (g.R.CachingRules.wakes (g.R.CachingRules.source c.args.rules.now)) c.args.log.now.keys c.args.waiter.now) c.args.log.now.keys
 
 pub combine-requires : goal.combine-requires
 combine-requires g c =
@@ -17,7 +17,7 @@ combine-requires g c =
 
 pub loop-end-preserved : goal.loop-end-preserved
 loop-end-preserved g c =
-    let wakes = g.R.Rules.wakes c.args.rules.now in
+    let wakes = g.R.CachingRules.wakes (g.R.CachingRules.source c.args.rules.now) in
     let xs = c.args.ends.now in
     let i = c.loop-end.end-index in
     let h : get_or xs i 0 < length c.args.log.now.keys = c.requires (get_or xs i 0) (Contains-get_or xs i 0 c.loop-end-test.true) in
@@ -25,5 +25,5 @@ loop-end-preserved g c =
     (met_before wakes c.args.waiter.now (get_or xs i 0) c.loop-end.invariant h c.in_ok-combine.ensures)
 
 pub returns : goal.returns
-returns g c = all_of (λ l. Adds (SomeGives (Met (g.R.Rules.wakes c.args.rules.now) c.args.log.now.keys c.args.waiter.now) l) c.args.log.now.keys c.loop-end.log.keys)
+returns g c = all_of (λ l. Adds (SomeGives (Met (g.R.CachingRules.wakes (g.R.CachingRules.source c.args.rules.now)) c.args.log.now.keys c.args.waiter.now) l) c.args.log.now.keys c.loop-end.log.keys)
     c.args.ends.now c.loop-end.end-index c.loop-end-test.false c.loop-end.auto.end-index-end c.loop-end.invariant

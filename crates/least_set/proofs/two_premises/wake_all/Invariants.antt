@@ -1,8 +1,0 @@
-use Rattle.std.proofs.Common.{take}
-use Rattle.least_set.specs.Logs.{Adds, SomeGives}
-use Rattle.least_set.specs.TwoPremises.{Met}
-use Rattle.least_set.proofs.two_premises.wake_all.Given as goal
-
--- the waiters that were gone through have been answered
-abbrev pub invariant-loop-waiter : goal.invariant-loop-waiter
-invariant-loop-waiter g l = Adds (SomeGives (λ w. Met (g.R.Rules.wakes l.rules) l.fn.log.keys w l.end) (take l.waiter-index l.waiters)) l.fn.log.keys l.log.keys
