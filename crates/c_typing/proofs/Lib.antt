@@ -6,5 +6,6 @@ pub mod ExpressionExamples
 pub mod DeclarationExamples
 pub mod Filled
 pub mod First
+pub mod Places
 pub mod UnitExamples
 pub mod Units

@@ -1,7 +1,7 @@
 -- The theorems of this crate as statements, which contracts can name.
-use Rattle.std.specs.Prelude.{◌≡◌, ◌⊎◌, true, [], Result, Ok, Err}
+use Rattle.std.specs.Prelude.{◌≡◌, ◌⊎◌, true, [], None, Some, Result, Ok, Err}
 use Rattle.c_tree.specs.Node.{Node, Nodes}
-use Rattle.c_typing.specs.Definition.{after, Out, Table, IsAmong, is_kept, HasCell}
+use Rattle.c_typing.specs.Definition.{after, type_of, Out, first_fault, Table, IsAmong, is_kept, HasCell}
 use Rattle.c_typing.specs.Faults.{Fault}
 use Rattle.c_typing.specs.Order.{visited, fill}
 use Rattle.c_typing.specs.Parts.{Visit, flat}
@@ -29,6 +29,11 @@ TypedOrAtFault = (unit : Nodes) → AreNumbered unit → ((table : Table) × IsT
 abbrev pub CellsAreRight : Type 0
 CellsAreRight = (unit : Nodes) (table : Table) (v : Scopes) (r : Role) (e : Visit)
     → IsTyping unit table → IsAmong (Out v r e) (places_of unit) → is_kept v r e ≡ true → HasCell table v r e
+
+-- In a unit without a fault, each node has a type at its place.
+abbrev pub PlacesAreTyped : Type 0
+PlacesAreTyped = (unit : Nodes) (v : Scopes) (r : Role) (e : Visit)
+    → first_fault (places_of unit) ≡ None → IsAmong (Out v r e) (places_of unit) → (t : CType) × (type_of v r e ≡ Some t)
 
 -- What is written out for each kind is what is defined: the scopes behind a node, its type or first fault, and the table.
 abbrev pub ByCase : Type 0

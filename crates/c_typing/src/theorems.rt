@@ -1,7 +1,7 @@
 // The theorems of typing, each in the contract of a function that does nothing: a call of it hands the fact to a caller's
 // proof.
 
-ghost use Rattle.c_typing.specs.Theorems.{TypedHasNoFault, FaultsAreUnique, TypedOrAtFault, CellsAreRight, ByCase, UnitsByCase, UnitsByCase};
+ghost use Rattle.c_typing.specs.Theorems.{TypedHasNoFault, FaultsAreUnique, TypedOrAtFault, CellsAreRight, PlacesAreTyped, ByCase, UnitsByCase, UnitsByCase};
 
 /// A unit that is typed has no fault.
 pub fn typed_has_no_fault()
@@ -22,6 +22,11 @@ pub fn typed_or_at_fault()
 /// behind it.
 pub fn cells_are_right()
     ensures { CellsAreRight }
+{}
+
+/// In a unit without a fault, each node has a type at its place.
+pub fn places_are_typed()
+    ensures { PlacesAreTyped }
 {}
 
 /// What is written out for each kind of node is what is defined: the scopes behind a node, its type or first fault, and the
