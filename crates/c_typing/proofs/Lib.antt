@@ -7,5 +7,6 @@ pub mod DeclarationExamples
 pub mod Filled
 pub mod First
 pub mod Places
+pub mod Stay
 pub mod UnitExamples
 pub mod Units

@@ -7,7 +7,8 @@ use Rattle.c_typing.specs.Order.{visited, fill}
 use Rattle.c_typing.specs.Parts.{Visit, flat}
 use Rattle.c_typing.specs.Roles.{Role, Plain}
 use Rattle.c_typing.specs.Scopes.{Scopes, at_start}
-use Rattle.c_typing.specs.ScopesByCase.{scoped}
+use Rattle.c_typing.specs.ScopesByCase.{scoped, scoped_each}
+use Rattle.c_typing.specs.Stays.{Stays}
 use Rattle.c_typing.specs.TablesByCase.{filled, filled_each}
 use Rattle.c_typing.specs.Types.{CType}
 use Rattle.c_typing.specs.TypesByCase.{typed, typed_each}
@@ -48,3 +49,7 @@ UnitByCase unit (Err fault) = IsFirstFault unit fault
 
 abbrev pub UnitsByCase : Type 0
 UnitsByCase = (unit : Nodes) (found : Result CType Fault) → typed_each at_start Plain unit ≡ found → UnitByCase unit found
+
+-- Behind a node, and behind nodes one after the other, what was in force still is.
+abbrev pub ScopesStay : Type 0
+ScopesStay = (v : Scopes) (r : Role) → ((e : Node) → Stays v (scoped v r e)) × ((es : Nodes) → Stays v (scoped_each v r es))
