@@ -15,6 +15,11 @@ use Rattle.c_typing.specs.Tags.{sort_of, body_opened}
 next : (roles : Slot → Role) (slot : Slot) (v : Scopes) (e : Node) (es : Parts) → after v (roles slot) (flat e) ≡ scoped v (roles slot) e → after_all roles v (part slot (flat e) es) ≡ after_all roles (scoped v (roles slot) e) es
 next roles slot v e es h = ap (λ w. after_all roles w es) h
 
+-- all in one role
+pub beside-plain : (v : Scopes) (es : Nodes) → scoped_each v Plain es ≡ scoped_beside v Plain es
+beside-plain v no_more = refl
+beside-plain v (more e es) = beside-plain (scoped v Plain e) es
+
 mutual
   pub scoped-flat : (v : Scopes) (r : Role) (e : Node) → after v r (flat e) ≡ scoped v r e
   scoped-flat v r (node i p s) = ap (closed v r s) (within-flat v r s)
@@ -156,3 +161,4 @@ mutual
       next roles slot v e (each plain es none) (scoped-flat v (roles slot) e)
       ∙ each-flat roles plain (scoped v (roles slot) e) es none
       ∙ ap (λ r. scoped_each (scoped v (roles slot) e) r es) h
+      ∙ beside-plain (scoped v (roles slot) e) es

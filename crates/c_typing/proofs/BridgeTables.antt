@@ -22,6 +22,11 @@ use Rattle.c_typing.proofs.BridgeTypes.{typed_shape-flat}
 next : (roles : Slot → Role) (slot : Slot) (v : Scopes) (e : Node) (es : Parts) (table : Table) → fill v (roles slot) (flat e) table ≡ filled v (roles slot) e table → fill_all roles v (part slot (flat e) es) table ≡ fill_all roles (scoped v (roles slot) e) es (filled v (roles slot) e table)
 next roles slot v e es table h = ap (λ w. fill_all roles w es (fill v (roles slot) (flat e) table)) (scoped-flat v (roles slot) e) ∙ ap (λ t. fill_all roles (scoped v (roles slot) e) es t) h
 
+-- all in one role
+beside-plain : (v : Scopes) (es : Nodes) (table : Table) → filled_each v Plain es table ≡ filled_beside v Plain es table
+beside-plain v no_more table = refl
+beside-plain v (more e es) table = beside-plain (scoped v Plain e) es (filled v Plain e table)
+
 put-same : (v : Scopes) (r : Role) (s : Shape) (i : ℕ) {w u : Scopes} {a b : Result CType Fault} {x y : Table} → w ≡ u → a ≡ b → x ≡ y → put_kept (keeps w r s) i (var_of v w r s) a x ≡ put_kept (keeps u r s) i (var_of v u r s) b y
 put-same v r s i {w} {u} {a} {b} {x} {y} h k l =
     ap (λ z. put_kept (keeps z r s) i (var_of v z r s) a x) h
@@ -169,3 +174,4 @@ mutual
       next roles slot v e (each plain es none) table (filled-flat v (roles slot) e table)
       ∙ each-flat roles plain (scoped v (roles slot) e) es none (filled v (roles slot) e table)
       ∙ ap (λ r. filled_each (scoped v (roles slot) e) r es (filled v (roles slot) e table)) h
+      ∙ beside-plain (scoped v (roles slot) e) es (filled v (roles slot) e table)

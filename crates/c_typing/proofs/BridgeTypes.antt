@@ -33,6 +33,11 @@ bind-twice : (a b c : Result CType Fault) → (a >>= λ _. b >>= λ _. c) ≡ ((
 bind-twice (Ok t) b c = refl
 bind-twice (Err e) b c = refl
 
+-- all in one role
+beside-plain : (v : Scopes) (es : Nodes) → typed_beside v Plain es ≡ typed_each v Plain es
+beside-plain v no_more = refl
+beside-plain v (more e es) = bind-same (typed v Plain e) (λ _. typed_beside (scoped v Plain e) Plain es) (λ _. typed_each (scoped v Plain e) Plain es) (λ t. beside-plain (scoped v Plain e) es)
+
 -- the visit of a part and then the others, with the answer in their types; `f`: what is written out of the others
 next : (roles : Slot → Role) (slot : Slot) (v : Scopes) (e : Node) (es : Parts) (k : List CType → Result CType Fault) (f : Scopes → CType → Result CType Fault)
     → typed v (roles slot) e ≡ visited v (roles slot) (flat e)
@@ -284,6 +289,7 @@ mutual
       → (typed_beside v (roles slot) es >>= λ _. k) ≡ (visited_all roles v (first_in slot es) >>= λ _. k)
   beside-flat roles slot v no_more k h = refl
   beside-flat roles slot v (more e es) k h =
-      ap (λ r. (typed v (roles slot) e >>= λ _. typed_each (scoped v (roles slot) e) r es) >>= λ _. k) (sym h)
+      ap (λ a. (typed v (roles slot) e >>= λ _. a) >>= λ _. k) (beside-plain (scoped v (roles slot) e) es)
+      ∙ ap (λ r. (typed v (roles slot) e >>= λ _. typed_each (scoped v (roles slot) e) r es) >>= λ _. k) (sym h)
       ∙ sym (bind-twice (typed v (roles slot) e) (typed_each (scoped v (roles slot) e) (roles plain) es) k)
       ∙ next roles slot v e (each plain es none) (λ _. k) (λ w _. typed_each w (roles plain) es >>= λ _. k) (typed-flat v (roles slot) e) (λ w _. each-flat roles plain w es none k (λ _. k) (λ _. refl))

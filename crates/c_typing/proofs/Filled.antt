@@ -56,12 +56,12 @@ mutual
       kept_all roles (after v (roles slot) e) es (fill v (roles slot) e table) j (λ k. h (inr k))
       ∙ kept v (roles slot) e table j (λ k. h (inl k))
 
-both : (a : Result CType Fault) (b : Result (List CType) Fault) (ts : List CType) → (a >>= λ t. b >>= λ us. Ok (t ∷ us)) ≡ Ok ts → ((t : CType) × (a ≡ Ok t)) × ((us : List CType) × (b ≡ Ok us))
+pub both : (a : Result CType Fault) (b : Result (List CType) Fault) (ts : List CType) → (a >>= λ t. b >>= λ us. Ok (t ∷ us)) ≡ Ok ts → ((t : CType) × (a ≡ Ok t)) × ((us : List CType) × (b ≡ Ok us))
 both (Ok t) (Ok us) ts h = ((t, refl), (us, refl))
 both (Ok t) (Err e) ts h = cc
 both (Err e) b ts h = cc
 
-parts-fine : {A B : Type 0} (f : Option Fault) (a : Result A Fault) (k : A → Result B Fault) (y : B) → unless_fault f (a >>= k) ≡ Ok y → (x : A) × (a ≡ Ok x)
+pub parts-fine : {A B : Type 0} (f : Option Fault) (a : Result A Fault) (k : A → Result B Fault) (y : B) → unless_fault f (a >>= k) ≡ Ok y → (x : A) × (a ≡ Ok x)
 parts-fine None (Ok x) k y h = (x, refl)
 parts-fine None (Err e) k y h = cc
 parts-fine (Some f) a k y h = cc

@@ -6,5 +6,7 @@ pub mod ExpressionExamples
 pub mod DeclarationExamples
 pub mod Filled
 pub mod First
+pub mod Places
+pub mod Stay
 pub mod UnitExamples
 pub mod Units

@@ -6,7 +6,7 @@ use Rattle.c_tree.specs.declared.operator.BinaryOp.TheVariants as op
 use Rattle.c_tree.specs.declared.operator.StructOrUnion.TheVariants as which_word
 use Rattle.c_tree.specs.declared.operator.UnaryOp.TheVariants as prefix
 use Rattle.c_tree.specs.declared.token.TokenKind.TheVariants as kinds
-use Rattle.c_tree.specs.Node.{Node, node, Primary, Operation, Initializer, Specifier, Declarator, Part, PrimaryShape, OperationShape, StrConst, VaArg, Offsetof, Ident, Binary, Unary, CompoundLit, Braces, Designated, Named, Unnamed, MemberDesignator, IndexDesignator, EnumTag, Nodes, absent, present}
+use Rattle.c_tree.specs.Node.{Node, node, Primary, Operation, Initializer, Specifier, Declarator, Part, PrimaryShape, OperationShape, StrConst, VaArg, Offsetof, Ident, Binary, Unary, CompoundLit, Braces, Designated, Named, Unnamed, MemberDesignator, IndexDesignator, EnumTag, BitField, Iteration, Do, MaybeNode, Nodes, absent, present}
 use Rattle.c_typing.specs.Arithmetic as kind
 use Rattle.c_typing.specs.Definition.{Cell}
 use Rattle.c_typing.specs.Faults.{Undeclared, Redeclared}
@@ -16,7 +16,7 @@ use Rattle.c_typing.specs.Roles.{Plain}
 use Rattle.c_typing.specs.Scopes.{at_start}
 use Rattle.c_typing.specs.TablesByCase.{filled_each}
 use Rattle.c_typing.specs.Vars.{CVar, Extern, Param}
-use Rattle.c_typing.proofs.Building.{at, word, token, list, name, keyword, tag, tagged_body, body, specs, ints, chars, voids, type_in, member, declarator, plain, pointer, bound, no_params, params, param, declaration, function, block, statement, type_behind, fault_behind, fault_of}
+use Rattle.c_typing.proofs.Building.{at, word, token, list, name, keyword, tag, tagged_body, body, specs, ints, chars, voids, type_in, member, declarator, plain, pointer, bound, no_params, params, param, declaration, function, f_with, block, statement, type_behind, fault_behind, fault_of}
 
 -- the name x, as a node of its own number
 abbrev numbered : ℕ → ℕ → Node
@@ -116,3 +116,30 @@ enum_then_struct = refl
 
 enum_seen_inside : fault_of (declaration (specs (node 0 (at 1) (Specifier (EnumTag (word 5 1))) ∷ [])) [] ∷ block (declaration (specs (node 0 (at 2) (Specifier (EnumTag (word 5 2))) ∷ [])) [] ∷ declaration (specs (tag which_word.Struct 5 3 ∷ [])) (pointer 3 4 ∷ []) ∷ []) ∷ []) ≡ None
 enum_seen_inside = refl
+
+-- void f(struct s *p); struct s *q;: the tag of the parameters ends with their list
+tag_of_prototype : type_behind (declaration voids (declarator [] 0 0 (params (param (specs (tag which_word.Struct 5 1 ∷ [])) (pointer 3 1) ∷ []) ∷ []) ∷ []) ∷ declaration (specs (tag which_word.Struct 5 2 ∷ [])) (pointer 4 3 ∷ []) ∷ []) (name 4 0) ≡ Some (Pointer (Struct 1))
+unfolding occurrences as_often
+tag_of_prototype = refl
+
+abbrev bits : MaybeNode → Node → Node
+bits d width = node 0 (at 0) (Specifier (BitField d width))
+
+-- struct s { int a : x; int : y; } z; where x is declared: the fault is in the second width
+widths : fault_of (declaration ints (plain 1 1 ∷ []) ∷ declaration (specs (tagged_body which_word.Struct 5 1 (member ints (bits (present (plain 7 2)) (name 1 3) ∷ []) ∷ member ints (bits absent (name 2 4) ∷ []) ∷ []) ∷ [])) [] ∷ []) ≡ Some (Undeclared (at 4) 2)
+unfolding occurrences as_often
+widths = refl
+
+-- struct s { int a; int a : y; };: the name comes before the width
+name_before_width : fault_of (declaration (specs (tagged_body which_word.Struct 5 1 (member ints (plain 7 2 ∷ bits (present (plain 7 3)) (name 2 4) ∷ []) ∷ []) ∷ [])) [] ∷ []) ≡ Some (Redeclared (at 3) 7)
+unfolding occurrences as_often
+name_before_width = refl
+
+-- do x; while (y);: the body comes before the condition
+body_before_condition : fault_of (f_with [] (node 0 (at 2) (Iteration (Do (statement (name 1 3)) (name 2 5))) ∷ []) ∷ []) ≡ Some (Undeclared (at 3) 1)
+unfolding occurrences as_often
+body_before_condition = refl
+
+-- sizeof x: the operand is typed
+sizeof_undeclared : fault_behind [] (expression (Unary prefix.Sizeof (name 1 5))) ≡ Some (Undeclared (at 5) 1)
+sizeof_undeclared = refl

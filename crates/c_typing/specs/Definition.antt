@@ -85,12 +85,6 @@ at (suc i) (x ∷ xs) = at i xs
 abbrev pub number_of : Visit → ℕ
 number_of (visit i p s es) = i
 
-abbrev pub shape_of : Visit → Shape
-shape_of (visit i p s es) = s
-
-abbrev pub parts_of : Visit → Parts
-parts_of (visit i p s es) = es
-
 -- THE VARIABLE behind a node at its place
 abbrev pub var_at : Scopes → Role → Visit → Option CVar
 var_at v r (visit i p s es) = var_of v (behind_parts v r s es) r s

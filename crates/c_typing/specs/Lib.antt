@@ -19,4 +19,5 @@ pub mod TypesByCase
 pub mod TablesByCase
 pub mod Unit
 pub mod Functions
+pub mod Stays
 pub mod Theorems

@@ -69,7 +69,7 @@ behind_members v r specs _ w = w
 abbrev pub behind_specifier : Scopes → Role → SpecifierShape → Scopes → Scopes
 behind_specifier v r (StructTag which tag) w = mentioned w (mention r) (sort_of which) tag.name
 behind_specifier v r (EnumTag tag) w = mentioned w (mention r) Enums tag.name
-behind_specifier v r (StructBody which tag members) w = record w { complete = body_number v (sort_of which) tag ∷ w.complete }
+behind_specifier v r (StructBody which tag members) w = record w { complete = w.complete ++ (body_number v (sort_of which) tag ∷ []) }
 behind_specifier v r (StructDeclaration specs declarators) w = behind_members v r specs declarators w
 behind_specifier v r _ w = w
 

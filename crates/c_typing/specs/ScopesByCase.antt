@@ -115,4 +115,4 @@ abbrev mutual
   -- the first in this role
   pub scoped_beside : Scopes → Role → Nodes → Scopes
   scoped_beside v r no_more = v
-  scoped_beside v r (more e es) = scoped_each (scoped v r e) Plain es
+  scoped_beside v r (more e es) = scoped_beside (scoped v r e) Plain es

@@ -120,4 +120,4 @@ abbrev mutual
   -- the first in this role
   pub filled_beside : Scopes → Role → Nodes → Table → Table
   filled_beside v r no_more table = table
-  filled_beside v r (more e es) table = filled_each (scoped v r e) Plain es (filled v r e table)
+  filled_beside v r (more e es) table = filled_beside (scoped v r e) Plain es (filled v r e table)

@@ -1,13 +1,14 @@
 -- The theorems of this crate as statements, which contracts can name.
-use Rattle.std.specs.Prelude.{◌≡◌, ◌⊎◌, true, [], Result, Ok, Err}
+use Rattle.std.specs.Prelude.{◌≡◌, ◌⊎◌, true, [], None, Some, Result, Ok, Err}
 use Rattle.c_tree.specs.Node.{Node, Nodes}
-use Rattle.c_typing.specs.Definition.{after, Out, Table, IsAmong, is_kept, HasCell}
+use Rattle.c_typing.specs.Definition.{after, type_of, Out, first_fault, Table, IsAmong, is_kept, HasCell}
 use Rattle.c_typing.specs.Faults.{Fault}
 use Rattle.c_typing.specs.Order.{visited, fill}
 use Rattle.c_typing.specs.Parts.{Visit, flat}
 use Rattle.c_typing.specs.Roles.{Role, Plain}
 use Rattle.c_typing.specs.Scopes.{Scopes, at_start}
-use Rattle.c_typing.specs.ScopesByCase.{scoped}
+use Rattle.c_typing.specs.ScopesByCase.{scoped, scoped_each}
+use Rattle.c_typing.specs.Stays.{Stays}
 use Rattle.c_typing.specs.TablesByCase.{filled, filled_each}
 use Rattle.c_typing.specs.Types.{CType}
 use Rattle.c_typing.specs.TypesByCase.{typed, typed_each}
@@ -30,6 +31,11 @@ abbrev pub CellsAreRight : Type 0
 CellsAreRight = (unit : Nodes) (table : Table) (v : Scopes) (r : Role) (e : Visit)
     → IsTyping unit table → IsAmong (Out v r e) (places_of unit) → is_kept v r e ≡ true → HasCell table v r e
 
+-- In a unit without a fault, each node has a type at its place.
+abbrev pub PlacesAreTyped : Type 0
+PlacesAreTyped = (unit : Nodes) (v : Scopes) (r : Role) (e : Visit)
+    → first_fault (places_of unit) ≡ None → IsAmong (Out v r e) (places_of unit) → (t : CType) × (type_of v r e ≡ Some t)
+
 -- What is written out for each kind is what is defined: the scopes behind a node, its type or first fault, and the table.
 abbrev pub ByCase : Type 0
 ByCase = (v : Scopes) (r : Role) (e : Node) (table : Table)
@@ -43,3 +49,7 @@ UnitByCase unit (Err fault) = IsFirstFault unit fault
 
 abbrev pub UnitsByCase : Type 0
 UnitsByCase = (unit : Nodes) (found : Result CType Fault) → typed_each at_start Plain unit ≡ found → UnitByCase unit found
+
+-- Behind a node, and behind nodes one after the other, what was in force still is.
+abbrev pub ScopesStay : Type 0
+ScopesStay = (v : Scopes) (r : Role) → ((e : Node) → Stays v (scoped v r e)) × ((es : Nodes) → Stays v (scoped_each v r es))

@@ -183,4 +183,4 @@ abbrev mutual
   -- the first in this role
   pub typed_beside : Scopes → Role → Nodes → Result CType Fault
   typed_beside v r no_more = Ok Void
-  typed_beside v r (more e es) = typed v r e >>= λ _. typed_each (scoped v r e) Plain es
+  typed_beside v r (more e es) = typed v r e >>= λ _. typed_beside (scoped v r e) Plain es

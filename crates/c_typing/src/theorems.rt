@@ -1,7 +1,7 @@
 // The theorems of typing, each in the contract of a function that does nothing: a call of it hands the fact to a caller's
 // proof.
 
-ghost use Rattle.c_typing.specs.Theorems.{TypedHasNoFault, FaultsAreUnique, TypedOrAtFault, CellsAreRight, ByCase, UnitsByCase, UnitsByCase};
+ghost use Rattle.c_typing.specs.Theorems.{TypedHasNoFault, FaultsAreUnique, TypedOrAtFault, CellsAreRight, PlacesAreTyped, ByCase, UnitsByCase, ScopesStay};
 
 /// A unit that is typed has no fault.
 pub fn typed_has_no_fault()
@@ -24,6 +24,11 @@ pub fn cells_are_right()
     ensures { CellsAreRight }
 {}
 
+/// In a unit without a fault, each node has a type at its place.
+pub fn places_are_typed()
+    ensures { PlacesAreTyped }
+{}
+
 /// What is written out for each kind of node is what is defined: the scopes behind a node, its type or first fault, and the
 /// table.
 pub fn by_case()
@@ -34,4 +39,9 @@ pub fn by_case()
 /// or its fault is the first.
 pub fn units_by_case()
     ensures { UnitsByCase }
+{}
+
+/// Behind a node, and behind nodes one after the other, the names and tags of before are still in force, in the same scope.
+pub fn scopes_stay()
+    ensures { ScopesStay }
 {}
