@@ -3,3 +3,7 @@ pub mod ExamplesOfFaults
 pub mod ExamplesOfSyntax
 pub mod ExamplesOfOrder
 pub mod ExamplesOfMachines
+pub mod Carried
+pub mod SoundParts
+pub mod SoundRules
+pub mod Sound
