@@ -7,3 +7,6 @@ pub mod Carried
 pub mod SoundParts
 pub mod SoundRules
 pub mod Sound
+pub mod CompleteParts
+pub mod CompleteRules
+pub mod Complete
