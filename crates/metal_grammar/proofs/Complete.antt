@@ -1,8 +1,7 @@
 -- Each clause is read, so symbols are at most one clause.
 use Rattle.std.proofs.Common.{◌≡◌, ℕ, suc, Bool, true, false, nat_eq, ◌&&◌, is_some, bytes_eq, List, [], ◌∷◌, length, codes, Option, None, Some, ap, refl, ◌∙◌, sym, subst, arith}
-use Rattle.c_tree.specs.declared.keyword.Keyword.{Keyword}
 use Rattle.c_tree.specs.declared.punctuator.Punctuator.TheVariants as marks
-use Rattle.c_tree.specs.Symbol.{Symbol, Word, Reserved, Sign}
+use Rattle.c_tree.specs.Symbol.{Symbol, Word, Sign}
 use Rattle.c_tree.specs.Phrase.{phrase_then, sign}
 use Rattle.c_grammar.specs.Symbols.{is_sign, begins}
 use Rattle.c_grammar.proofs.Options.{both, same}
@@ -11,8 +10,8 @@ use Rattle.metal_grammar.specs.Written.{Row, lone, row, WrittenType, KindOfHole,
 use Rattle.metal_grammar.specs.Phrases.{word, row_phrase, maybe_phrase, sign_if, type_phrase, declaration_phrase, state_phrase, rule_phrase, content_phrase, head_phrase, clause_tokens}
 use Rattle.metal_grammar.specs.Holes.{hole_type}
 use Rattle.metal_grammar.specs.Grammar.{Before, EachIs, IsContent, is_type, may_have, spelled_if, is_declaration, is_head, is_content, may_contain, IsClause}
-use Rattle.metal_grammar.specs.Steps.{take_word, read_type, read_row, read_declared, read_declaration, has_sign, is_colon_or_dot, begins_section, is_type_symbol, read_content}
-use Rattle.metal_grammar.specs.Reading.{read_head, after_closing, if_at_end, read_clause}
+use Rattle.metal_grammar.specs.Steps.{take_word, read_declared, read_declaration, has_sign, is_colon_or_dot, begins_section, is_type_symbol, read_content}
+use Rattle.metal_grammar.specs.Reading.{read_head, after_closing, read_clause}
 use Rattle.metal_grammar.proofs.CompleteParts.{Knows, row_longer, row-complete, type-complete, no_words}
 use Rattle.metal_grammar.proofs.CompleteRules.{section-complete}
 

@@ -1,10 +1,10 @@
 -- Each type, name of a state, callout and row of things is read, where what follows doesn't go on with it.
-use Rattle.std.proofs.Common.{◌≡◌, ℕ, zero, suc, ◌+◌, ◌≤◌, Bool, true, false, ◌&&◌, List, [], ◌∷◌, ◌++◌, length, map, filter_map, Option, None, Some, ap, refl, ◌∙◌, arith}
+use Rattle.std.proofs.Common.{◌≡◌, ℕ, zero, suc, ◌+◌, ◌≤◌, Bool, true, false, List, [], ◌∷◌, ◌++◌, length, map, filter_map, Option, None, Some, ap, refl, arith}
 use Rattle.c_tree.specs.declared.keyword.Keyword.{Keyword}
 use Rattle.c_tree.specs.declared.operator.StructOrUnion.TheVariants as which_word
 use Rattle.c_tree.specs.declared.punctuator.Punctuator.{Punctuator}
 use Rattle.c_tree.specs.declared.punctuator.Punctuator.TheVariants as marks
-use Rattle.c_tree.specs.Symbol.{Symbol, Word, Reserved, Sign, IntLiteral}
+use Rattle.c_tree.specs.Symbol.{Symbol, Reserved, Sign, IntLiteral}
 use Rattle.c_tree.specs.Phrase.{Phrase, phrase_then, sign}
 use Rattle.c_grammar.specs.Symbols.{is_sign, after_sign, begins, AreAll}
 use Rattle.c_grammar.specs.Specifiers.{is_among, is_basic}

@@ -1,7 +1,7 @@
 -- Each item, action, rule and section is read, where what follows doesn't go on with it.
-use Rattle.std.proofs.Common.{◌≡◌, ℕ, zero, suc, ◌+◌, ◌≤◌, ◌<◌, Bool, true, false, ◌&&◌, List, [], ◌∷◌, length, Option, None, Some, ap, refl, arith}
+use Rattle.std.proofs.Common.{◌≡◌, ℕ, zero, suc, ◌≤◌, ◌<◌, Bool, true, false, ◌&&◌, List, [], ◌∷◌, length, Option, None, Some, refl, arith}
 use Rattle.c_tree.specs.declared.punctuator.Punctuator.TheVariants as marks
-use Rattle.c_tree.specs.Symbol.{Symbol, Word, Sign, IntLiteral, StringLiteral}
+use Rattle.c_tree.specs.Symbol.{Symbol, Word, Sign, IntLiteral}
 use Rattle.c_tree.specs.Syntax.{Syntax}
 use Rattle.c_tree.specs.Phrase.{phrase_then, sign}
 use Rattle.c_tree.specs.Tokens.{tokens_then}
@@ -11,13 +11,12 @@ use Rattle.c_grammar.specs.Nonterminal.{Expression}
 use Rattle.c_grammar.specs.Following.{Ends}
 use Rattle.c_grammar.proofs.Options.{both}
 use Rattle.c_grammar.proofs.Complete.{read-complete}
-use Rattle.c_grammar.proofs.Longer.{longer}
 use Rattle.metal_grammar.specs.Words.{Spelling, Literal}
-use Rattle.metal_grammar.specs.Written.{Row, lone, row, StateName, OfMachine, OfVariable, WrittenCallout, Digit, Asked, WrittenItem, Pattern, Callout, Dollars, Destination, To, Split, WrittenAction, Alternative, WrittenRule, Section}
+use Rattle.metal_grammar.specs.Written.{Row, lone, row, OfMachine, OfVariable, WrittenCallout, Digit, Asked, WrittenItem, Pattern, Callout, Dollars, Destination, To, Split, WrittenAction, Alternative, WrittenRule, Section}
 use Rattle.metal_grammar.specs.Phrases.{row_phrase, each_phrase, maybe_phrase, sign_if, state_phrase, callout_phrase, literals_phrase, item_phrase, alternative_phrase, destination_phrase, identifier_phrase, action_phrase, rule_phrase, section_phrase}
 use Rattle.metal_grammar.specs.Holes.{DeclaredHole}
 use Rattle.metal_grammar.specs.Grammar.{each, EachIs, IsItem, IsAlternative, IsRule, is_item, is_callout, is_alternative, is_destination, is_action, is_rule}
-use Rattle.metal_grammar.specs.Steps.{has_sign, behind_sign, read_pattern, read_item, read_alternative, read_destination, read_literals, read_identifiers, read_action, read_maybe_action, read_rule, read_section}
+use Rattle.metal_grammar.specs.Steps.{has_sign, behind_sign, read_pattern, read_item, read_alternative, read_destination, read_literals, read_identifiers, read_maybe_action, read_rule, read_section}
 use Rattle.metal_grammar.proofs.CompleteParts.{Knows, each_both, row_longer, row-complete, state-complete, callout-complete}
 
 -- a `;` before a closing brace, where it is there
@@ -134,7 +133,7 @@ rule-complete spelling holes x r w e =
     let Y = Sign marks.LongArrow ∷ phrase_then (destination_phrase x.destination) Z in
     rw (
       row-complete read_alternative alternative_phrase (AlternativeIs spelling holes) (λ r. after_sign marks.AndAnd r ≡ None) marks.OrOr (suc (length (phrase_then (rule_phrase x) r))) x.alternatives Y
-      (alternative-complete spelling holes) (λ ts. refl) (each_both IsAlternative (is_alternative spelling holes) x.alternatives w.0 c.0) refl refl (row_longer alternative_phrase marks.OrOr x.alternatives Y),
+          (alternative-complete spelling holes) (λ ts. refl) (each_both IsAlternative (is_alternative spelling holes) x.alternatives w.0 c.0) refl refl (row_longer alternative_phrase marks.OrOr x.alternatives Y),
       destination-complete x.destination Z (no_dot x.action r e.dot) (no_equals x.action r e.equals),
       maybe_action-complete x.action r e.comma,
     ) refl
@@ -147,6 +146,6 @@ section-complete spelling holes s r w h =
     rw (
       state-complete s.source (Sign marks.Colon ∷ Y) refl,
       row-complete read_rule rule_phrase (RuleIs spelling holes) EndsRule marks.Bar (suc (length Y)) s.rules Z
-      (rule-complete spelling holes) (λ ts. record { dot = refl; equals = refl; comma = refl }) (each_both IsRule (is_rule spelling holes) s.rules w h) (record { dot = refl; equals = refl; comma = refl }) refl
-      (row_longer rule_phrase marks.Bar s.rules Z),
+          (rule-complete spelling holes) (λ ts. record { dot = refl; equals = refl; comma = refl }) (each_both IsRule (is_rule spelling holes) s.rules w h) (record { dot = refl; equals = refl; comma = refl }) refl
+          (row_longer rule_phrase marks.Bar s.rules Z),
     ) refl

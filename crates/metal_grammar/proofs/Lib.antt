@@ -10,3 +10,5 @@ pub mod Sound
 pub mod CompleteParts
 pub mod CompleteRules
 pub mod Complete
+pub mod Texts
+pub mod Machines

@@ -1,5 +1,5 @@
 -- What is read as a clause is one.
-use Rattle.std.proofs.Common.{◌≡◌, ℕ, suc, Bool, true, false, ◌&&◌, is_some, List, [], ◌∷◌, length, codes, Option, None, Some, inl, inr, ap, refl, ◌∙◌, sym, subst}
+use Rattle.std.proofs.Common.{◌≡◌, ℕ, suc, Bool, true, false, ◌&&◌, is_some, List, [], ◌∷◌, length, codes, Option, None, Some, inl, inr, ap, refl, ◌∙◌, subst}
 use Rattle.c_tree.specs.declared.punctuator.Punctuator.TheVariants as marks
 use Rattle.c_tree.specs.Symbol.{Symbol, Word, Sign}
 use Rattle.c_tree.specs.Phrase.{phrase_then, sign}
@@ -7,12 +7,12 @@ use Rattle.c_grammar.specs.Symbols.{after_sign}
 use Rattle.c_grammar.proofs.Options.{bound, when, which, both, same}
 use Rattle.c_grammar.proofs.Front.{taken}
 use Rattle.metal_grammar.specs.Words.{Spelling, is_spelled}
-use Rattle.metal_grammar.specs.Written.{Declaration, Section, Content, Nothing, Declares, Rules, Clause}
-use Rattle.metal_grammar.specs.Phrases.{word, row_phrase, maybe_phrase, sign_if, type_phrase, declaration_phrase, content_phrase, head_phrase, clause_phrase, clause_tokens}
+use Rattle.metal_grammar.specs.Written.{Declaration, Content, Nothing, Declares, Rules, Clause}
+use Rattle.metal_grammar.specs.Phrases.{word, row_phrase, maybe_phrase, sign_if, type_phrase, declaration_phrase, content_phrase, head_phrase}
 use Rattle.metal_grammar.specs.Grammar.{Before, IsContent, is_head, is_content, may_contain, IsClause}
-use Rattle.metal_grammar.specs.Steps.{take_word, read_row, read_type, read_declared, read_declaration, read_section, has_sign, begins_section, read_declares, read_rules, read_content}
+use Rattle.metal_grammar.specs.Steps.{take_word, read_row, read_type, read_declared, read_declaration, read_section, has_sign, begins_section, read_content}
 use Rattle.metal_grammar.specs.Reading.{read_head, after_closing, if_at_end, read_clause}
-use Rattle.metal_grammar.proofs.Carried.{IsSound, Stands, carried, taken_word}
+use Rattle.metal_grammar.proofs.Carried.{IsSound, carried, taken_word}
 use Rattle.metal_grammar.proofs.SoundParts.{row-sound, type-sound}
 use Rattle.metal_grammar.proofs.SoundRules.{section-sound}
 

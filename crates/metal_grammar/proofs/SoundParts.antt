@@ -1,11 +1,11 @@
 -- What is read as a type, a name of a state, a callout or a row of things is one.
-use Rattle.std.proofs.Common.{◌≡◌, ℕ, zero, suc, Bool, true, false, List, [], ◌∷◌, ◌++◌, length, map, filter_map, Option, None, Some, inl, inr, ap, refl, ◌∙◌, sym}
+use Rattle.std.proofs.Common.{◌≡◌, ℕ, zero, suc, List, [], ◌∷◌, ◌++◌, length, map, filter_map, Option, None, Some, inl, inr, ap, refl, ◌∙◌, sym}
 use Rattle.c_tree.specs.declared.keyword.Keyword.TheVariants as words
 use Rattle.c_tree.specs.declared.operator.StructOrUnion.{StructOrUnion}
 use Rattle.c_tree.specs.declared.operator.StructOrUnion.TheVariants as which_word
 use Rattle.c_tree.specs.declared.punctuator.Punctuator.{Punctuator}
 use Rattle.c_tree.specs.declared.punctuator.Punctuator.TheVariants as marks
-use Rattle.c_tree.specs.Symbol.{Symbol, Word, Reserved, Sign, StringLiteral}
+use Rattle.c_tree.specs.Symbol.{Symbol, Word, Reserved, Sign}
 use Rattle.c_tree.specs.Phrase.{Phrase, phrase_then, sign}
 use Rattle.c_tree.specs.Tokens.{word_of}
 use Rattle.c_grammar.specs.Symbols.{is_sign, after_sign, after_keyword, take_symbol, run_of, after_run, AreAll}
@@ -13,7 +13,7 @@ use Rattle.c_grammar.proofs.Options.{bound, chosen}
 use Rattle.c_grammar.proofs.Front.{taken, taken_keyword, take_symbol_some, is_sign-true, run-all, run-has}
 use Rattle.metal_grammar.specs.Words.{Literal}
 use Rattle.metal_grammar.specs.Written.{Row, lone, row, WrittenType, KindOfHole, BasicType, TagType, StateName, OfMachine, OfVariable, Argument, Name, Text, WrittenCallout, Digit, Asked}
-use Rattle.metal_grammar.specs.Phrases.{row_phrase, maybe_phrase, stars, type_phrase, state_phrase, literal_phrase, argument_phrase, text_phrase, callout_phrase}
+use Rattle.metal_grammar.specs.Phrases.{row_phrase, stars, type_phrase, state_phrase, argument_phrase, text_phrase, callout_phrase}
 use Rattle.metal_grammar.specs.Grammar.{EachIs}
 use Rattle.metal_grammar.specs.Steps.{Step, take_word, take_literal, read_row, is_type_symbol, keyword_in, type_with_stars, read_tag_type, read_type, read_state, read_argument, read_text, is_integer, read_callout}
 use Rattle.metal_grammar.proofs.Carried.{IsSound, Stands, carried, taken_word, taken_literal}
