@@ -12,3 +12,7 @@ pub mod CompleteRules
 pub mod Complete
 pub mod Texts
 pub mod Machines
+pub mod Plain
+pub mod Cuts
+pub mod Passing
+pub mod Whole

@@ -1,9 +1,9 @@
 -- The theorems of this crate as statements, which contracts can name.
-use Rattle.std.specs.Prelude.{◌≡◌, ◌↔◌, ◌⊎◌, ℕ, List}
+use Rattle.std.specs.Prelude.{◌≡◌, ◌↔◌, ◌⊎◌, ℕ, true, List}
 use Rattle.c_tree.specs.Symbol.{Symbol}
 use Rattle.metal_grammar.specs.Words.{Spelling}
 use Rattle.metal_grammar.specs.Written.{Clause}
-use Rattle.metal_grammar.specs.Grammar.{IsText, IsSyntaxFault}
+use Rattle.metal_grammar.specs.Grammar.{nothing_before, IsText, IsSyntaxFault, text_tokens, AreWellFormed}
 use Rattle.metal_grammar.specs.Machine.{Machine}
 use Rattle.metal_grammar.specs.FirstFault.{Fault}
 use Rattle.metal_grammar.specs.Definition.{IsMachine, IsFirstFault}
@@ -41,3 +41,7 @@ MachineOrFault = (spelling : Spelling) (ts : List Symbol) → ((m : Machine) × 
 
 abbrev pub NeverBoth : Type 0
 NeverBoth = (spelling : Spelling) (ts : List Symbol) (m : Machine) (fault : Fault) → IsMachine spelling ts m → IsFirstFault spelling ts fault → ⊥
+
+-- Symbols are a text just where they are its tokens and it is well-formed. So clauses are cut where the grammar has them.
+abbrev pub TextsAreTheirTokens : Type 0
+TextsAreTheirTokens = (spelling : Spelling) (ts : List Symbol) (cs : List Clause) → IsText spelling cs ts ↔ ((ts ≡ text_tokens cs) × AreWellFormed spelling nothing_before true cs)
