@@ -122,10 +122,11 @@ callout-sound ts c r h =
           let x = bound (read_argument a.0) _ _ a.2 in
           let t = bound (read_text x.0.1) _ _ x.2 in
           let e = bound (after_sign marks.CloseParen t.0.1) _ _ t.2 in
-          carried (λ z y. ts ≡ phrase_then (callout_phrase z) y) (Asked o.0.0 x.0.0 t.0.0) c e.0 r e.2
-          (taken_word ts o.0.0 o.0.1 o.1
-          ∙ ap (λ z. Word o.0.0 ∷ z) (taken marks.OpenParen o.0.1 a.0 a.1
-          ∙ ap (λ z. Sign marks.OpenParen ∷ z) (argument-sound a.0 x.0.0 x.0.1 x.1
-          ∙ ap (λ z. phrase_then (argument_phrase x.0.0) z) (text-sound x.0.1 t.0.0 t.0.1 t.1
-          ∙ ap (λ z. phrase_then (text_phrase t.0.0) z) (taken marks.CloseParen t.0.1 e.0 e.1)))))
+          let end : x.0.1 ≡ phrase_then (text_phrase t.0.0) (Sign marks.CloseParen ∷ e.0) =
+          text-sound x.0.1 t.0.0 t.0.1 t.1 ∙ ap (λ z. phrase_then (text_phrase t.0.0) z) (taken marks.CloseParen t.0.1 e.0 e.1) in
+          let inside : a.0 ≡ phrase_then (argument_phrase x.0.0) (phrase_then (text_phrase t.0.0) (Sign marks.CloseParen ∷ e.0)) =
+          argument-sound a.0 x.0.0 x.0.1 x.1 ∙ ap (λ z. phrase_then (argument_phrase x.0.0) z) end in
+          let behind : o.0.1 ≡ Sign marks.OpenParen ∷ phrase_then (argument_phrase x.0.0) (phrase_then (text_phrase t.0.0) (Sign marks.CloseParen ∷ e.0)) =
+          taken marks.OpenParen o.0.1 a.0 a.1 ∙ ap (λ z. Sign marks.OpenParen ∷ z) inside in
+          carried (λ z y. ts ≡ phrase_then (callout_phrase z) y) (Asked o.0.0 x.0.0 t.0.0) c e.0 r e.2 (taken_word ts o.0.0 o.0.1 o.1 ∙ ap (λ z. Word o.0.0 ∷ z) behind)
     ]

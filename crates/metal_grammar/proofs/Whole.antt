@@ -94,6 +94,74 @@ are_clauses spelling before is_first (c ∷ []) w = (w, tt)
 are_clauses spelling before is_first (c ∷ d ∷ cs) w = (w.0, are_clauses spelling (behind_content spelling c.content before) false (d ∷ cs) w.1)
 
 -- cutting loses nothing
-joined : List (List Symbol) → List Symbol
+abbrev joined : List (List Symbol) → List Symbol
 joined [] = []
 joined (c ∷ cs) = c ++ joined cs
+
+with_nothing : (ts : List Symbol) → ts ++ [] ≡ ts
+with_nothing [] = refl
+with_nothing (t ∷ ts) = ap (λ x. t ∷ x) (with_nothing ts)
+
+joined_front : (t : Symbol) (cs : List (List Symbol)) → joined (in_front t cs) ≡ t ∷ joined cs
+joined_front t [] = refl
+joined_front t (c ∷ cs) = refl
+
+joined_by : (a b e : Bool) (ts : List Symbol) (others : List (List Symbol)) → joined others ≡ ts → joined (cond a (ts ∷ []) (cond b (cond e (ts ∷ []) ([] ∷ others)) others)) ≡ ts
+joined_by true b e ts others h = with_nothing ts
+joined_by false true true ts others h = with_nothing ts
+joined_by false true false ts others h = h
+joined_by false false e ts others h = h
+
+joined_all : (depth : ℕ) (ts : List Symbol) → joined (clauses_from depth ts) ≡ ts
+joined_all depth [] = refl
+joined_all depth (t ∷ ts) =
+    joined_front t (clauses_behind depth t ts (clauses_from (open_behind depth t) ts))
+    ∙ ap (λ x. t ∷ x) (joined_by (closes depth t) (ends_clause depth t) (ends_here ts) ts (clauses_from (open_behind depth t) ts) (joined_all (open_behind depth t) ts))
+
+append_behind : (ss a r : List Symbol) → ss ++ (a ++ r) ≡ (ss ++ a) ++ r
+append_behind [] a r = refl
+append_behind (s ∷ ss) a r = ap (λ x. s ∷ x) (append_behind ss a r)
+
+phrase_behind : (p : Phrase) (a r : List Symbol) → phrase_then p (a ++ r) ≡ phrase_then p a ++ r
+phrase_behind nothing a r = refl
+phrase_behind (one s) a r = refl
+phrase_behind (all ss) a r = append_behind ss a r
+phrase_behind (p ⨾ q) a r = ap (phrase_then p) (phrase_behind q a r) ∙ phrase_behind p (phrase_then q a) r
+
+texts_joined : (spelling : Spelling) (before : Before) (is_first : Bool) (cs : List Clause) (tss : List (List Symbol)) → AreClauses spelling before is_first cs tss → joined tss ≡ text_tokens cs
+texts_joined spelling before is_first [] [] w = refl
+texts_joined spelling before is_first [] (ts ∷ tss) w = absurd w
+texts_joined spelling before is_first (c ∷ cs) [] w = absurd w
+texts_joined spelling before is_first (c ∷ cs) (ts ∷ tss) w =
+    ap (λ x. x ++ joined tss) w.0.tokens
+    ∙ ap (λ x. clause_tokens c ++ x) (texts_joined spelling (behind_content spelling c.content before) false cs tss w.1)
+    ∙ sym (phrase_behind (clause_phrase c) [] (text_tokens cs))
+
+well_formed : (spelling : Spelling) (before : Before) (is_first : Bool) (cs : List Clause) (ts : List Symbol) (tss : List (List Symbol)) → AreClauses spelling before is_first cs (ts ∷ tss) → AreWellFormed spelling before is_first cs
+well_formed spelling before is_first [] ts tss w = absurd w
+well_formed spelling before is_first (c ∷ []) ts [] w = subst (λ x. IsClause spelling before is_first true c x) w.0.tokens w.0
+well_formed spelling before is_first (c ∷ []) ts (us ∷ tss) w = absurd w.1
+well_formed spelling before is_first (c ∷ d ∷ cs) ts [] w = absurd w.1
+well_formed spelling before is_first (c ∷ d ∷ cs) ts (us ∷ tss) w =
+    (subst (λ x. IsClause spelling before is_first false c x) w.0.tokens w.0, well_formed spelling (behind_content spelling c.content before) false (d ∷ cs) us tss w.1)
+
+front_some : (t : Symbol) (cs : List (List Symbol)) → (x : List Symbol) × (xs : List (List Symbol)) × (in_front t cs ≡ x ∷ xs)
+front_some t [] = (t ∷ [], [], refl)
+front_some t (c ∷ cs) = (t ∷ c, cs, refl)
+
+-- a text has one clause at least
+some_clause : (depth : ℕ) (ts : List Symbol) → (x : List Symbol) × (xs : List (List Symbol)) × (clauses_from depth ts ≡ x ∷ xs)
+some_clause depth [] = ([], [], refl)
+some_clause depth (t ∷ ts) = front_some t (clauses_behind depth t ts (clauses_from (open_behind depth t) ts))
+
+tokens-sound : (spelling : Spelling) (ts : List Symbol) (cs : List Clause) → IsText spelling cs ts → (ts ≡ text_tokens cs) × AreWellFormed spelling nothing_before true cs
+tokens-sound spelling ts cs w =
+    let s = some_clause 0 ts in
+    (sym (joined_all 0 ts) ∙ texts_joined spelling nothing_before true cs (clauses_of ts) w, well_formed spelling nothing_before true cs s.0 s.1 (subst (AreClauses spelling nothing_before true cs) s.2 w))
+
+tokens-complete : (spelling : Spelling) (ts : List Symbol) (cs : List Clause) → ts ≡ text_tokens cs → AreWellFormed spelling nothing_before true cs → IsText spelling cs ts
+tokens-complete spelling ts cs e w =
+    subst (λ x. AreClauses spelling nothing_before true cs x) (sym (ap clauses_of e ∙ cut spelling nothing_before true cs w)) (are_clauses spelling nothing_before true cs w)
+
+pub texts_are_their_tokens : TextsAreTheirTokens
+texts_are_their_tokens spelling ts cs = (tokens-sound spelling ts cs, λ p. tokens-complete spelling ts cs p.0 p.1)

@@ -10,8 +10,14 @@ ghost use Rattle.metal_grammar.specs.Theorems.{
   NeverBoth,
   SyntaxFaultsAreRead,
   TextsAreRead,
+  TextsAreTheirTokens,
   TextsAreUnique,
 };
+
+/// Symbols are the text of clauses just where they are the tokens of these and the clauses are well-formed.
+pub fn texts_are_their_tokens()
+    ensures { TextsAreTheirTokens }
+{}
 
 /// The plain reader finds all clauses of symbols just where they are the text of these clauses.
 pub fn texts_are_read()
