@@ -3,6 +3,7 @@ pub mod ExamplesOfFaults
 pub mod ExamplesOfSyntax
 pub mod ExamplesOfOrder
 pub mod ExamplesOfMachines
+pub mod ExamplesOfLimits
 pub mod Carried
 pub mod SoundParts
 pub mod SoundRules

@@ -4,20 +4,20 @@ use Rattle.c_tree.specs.declared.keyword.Keyword.{Keyword}
 use Rattle.c_tree.specs.declared.operator.StructOrUnion.TheVariants as which_word
 use Rattle.c_tree.specs.declared.punctuator.Punctuator.TheVariants as marks
 use Rattle.c_tree.specs.Symbol.{Reserved, IntLiteral}
-use Rattle.c_tree.specs.Phrase.{Phrase, nothing, ◌⨾◌, phrase_then, sign}
+use Rattle.c_tree.specs.Phrase.{Phrase, nothing, ◌⨾◌, sign}
 use Rattle.c_tree.specs.Tokens.{phrase_of}
 use Rattle.c_grammar.specs.Symbols.{AreAll}
 use Rattle.c_grammar.proofs.Options.{both}
 use Rattle.metal_grammar.specs.Words.{Spelling, Literal}
-use Rattle.metal_grammar.specs.Written.{Row, lone, row, WrittenType, KindOfHole, BasicType, TagType, Declaration, StateName, OfMachine, OfVariable, Argument, Name, Text, WrittenCallout, Digit, Asked, WrittenItem, Pattern, Callout, Dollars, Destination, To, Split, WrittenAction, Alternative, WrittenRule, Section, Content, Nothing, Declares, Rules}
+use Rattle.metal_grammar.specs.Written.{Row, lone, row, WrittenType, KindOfHole, BasicType, TagType, StateName, OfMachine, OfVariable, Argument, Name, Text, WrittenCallout, Digit, Asked, WrittenItem, Pattern, Callout, Dollars, Destination, To, Split, WrittenAction, Alternative, WrittenRule, Content, Nothing, Declares, Rules}
 use Rattle.metal_grammar.specs.Phrases.{word, row_phrase, each_phrase, maybe_phrase, sign_if, stars, type_phrase, state_phrase, argument_phrase, text_phrase, callout_phrase, literals_phrase, item_phrase, alternative_phrase, destination_phrase, identifier_phrase, action_phrase, rule_phrase}
 use Rattle.metal_grammar.specs.Holes.{DeclaredHole, Operand, are_placed}
 use Rattle.metal_grammar.specs.Patterns.{has_plain_types}
-use Rattle.metal_grammar.specs.Grammar.{Before, each, EachIs, IsItem, IsAlternative, IsRule, IsContent, is_item, is_callout, is_alternative, is_destination, is_action, is_rule, is_content}
+use Rattle.metal_grammar.specs.Grammar.{Before, each, IsItem, IsAlternative, IsRule, IsContent, is_item, is_callout, is_alternative, is_destination, is_action, is_rule, is_content}
 use Rattle.metal_grammar.proofs.CompleteParts.{each_both}
 use Rattle.metal_grammar.proofs.CompleteRules.{ItemIs, AlternativeIs, RuleIs}
 use Rattle.metal_grammar.proofs.Plain.{is_quiet, IsPlain, expression_plain}
-use Rattle.metal_grammar.proofs.Cuts.{Passes, PassesInside, plain, plain_inside, then, then_inside, semicolon_if_inside, braced, row_passes}
+use Rattle.metal_grammar.proofs.Cuts.{Passes, plain, plain_inside, then, then_inside, semicolon_if_inside, braced, row_passes}
 
 state_plain : (s : StateName) → IsPlain (state_phrase s)
 state_plain (OfMachine state) = refl
@@ -106,8 +106,8 @@ rule_passes spelling holes x w d r =
     let to = sign marks.LongArrow ⨾ destination_phrase x.destination in
     then (alternatives ⨾ to) (maybe_phrase action_phrase x.action)
     (then alternatives to
-      (row_passes alternative_phrase (AlternativeIs spelling holes) marks.OrOr x.alternatives (alternative_passes spelling holes) refl (each_both IsAlternative (is_alternative spelling holes) x.alternatives w.0 c.0))
-      (plain to (refl, destination_plain x.destination)))
+    (row_passes alternative_phrase (AlternativeIs spelling holes) marks.OrOr x.alternatives (alternative_passes spelling holes) refl (each_both IsAlternative (is_alternative spelling holes) x.alternatives w.0 c.0))
+    (plain to (refl, destination_plain x.destination)))
     (action_passes x.action) d r
 
 -- a content without the `;` at its end

@@ -8,12 +8,11 @@ use Rattle.c_tree.specs.declared.operator.UnaryOp.{UnaryOp}
 use Rattle.c_tree.specs.declared.operator.UnaryOp.TheVariants as unary
 use Rattle.c_tree.specs.declared.punctuator.Punctuator.TheVariants as marks
 use Rattle.c_tree.specs.Symbol.{Symbol, Word, Reserved, Sign, IntLiteral, FloatLiteral, CharLiteral, StringLiteral}
-use Rattle.c_tree.specs.Syntax.{Syntax, Primary, Operation, Specifier, Declarator, Part, PrimarySyntax, OperationSyntax, Ident, Constant, StrConst, Paren, VaArg, Offsetof, Index, Call, Member, Arrow, Unary, SizeofType, Cast, Binary, Cond, Assign, TypeName, Specs, StructTag, EnumTag, Named, Nested, Unnamed, SpecWord, MemberDesignator, IndexDesignator, MaybeSyntax, absent, present, Syntaxes, no_more, more}
+use Rattle.c_tree.specs.Syntax.{Syntax, Primary, Operation, Specifier, Declarator, Part, PrimarySyntax, OperationSyntax, Ident, Constant, StrConst, Paren, VaArg, Offsetof, Index, Call, Member, Arrow, Unary, SizeofType, Cast, Binary, Cond, Assign, TypeName, Specs, StructTag, Unnamed, SpecWord, MemberDesignator, IndexDesignator, MaybeSyntax, absent, present, Syntaxes, no_more, more}
 use Rattle.c_tree.specs.Phrase.{Phrase, nothing, one, all, ◌⨾◌}
 use Rattle.c_tree.specs.Tokens.{phrase_of, primary_phrase, operation_phrase, unary_phrase, binary_sign, assign_sign, maybe_phrase, row_phrase, list_phrase, more_phrase}
 use Rattle.c_grammar.specs.Symbols.{is_sign, is_word, is_string, is_constant, AreAll}
 use Rattle.c_grammar.specs.Names.{Names}
-use Rattle.c_grammar.specs.Specifiers.{InTypeName}
 use Rattle.c_grammar.specs.Grammar.{IsExpr, IsPrimary, IsOperation, AreArguments, IsPath, IsTypeName, IsItem, AreItems, IsTag, AreStrings}
 use Rattle.c_grammar.proofs.Options.{both}
 use Rattle.metal_grammar.specs.Patterns.{has_plain_types, primary_has_plain_types, operation_has_plain_types, all_have_plain_types, path_has_plain_types, is_plain_type, is_plain_word, are_plain_words, is_plain_declarator, are_stars}

@@ -5,11 +5,11 @@ use Rattle.c_tree.specs.Symbol.{Symbol, Word, Sign}
 use Rattle.c_tree.specs.Phrase.{Phrase, nothing, one, all, ◌⨾◌, phrase_then, sign}
 use Rattle.metal_grammar.specs.Words.{Spelling}
 use Rattle.metal_grammar.specs.Written.{StateName, OfMachine, OfVariable, Content, Nothing, Declares, Rules, Clause}
-use Rattle.metal_grammar.specs.Phrases.{word, maybe_phrase, sign_if, state_phrase, content_phrase, head_phrase, clause_phrase, clause_tokens, phrase_tokens}
+use Rattle.metal_grammar.specs.Phrases.{word, maybe_phrase, sign_if, state_phrase, content_phrase, head_phrase, clause_phrase, clause_tokens}
 use Rattle.metal_grammar.specs.Clauses.{in_front, ends_here, clauses_behind, closes, ends_clause, open_behind, clauses_from, clauses_of}
 use Rattle.metal_grammar.specs.Grammar.{Before, nothing_before, behind_content, is_content, IsContent, may_contain, IsClause, is_last, AreClauses, IsText, text_tokens, AreWellFormed}
 use Rattle.metal_grammar.specs.Theorems.{TextsAreTheirTokens}
-use Rattle.metal_grammar.proofs.Cuts.{Passes, front, in_one, ends_last, ends_before}
+use Rattle.metal_grammar.proofs.Cuts.{front, in_one, ends_last, ends_before}
 use Rattle.metal_grammar.proofs.Passing.{body, body_passes}
 
 -- the last content, with the closing brace behind it
