@@ -3,3 +3,17 @@ pub mod ExamplesOfFaults
 pub mod ExamplesOfSyntax
 pub mod ExamplesOfOrder
 pub mod ExamplesOfMachines
+pub mod ExamplesOfLimits
+pub mod Carried
+pub mod SoundParts
+pub mod SoundRules
+pub mod Sound
+pub mod CompleteParts
+pub mod CompleteRules
+pub mod Complete
+pub mod Texts
+pub mod Machines
+pub mod Plain
+pub mod Cuts
+pub mod Passing
+pub mod Whole

@@ -11,7 +11,7 @@ pub data Counted : Type 0 where
   Holes : Counted
   AllRules : Counted
 
--- A position is that of a symbol of the text. A fault of a rule has the rule's number; an unknown callout has its name and the
+-- A position is that of a symbol of the text, or its end where there are no symbols. A fault of a rule has the rule's number; an unknown callout has its name and the
 -- position of the rule's first symbol.
 pub data Fault : Type 0 where
   SyntaxAt : ℕ → Fault

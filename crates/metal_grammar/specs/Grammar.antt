@@ -3,13 +3,14 @@ use Rattle.std.specs.Prelude.{◌≡◌, ◌≤◌, ◌⊎◌, ℕ, ◌+◌, Boo
 use Rattle.c_tree.specs.declared.keyword.Keyword.{Keyword}
 use Rattle.c_tree.specs.Symbol.{Symbol, IntLiteral}
 use Rattle.c_tree.specs.Height.{height_of}
+use Rattle.c_tree.specs.Phrase.{phrase_then}
 use Rattle.c_grammar.specs.Levels.{comma_level}
 use Rattle.c_grammar.specs.Nonterminal.{Expression}
 use Rattle.c_grammar.specs.Grammar.{IsOf}
 use Rattle.c_grammar.specs.Specifiers.{is_type_word, is_basic}
 use Rattle.metal_grammar.specs.Words.{Spelling, is_spelled}
 use Rattle.metal_grammar.specs.Written.{Row, lone, row, WrittenType, BasicType, Declaration, WrittenCallout, Digit, Asked, WrittenItem, Pattern, Callout, Dollars, Destination, To, Split, WrittenAction, Alternative, WrittenRule, Content, Nothing, Declares, Rules, Clause}
-use Rattle.metal_grammar.specs.Phrases.{clause_tokens}
+use Rattle.metal_grammar.specs.Phrases.{clause_phrase, clause_tokens}
 use Rattle.metal_grammar.specs.Clauses.{clauses_of}
 use Rattle.metal_grammar.specs.Holes.{HoleType, AnyArguments, AnyFnCall, DeclaredHole, hole_type, declared_holes, Operand, are_placed}
 use Rattle.metal_grammar.specs.Patterns.{has_plain_types}
@@ -168,3 +169,14 @@ IsUnread spelling before is_first position (ts ∷ others) at =
 -- The text isn't that of a checker, and the first clause without a parse begins at this symbol.
 abbrev pub IsSyntaxFault : Spelling → List Symbol → ℕ → Type 0
 IsSyntaxFault spelling ts at = IsUnread spelling nothing_before true 0 (clauses_of ts) at
+
+-- the tokens of a whole text
+abbrev pub text_tokens : List Clause → List Symbol
+text_tokens [] = []
+text_tokens (c ∷ cs) = phrase_then (clause_phrase c) (text_tokens cs)
+
+-- One or more clauses, each well-formed behind those before it; the first has the head, and the last the closing brace.
+abbrev pub AreWellFormed : Spelling → Before → Bool → List Clause → Type 0
+AreWellFormed spelling before is_first [] = ⊥
+AreWellFormed spelling before is_first (c ∷ []) = IsClause spelling before is_first true c (clause_tokens c)
+AreWellFormed spelling before is_first (c ∷ d ∷ cs) = IsClause spelling before is_first false c (clause_tokens c) × AreWellFormed spelling (behind_content spelling c.content before) false (d ∷ cs)

@@ -15,3 +15,4 @@ pub mod Meaning
 pub mod Definition
 pub mod Steps
 pub mod Reading
+pub mod Theorems

@@ -50,9 +50,14 @@ abbrev pub argument_phrase : Argument → Phrase
 argument_phrase (Name name) = word name
 argument_phrase (Text literal) = literal_phrase literal
 
+-- a comma and a text, if they are there
+abbrev pub text_phrase : Option Literal → Phrase
+text_phrase None = nothing
+text_phrase (Some literal) = sign marks.Comma ⨾ literal_phrase literal
+
 abbrev pub callout_phrase : WrittenCallout → Phrase
 callout_phrase (Digit digit) = one digit
-callout_phrase (Asked name argument text) = word name ⨾ sign marks.OpenParen ⨾ argument_phrase argument ⨾ maybe_phrase (λ t. sign marks.Comma ⨾ literal_phrase t) text ⨾ sign marks.CloseParen
+callout_phrase (Asked name argument text) = word name ⨾ sign marks.OpenParen ⨾ argument_phrase argument ⨾ text_phrase text ⨾ sign marks.CloseParen
 
 abbrev pub item_phrase : WrittenItem → Phrase
 item_phrase (Pattern e semicolon) = sign marks.OpenBrace ⨾ phrase_of e ⨾ sign_if semicolon (sign marks.Semicolon) ⨾ sign marks.CloseBrace

@@ -1,5 +1,5 @@
 -- The declared names and the rules of a text, each with the position of its first symbol, and what a rule names.
-use Rattle.std.specs.Prelude.{ℕ, ◌+◌, Bool, false, nat_eq, ◌||◌, List, [], ◌∷◌, ◌++◌, length, flat_map, filter, map, Option, None, Some}
+use Rattle.std.specs.Prelude.{ℕ, ◌+◌, Bool, false, cond, nat_eq, ◌||◌, List, [], ◌∷◌, ◌++◌, length, flat_map, filter, map, Option, None, Some}
 use Rattle.c_tree.specs.Phrase.{Phrase, ◌⨾◌}
 use Rattle.metal_grammar.specs.Words.{Spelling}
 use Rattle.metal_grammar.specs.Written.{Row, lone, row, members, StateName, OfMachine, OfVariable, Name, Asked, WrittenItem, Pattern, Callout, Destination, To, Split, WrittenAction, Alternative, WrittenRule, Content, Declares, Rules, Clause}
@@ -74,6 +74,11 @@ placed_rules number position (c ∷ cs) = rules_of_content number (behind_head p
 -- the rules of a text in its order, numbered from 1
 abbrev pub rules_of : List Clause → List PlacedRule
 rules_of cs = placed_rules 1 0 cs
+
+-- the position of the first symbol of the rule with this number, if there is one
+abbrev pub rule_position : ℕ → List PlacedRule → Option ℕ
+rule_position number [] = None
+rule_position number (r ∷ rs) = cond (nat_eq r.number number) (Some r.position) (rule_position number rs)
 
 abbrev pub targets_of : Destination → List StateName
 targets_of (To target) = target ∷ []

@@ -1,0 +1,5 @@
+use Rattle.metal_grammar.proofs.Machines.{texts_are_unique}
+use Rattle.metal_grammar.proofs.theorems.texts_are_unique.Goals as goal
+
+pub returns : goal.returns
+returns c = texts_are_unique

@@ -1,0 +1,47 @@
+-- The theorems of this crate as statements, which contracts can name.
+use Rattle.std.specs.Prelude.{◌≡◌, ◌↔◌, ◌⊎◌, ℕ, true, List}
+use Rattle.c_tree.specs.Symbol.{Symbol}
+use Rattle.metal_grammar.specs.Words.{Spelling}
+use Rattle.metal_grammar.specs.Written.{Clause}
+use Rattle.metal_grammar.specs.Grammar.{nothing_before, IsText, IsSyntaxFault, text_tokens, AreWellFormed}
+use Rattle.metal_grammar.specs.Machine.{Machine}
+use Rattle.metal_grammar.specs.FirstFault.{Fault}
+use Rattle.metal_grammar.specs.Definition.{IsMachine, IsFirstFault}
+use Rattle.metal_grammar.specs.Reading.{AllRead, Unread, read_text, Accepted, Refused, read_machine}
+
+-- what is read of all clauses is exactly the text that they are
+abbrev pub TextsAreRead : Type 0
+TextsAreRead = (spelling : Spelling) (ts : List Symbol) (cs : List Clause) → (read_text spelling ts ≡ AllRead cs) ↔ IsText spelling cs ts
+
+-- the first clause that isn't read is exactly the first one without a parse
+abbrev pub SyntaxFaultsAreRead : Type 0
+SyntaxFaultsAreRead = (spelling : Spelling) (ts : List Symbol) (at : ℕ) → (read_text spelling ts ≡ Unread at) ↔ IsSyntaxFault spelling ts at
+
+-- the machine that is read is exactly that of the symbols
+abbrev pub MachinesAreRead : Type 0
+MachinesAreRead = (spelling : Spelling) (ts : List Symbol) (m : Machine) → (read_machine spelling ts ≡ Accepted m) ↔ IsMachine spelling ts m
+
+-- and the fault exactly the first one
+abbrev pub FirstFaultsAreRead : Type 0
+FirstFaultsAreRead = (spelling : Spelling) (ts : List Symbol) (fault : Fault) → (read_machine spelling ts ≡ Refused fault) ↔ IsFirstFault spelling ts fault
+
+-- symbols are at most one text, at most one machine, and have at most one first fault
+abbrev pub TextsAreUnique : Type 0
+TextsAreUnique = (spelling : Spelling) (ts : List Symbol) (a b : List Clause) → IsText spelling a ts → IsText spelling b ts → a ≡ b
+
+abbrev pub MachinesAreUnique : Type 0
+MachinesAreUnique = (spelling : Spelling) (ts : List Symbol) (a b : Machine) → IsMachine spelling ts a → IsMachine spelling ts b → a ≡ b
+
+abbrev pub FirstFaultsAreUnique : Type 0
+FirstFaultsAreUnique = (spelling : Spelling) (ts : List Symbol) (a b : Fault) → IsFirstFault spelling ts a → IsFirstFault spelling ts b → a ≡ b
+
+-- symbols are a machine or have a first fault, and not both
+abbrev pub MachineOrFault : Type 0
+MachineOrFault = (spelling : Spelling) (ts : List Symbol) → ((m : Machine) × IsMachine spelling ts m) ⊎ ((fault : Fault) × IsFirstFault spelling ts fault)
+
+abbrev pub NeverBoth : Type 0
+NeverBoth = (spelling : Spelling) (ts : List Symbol) (m : Machine) (fault : Fault) → IsMachine spelling ts m → IsFirstFault spelling ts fault → ⊥
+
+-- Symbols are a text just where they are its tokens and it is well-formed. So clauses are cut where the grammar has them.
+abbrev pub TextsAreTheirTokens : Type 0
+TextsAreTheirTokens = (spelling : Spelling) (ts : List Symbol) (cs : List Clause) → IsText spelling cs ts ↔ ((ts ≡ text_tokens cs) × AreWellFormed spelling nothing_before true cs)
