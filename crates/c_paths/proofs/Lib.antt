@@ -5,3 +5,6 @@ pub mod ExampleTrees
 pub mod ExampleEvaluations
 pub mod Examples
 pub mod ExampleTraces
+pub mod Ahead
+pub mod GraphWalks
+pub mod FormWalks

@@ -11,3 +11,5 @@ pub mod Steps
 pub mod Traces
 pub mod Listing
 pub mod Theorems
+pub mod Graphs
+pub mod Fragments
