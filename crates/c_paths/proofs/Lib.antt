@@ -8,3 +8,4 @@ pub mod ExampleTraces
 pub mod Ahead
 pub mod GraphWalks
 pub mod FormWalks
+pub mod StatementWalks

@@ -13,3 +13,4 @@ pub mod Listing
 pub mod Theorems
 pub mod Graphs
 pub mod Fragments
+pub mod Layout
