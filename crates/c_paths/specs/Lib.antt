@@ -14,3 +14,4 @@ pub mod Theorems
 pub mod Graphs
 pub mod Fragments
 pub mod Layout
+pub mod Building
