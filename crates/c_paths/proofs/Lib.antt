@@ -9,3 +9,4 @@ pub mod Ahead
 pub mod GraphWalks
 pub mod FormWalks
 pub mod StatementWalks
+pub mod DraftGrowth
