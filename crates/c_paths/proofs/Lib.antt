@@ -10,3 +10,4 @@ pub mod GraphWalks
 pub mod FormWalks
 pub mod StatementWalks
 pub mod DraftGrowth
+pub mod BuiltGraphs
