@@ -7,7 +7,7 @@ use Rattle.c_paths.specs.Words.{Nothing, Only, Then, Either}
 use Rattle.c_paths.specs.Forms.{Form, Row, done}
 use Rattle.c_paths.specs.Evaluation.{Happens, Condition}
 use Rattle.c_paths.specs.Flow.{Flow, Does, Block, If, While, Do, For, Switch, Case, Default, Label, Goto, Break, Continue, Return, Flows, no_flows, flows}
-use Rattle.c_paths.specs.Steps.{Task, Run, Test, Turn, Behind, Close, in_order, after_break, after_continue, LabelAt, LabelIn, CaseAt, CaseIn, HasDefault, HasDefaultIn, Step}
+use Rattle.c_paths.specs.Steps.{Task, Run, Test, Turn, Behind, Close, Nowhere, in_order, after_break, after_continue, LabelAt, LabelIn, CaseAt, CaseIn, HasDefault, HasDefaultIn, Step}
 use Rattle.c_paths.specs.Traces.{Runs, TraceFrom, BodyTrace}
 use Rattle.c_paths.specs.Graphs.{Block as BasicBlock, ToAny, Stops, AtBlock, Walks, GraphTrace}
 use Rattle.c_paths.specs.Fragments.{To, ToEither, Has, Fits, FitsRow}
@@ -484,10 +484,15 @@ module _ (g : List BasicBlock) (body : Flow) (exit : Event) (entry : ℕ) (is : 
   rep_last n = returns g body behind n behind done exit is.last is.last
       (λ l k' a. (([], l, refl, a.0, refl), a.1)) (λ w a. (a.4 ∙ ap (λ x. x ++ a.1) a.2 ∙ a.3, refl)) refl is.at_last
 
-  rep_dead : (n : ℕ) → Represents g body behind n [] is.dead
-  rep_dead n = record { forward = λ l h. (0, nothing_left g body behind n l h); back = back n }
+  rep_dead : (n : ℕ) → Represents g body behind n (Nowhere ∷ []) is.dead
+  rep_dead n = record { forward = λ l h. (0, no_way n l h); back = back n }
     where
-      back : (n : ℕ) → Within g n is.dead (TraceFrom body behind [])
+      no_way : (n : ℕ) (l : List Item) → Runs body behind n (Nowhere ∷ []) l → l ≡ []
+      no_way zero l h = h
+      no_way (suc n) l (inl h) = h
+      no_way (suc n) l (inr h) = absurd h.3
+
+      back : (n : ℕ) → Within g n is.dead (TraceFrom body behind (Nowhere ∷ []))
       back zero l w = (0, [], append_nil l ∙ w)
       back (suc n) l w = (0, [], append_nil l ∙ elim (opens g body behind n is.dead [] l is.at_dead w) [ inl e ↦ e | inr a ↦ absurd a.1 ])
 
