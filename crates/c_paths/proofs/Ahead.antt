@@ -89,4 +89,3 @@ or_cond X1 X0 Y1 Y0 T F l (inr a) = elim (ahead_or_then X0 Y1 Y0 T F l a) [ inl 
 pub choose_cond : (X1 X0 Y1 Y0 Z1 Z0 T F : List Item → Type 0) (l : List Item) → Either (Ahead X1 (Either (Ahead Y1 T) (Ahead Y0 F))) (Ahead X0 (Either (Ahead Z1 T) (Ahead Z0 F))) l → Either (Ahead (Either (Then X1 Y1) (Then X0 Z1)) T) (Ahead (Either (Then X1 Y0) (Then X0 Z0)) F) l
 choose_cond X1 X0 Y1 Y0 Z1 Z0 T F l (inl a) = elim (ahead_or_then X1 Y1 Y0 T F l a) [ inl b ↦ inl (ahead_inl _ _ T l b) | inr b ↦ inr (ahead_inl _ _ F l b) ]
 choose_cond X1 X0 Y1 Y0 Z1 Z0 T F l (inr a) = elim (ahead_or_then X0 Z1 Z0 T F l a) [ inl b ↦ inl (ahead_inr _ _ T l b) | inr b ↦ inr (ahead_inr _ _ F l b) ]
-

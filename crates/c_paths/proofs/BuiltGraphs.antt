@@ -1,5 +1,5 @@
 -- What the plain builder builds has the blocks of the body, so it has exactly its traces.
-use Rattle.std.proofs.Common.{◌≡◌, ◌≢◌, ◌↔◌, ℕ, zero, suc, Bool, true, false, List, [], ◌∷◌, ◌++◌, ◌⊎◌, inl, inr, Option, None, Some, refl, sym, ap, ◌∙◌, subst, length}
+use Rattle.std.proofs.Common.{◌≡◌, ◌≢◌, ◌↔◌, ℕ, zero, suc, Bool, true, false, List, [], ◌∷◌, ◌++◌, ◌⊎◌, inl, inr, Option, None, Some, refl, sym, ap, ◌∙◌, length}
 use Rattle.std.specs.Prelude.{slice_get, slice_set, not, map, ◌==◌}
 use Rattle.std.proofs.lemmas.Option.{slice_get-map}
 use Rattle.std.proofs.lemmas.Bool.{eqb-true, eq-eqb}
@@ -12,17 +12,17 @@ use Rattle.c_paths.specs.Forms.{Form, Plain, Inverts, Keeps, Both, Any, Chooses,
 use Rattle.c_paths.specs.Flow.{Flow, Does, Block, If, While, Do, For, Switch, Case, Default, Label, Goto, Break, Continue, Return, Flows, no_flows, flows}
 use Rattle.c_paths.specs.TreeFlow.{flow_of}
 use Rattle.c_paths.specs.Steps.{HasDefault}
-use Rattle.c_paths.specs.Traces.{BodyTrace, Definition, Trace}
+use Rattle.c_paths.specs.Traces.{Definition, Trace}
 use Rattle.c_paths.specs.Listing.{if_so, has_default}
-use Rattle.c_paths.specs.Graphs.{Block as BasicBlock, Ending, ToAny, Calls, Stops, GraphTrace}
+use Rattle.c_paths.specs.Graphs.{Ending, ToAny, Calls, Stops, GraphTrace}
 use Rattle.c_paths.specs.Fragments.{Way, To, ToEither, Has, Split, ItemAt, Fits, FitsRow}
-use Rattle.c_paths.specs.Layout.{Entry, HasEntry, TestAt, AreTargets, Built, BuiltIn, GotoAt, IsGraphOf}
-use Rattle.c_paths.specs.Building.{Sketch, Settled, Jumps, Waits, Draft, Made, push, lead, filled, item_block, split_blocks, form_blocks, row_blocks, test_blocks, Placed, flow_blocks, flows_blocks, label_blocks, settled_ending, settled, Graph, body_graph, graph_of}
+use Rattle.c_paths.specs.Layout.{Entry, HasEntry, TestAt, Built, BuiltIn, GotoAt, IsGraphOf}
+use Rattle.c_paths.specs.Building.{Sketch, Settled, Jumps, Waits, Draft, push, lead, filled, item_block, split_blocks, form_blocks, row_blocks, test_blocks, flow_blocks, flows_blocks, label_blocks, settled, body_graph, graph_of}
 use Rattle.c_paths.proofs.Ahead.{}
 use Rattle.c_paths.proofs.Listed.{among_front, among_back, among_either}
 use Rattle.c_paths.proofs.ListedSteps.{Says, default_said}
 use Rattle.c_paths.proofs.StatementWalks.{graph_traces}
-use Rattle.c_paths.proofs.DraftGrowth.{get_seam, set_here, Grown, grown_then, push_grown, item_grown, form_grown, row_grown, flow_grown, flows_grown}
+use Rattle.c_paths.proofs.DraftGrowth.{get_seam, set_here, Grown, grown_then, push_grown, item_grown, form_grown, row_grown, flow_grown}
 
 -- a draft that waits
 abbrev waiting : Draft

@@ -1,5 +1,5 @@
 -- The drafts of a graph grow: old ones stay as they were, but for the heads of loops that are filled.
-use Rattle.std.proofs.Common.{◌≡◌, ◌≢◌, ℕ, zero, suc, ◌<◌, List, [], ◌∷◌, ◌++◌, Option, None, Some, refl, sym, ap, ◌∙◌, subst, length, arith}
+use Rattle.std.proofs.Common.{◌≡◌, ◌≢◌, ℕ, zero, suc, ◌<◌, List, [], ◌∷◌, ◌++◌, Option, None, Some, refl, ap, length, arith}
 use Rattle.std.specs.Prelude.{slice_get, slice_set, true, false, not}
 use Rattle.std.proofs.lemmas.Option.{slice_get_within}
 use Rattle.c_tree.specs.Node.{Node}
@@ -8,9 +8,9 @@ use Rattle.c_paths.specs.Events.{Event, Item, Branched}
 use Rattle.c_paths.specs.Forms.{Form, Plain, Inverts, Keeps, Both, Any, Chooses, Follows, Row, done, operand, item}
 use Rattle.c_paths.specs.Flow.{Flow, Does, Block, If, While, Do, For, Switch, Case, Default, Label, Goto, Break, Continue, Return, Flows, no_flows, flows}
 use Rattle.c_paths.specs.Listing.{if_so, has_default}
-use Rattle.c_paths.specs.Graphs.{Ending, ToAny, Calls, Stops}
+use Rattle.c_paths.specs.Graphs.{ToAny, Calls, Stops}
 use Rattle.c_paths.specs.Fragments.{Way, To, ToEither}
-use Rattle.c_paths.specs.Building.{Sketch, Settled, Jumps, Waits, Draft, Made, push, lead, filled, item_block, split_blocks, form_blocks, row_blocks, test_blocks, Placed, flow_blocks, flows_blocks}
+use Rattle.c_paths.specs.Building.{Sketch, Settled, Jumps, Waits, Draft, push, lead, filled, item_block, split_blocks, form_blocks, row_blocks, test_blocks, flow_blocks, flows_blocks}
 
 pub get_front : (xs ys : List Draft) (b : ℕ) (d : Draft) → slice_get xs b ≡ Some d → slice_get (xs ++ ys) b ≡ Some d
 get_front [] ys b d e = cc

@@ -1,8 +1,8 @@
 -- The walks through the blocks of an expression are its evaluations.
-use Rattle.std.proofs.Common.{◌≡◌, ℕ, Bool, true, false, List, [], ◌∷◌, ◌++◌, ◌⊎◌, inl, inr, Option, Some, None, refl, sym, subst}
+use Rattle.std.proofs.Common.{◌≡◌, ℕ, Bool, true, false, List, [], ◌∷◌, ◌++◌, inl, inr, Option, Some, None, refl, sym, subst}
 use Rattle.c_tree.specs.Node.{Node}
 use Rattle.c_paths.specs.Membership.{Among}
-use Rattle.c_paths.specs.Events.{Event, Item, Branched, branched}
+use Rattle.c_paths.specs.Events.{Item, Branched, branched}
 use Rattle.c_paths.specs.Words.{Nothing, Only, Then, Either}
 use Rattle.c_paths.specs.Forms.{Form, Plain, Inverts, Keeps, Both, Any, Chooses, Follows, Row, done, operand, item}
 use Rattle.c_paths.specs.Evaluation.{Evaluates, Happens}

@@ -10,11 +10,11 @@ use Rattle.c_paths.specs.Flow.{Flow, Does, Block, If, While, Do, For, Switch, Ca
 use Rattle.c_paths.specs.Steps.{Task, Run, Test, Turn, Behind, Close, Nowhere, in_order, after_break, after_continue, LabelAt, LabelIn, CaseAt, CaseIn, HasDefault, HasDefaultIn, Step}
 use Rattle.c_paths.specs.Traces.{Runs, TraceFrom, BodyTrace}
 use Rattle.c_paths.specs.Graphs.{Block as BasicBlock, ToAny, Stops, AtBlock, Walks, GraphTrace}
-use Rattle.c_paths.specs.Fragments.{To, ToEither, Has, Fits, FitsRow}
+use Rattle.c_paths.specs.Fragments.{ToEither, Has, Fits, FitsRow}
 use Rattle.c_paths.specs.Layout.{Entry, HasEntry, TestAt, Built, BuiltIn, GotoAt, IsGraphOf}
 use Rattle.c_paths.proofs.Listed.{among_front, among_back, among_either}
 use Rattle.c_paths.proofs.Ahead.{append_nil, Ahead, ahead_then, ahead_maps}
-use Rattle.c_paths.proofs.GraphWalks.{walks_more, Reaches, Forward, Within, opened, closed, block_to, reaches_then, stay, stay_back}
+use Rattle.c_paths.proofs.GraphWalks.{walks_more, Forward, Within, opened, closed, block_to, reaches_then, stay, stay_back}
 use Rattle.c_paths.proofs.FormWalks.{Two, fits_forward, fits_back, row_forward, row_back}
 
 -- a default label has a continuation

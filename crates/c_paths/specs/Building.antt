@@ -1,6 +1,6 @@
 -- A plain builder of flow graphs. It goes from the end: what it builds leads to blocks that are there already, but for the
 -- head of a loop, which is reserved and filled behind the body.
-use Rattle.std.specs.Prelude.{ℕ, Bool, true, false, not, cond, ◌==◌, List, [], ◌∷◌, ◌++◌, length, map, slice_set, Option, Some, None}
+use Rattle.std.specs.Prelude.{ℕ, true, false, not, ◌==◌, List, [], ◌∷◌, ◌++◌, length, map, slice_set, Option, Some, None}
 use Rattle.c_tree.specs.Node.{Node}
 use Rattle.path_theory.specs.Marks.{EventMark, CallMark}
 use Rattle.c_paths.specs.Events.{Event, Item, Branched, Exited}

@@ -7,7 +7,7 @@ use Rattle.c_paths.specs.Forms.{Form}
 use Rattle.c_paths.specs.Flow.{Flow, Does, Block, If, While, Do, For, Switch, Case, Default, Label, Goto, Break, Continue, Return, Flows, no_flows, flows}
 use Rattle.c_paths.specs.Steps.{HasDefault}
 use Rattle.c_paths.specs.Graphs.{Block as BasicBlock, Ending, ToAny, Stops}
-use Rattle.c_paths.specs.Fragments.{To, ToEither, Has, Fits, FitsRow}
+use Rattle.c_paths.specs.Fragments.{ToEither, Has, Fits, FitsRow}
 
 -- a label, and the block where its statement begins
 pub record Entry : Type 0 where

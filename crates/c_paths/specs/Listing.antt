@@ -1,5 +1,5 @@
 -- Lists of all evaluations, of all steps, and of the longest traces of at most so many steps.
-use Rattle.std.specs.Prelude.{◌≡◌, ◌⊎◌, ℕ, zero, suc, Bool, true, false, not, ◌||◌, ◌&&◌, ◌==◌, List, [], ◌∷◌, ◌++◌, Option, None, Some}
+use Rattle.std.specs.Prelude.{◌≡◌, ℕ, zero, suc, Bool, true, false, not, ◌||◌, ◌&&◌, ◌==◌, List, [], ◌∷◌, ◌++◌, Option, None, Some}
 use Rattle.path_theory.specs.Marks.{EventMark}
 use Rattle.c_paths.specs.Membership.{Among}
 use Rattle.c_paths.specs.Events.{Item, branched, Exited}

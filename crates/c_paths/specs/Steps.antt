@@ -1,7 +1,7 @@
 -- The steps of a function's body, from what is still to be done to what then is.
 -- A jump takes the continuation of its target, wherever that stands, so that it goes into blocks, loops and switches too
 -- (ISO 9899:1990, 6.6.1, 6.6.4.2 and 6.6.6).
-use Rattle.std.specs.Prelude.{◌≡◌, ℕ, suc, zero, true, false, List, [], ◌∷◌, ◌++◌, ◌⊎◌, Option, Some, None}
+use Rattle.std.specs.Prelude.{◌≡◌, ℕ, true, false, List, [], ◌∷◌, ◌⊎◌, Option, Some}
 use Rattle.path_theory.specs.Marks.{EventMark}
 use Rattle.c_paths.specs.Events.{Event, Item}
 use Rattle.c_paths.specs.Words.{Only, Then}
