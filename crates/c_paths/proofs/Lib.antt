@@ -11,3 +11,4 @@ pub mod FormWalks
 pub mod StatementWalks
 pub mod DraftGrowth
 pub mod BuiltGraphs
+pub mod TreeExits

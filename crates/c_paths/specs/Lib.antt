@@ -15,3 +15,4 @@ pub mod Graphs
 pub mod Fragments
 pub mod Layout
 pub mod Building
+pub mod Exits
