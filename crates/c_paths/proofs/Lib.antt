@@ -12,3 +12,4 @@ pub mod StatementWalks
 pub mod DraftGrowth
 pub mod BuiltGraphs
 pub mod TreeExits
+pub mod SoundDrafts

@@ -16,3 +16,4 @@ pub mod Fragments
 pub mod Layout
 pub mod Building
 pub mod Exits
+pub mod SoundGraphs
