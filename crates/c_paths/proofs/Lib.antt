@@ -13,3 +13,4 @@ pub mod DraftGrowth
 pub mod BuiltGraphs
 pub mod TreeExits
 pub mod SoundDrafts
+pub mod StepBodies

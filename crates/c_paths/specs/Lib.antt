@@ -17,3 +17,4 @@ pub mod Layout
 pub mod Building
 pub mod Exits
 pub mod SoundGraphs
+pub mod Bodies
