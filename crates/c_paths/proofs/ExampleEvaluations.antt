@@ -1,9 +1,9 @@
 -- Expressions with all of their evaluations. The names are 0 a, 1 b, 2 c, 3 g, 4 h, 6 p, 7 x.
-use Rattle.std.proofs.Common.{◌≡◌, ℕ, true, false, List, [], ◌∷◌, None, Some, refl}
+use Rattle.std.proofs.Common.{◌≡◌, true, false, [], ◌∷◌, None, Some, refl}
 use Rattle.c_tree.specs.declared.operator.BinaryOp.TheVariants as binary
 use Rattle.c_tree.specs.declared.operator.UnaryOp.TheVariants as unary
-use Rattle.c_tree.specs.Node.{Node, no_more, more}
-use Rattle.c_paths.specs.Events.{Item, evaluated, dereferenced, branched, called}
+use Rattle.c_tree.specs.Node.{Node, no_more}
+use Rattle.c_paths.specs.Events.{evaluated, dereferenced, branched, called}
 use Rattle.c_paths.specs.TreeForms.{form_of}
 use Rattle.c_paths.specs.Listing.{words_of}
 use Rattle.c_paths.proofs.ExampleTrees.{ident, number, paren, call, unary_at, binary_at, conditional, assigned, arrow, cast_at, nodes, outside, inside}

@@ -1,13 +1,11 @@
 -- Lists that are traces of a function, and lists that are none.
-use Rattle.std.proofs.Common.{◌≡◌, ℕ, zero, suc, true, false, List, [], ◌∷◌, ◌++◌, ◌⊎◌, inl, inr, None, refl, sym, ap, ◌∙◌, subst}
-use Rattle.c_tree.specs.Node.{Node}
-use Rattle.c_paths.specs.Events.{Item, evaluated, branched, Exited}
-use Rattle.c_paths.specs.Facts.{Facts}
+use Rattle.std.proofs.Common.{◌≡◌, ℕ, zero, suc, true, false, List, [], ◌∷◌, ◌++◌, inl, inr, None, refl, sym, ap, ◌∙◌, subst}
+use Rattle.c_paths.specs.Events.{Item, evaluated, Exited}
 use Rattle.c_paths.specs.Forms.{done}
 use Rattle.c_paths.specs.Flow.{Flow, Does, Block, For, flows, no_flows}
 use Rattle.c_paths.specs.Steps.{Task, Run, Test, Turn, Close}
-use Rattle.c_paths.specs.Traces.{Runs, Definition, Trace}
-use Rattle.c_paths.specs.Listing.{Begins, longest_traces, finishes_within}
+use Rattle.c_paths.specs.Traces.{Runs, Trace}
+use Rattle.c_paths.specs.Listing.{Begins}
 use Rattle.c_paths.proofs.ListedTraces.{listed_are_traces, finished_lists_are_all}
 use Rattle.c_paths.proofs.ExampleTrees.{at, ident, outside}
 use Rattle.c_paths.proofs.Examples.{g, h, goes, runs_g, runs_h, ends, both, both_traces, both_finishes, chosen, chosen_traces, chosen_finishes, repeated, spinning}

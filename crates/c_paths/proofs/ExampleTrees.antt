@@ -8,8 +8,8 @@ use Rattle.c_tree.specs.declared.token.Token.{Token}
 use Rattle.c_tree.specs.declared.token.TokenKind.{TokenKind}
 use Rattle.c_tree.specs.declared.token.TokenKind.TheVariants as kinds
 use Rattle.c_tree.specs.declared.token.Mark.TheVariants as marks
-use Rattle.c_tree.specs.Node.{Node, node, Primary, Operation, Initializer, Specifier, Declarator, Part, Outer, Statement, Iteration, Jump, Ident, Constant, Paren, Index, Call, Arrow, Unary, Cast, Binary, Cond, Assign, Init, Braces, TypeName, Specs, Named, Declaration, Block, ExprStmt, If, Switch, Case, Default, Label, While, Do, For, ForDeclaration, Goto, Continue, Break, Return, MaybeNode, absent, present, Nodes, no_more, more}
-use Rattle.c_paths.specs.Events.{Item, Variable, evaluated, exited}
+use Rattle.c_tree.specs.Node.{Node, node, Primary, Operation, Initializer, Specifier, Declarator, Outer, Statement, Iteration, Jump, Ident, Constant, Paren, Call, Arrow, Unary, Cast, Binary, Cond, Assign, Init, Braces, TypeName, Specs, Named, Declaration, Block, ExprStmt, If, Switch, Case, Default, Label, While, Do, For, ForDeclaration, Goto, Continue, Break, Return, MaybeNode, absent, present, Nodes, no_more, more}
+use Rattle.c_paths.specs.Events.{Item, Variable, exited}
 use Rattle.c_paths.specs.Facts.{Facts}
 use Rattle.c_paths.specs.Traces.{Definition}
 

@@ -1,12 +1,12 @@
 -- Functions with all of their longest traces. The names are 0 a, 1 b, 2 c, 3 g, 4 h, 5 n, 6 p, 7 x, 8 y, 9 z.
-use Rattle.std.proofs.Common.{◌≡◌, ℕ, Bool, true, false, List, [], ◌∷◌, ◌++◌, None, Some, refl}
+use Rattle.std.proofs.Common.{◌≡◌, ℕ, Bool, true, false, List, [], ◌∷◌, ◌++◌, refl}
 use Rattle.c_tree.specs.declared.operator.BinaryOp.TheVariants as binary
 use Rattle.c_tree.specs.declared.operator.UnaryOp.TheVariants as unary
-use Rattle.c_tree.specs.Node.{Node, absent, present, no_more, more}
-use Rattle.c_paths.specs.Events.{Item, Variable, evaluated, dereferenced, declared, branched, exited, called}
+use Rattle.c_tree.specs.Node.{Node, absent, present, no_more}
+use Rattle.c_paths.specs.Events.{Item, Variable, evaluated, declared, branched, exited, called}
 use Rattle.c_paths.specs.Traces.{Definition}
 use Rattle.c_paths.specs.Listing.{longest_traces, finishes_within}
-use Rattle.c_paths.proofs.ExampleTrees.{at, word, ident, number, paren, call, unary_at, binary_at, conditional, assigned, arrow, cast_at, block, stmt, nothing, if_then, if_else, switch, case_of, default, label, while, do_while, for_loop, for_declared, goto, break, continue, return, declarator, init, braces, declaration, outside, inside, function, end}
+use Rattle.c_paths.proofs.ExampleTrees.{at, ident, number, call, unary_at, binary_at, block, stmt, nothing, if_then, if_else, switch, case_of, default, label, while, do_while, for_loop, for_declared, goto, break, continue, return, declarator, init, braces, declaration, outside, inside, function, end}
 
 -- the calls `g()` and `h()`, and what they give
 abbrev pub g : ℕ → Node

@@ -5,3 +5,12 @@ pub mod ExampleTrees
 pub mod ExampleEvaluations
 pub mod Examples
 pub mod ExampleTraces
+pub mod Ahead
+pub mod GraphWalks
+pub mod FormWalks
+pub mod StatementWalks
+pub mod DraftGrowth
+pub mod BuiltGraphs
+pub mod TreeExits
+pub mod SoundDrafts
+pub mod StepBodies

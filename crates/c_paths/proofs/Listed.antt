@@ -1,6 +1,5 @@
 -- The lists of all evaluations and of all steps are right.
-use Rattle.std.proofs.Common.{◌≡◌, ℕ, Bool, true, false, not, List, [], ◌∷◌, ◌++◌, ◌⊎◌, inl, inr, Option, None, Some, refl, sym, ap, ◌∙◌, subst}
-use Rattle.std.specs.Prelude.{◌||◌, nat_eq, IsTrue}
+use Rattle.std.proofs.Common.{◌≡◌, Bool, true, false, not, List, [], ◌∷◌, ◌++◌, ◌⊎◌, inl, inr, Option, None, Some, refl, sym, ap, subst}
 use Rattle.c_paths.specs.Events.{Item, branched}
 use Rattle.c_paths.specs.Membership.{Among}
 use Rattle.c_paths.specs.Words.{Nothing, Only, Then, Either}

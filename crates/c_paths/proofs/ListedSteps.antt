@@ -1,16 +1,16 @@
 -- The list of all steps is right.
-use Rattle.std.proofs.Common.{◌≡◌, ℕ, Bool, true, false, not, List, [], ◌∷◌, ◌++◌, ◌⊎◌, inl, inr, Option, None, Some, refl, sym, ap, ◌∙◌, subst}
+use Rattle.std.proofs.Common.{◌≡◌, ℕ, Bool, true, false, not, List, [], ◌∷◌, ◌++◌, ◌⊎◌, inl, inr, Some, refl, sym, ap, subst}
 use Rattle.std.specs.Prelude.{◌||◌, ◌==◌}
 use Rattle.std.proofs.lemmas.Bool.{eq-eqb, eqb-true}
 use Rattle.path_theory.specs.Marks.{EventMark}
 use Rattle.c_paths.specs.Membership.{Among}
 use Rattle.c_paths.specs.Events.{Item}
-use Rattle.c_paths.specs.Words.{Nothing, Only, Then}
+use Rattle.c_paths.specs.Words.{Only, Then}
 use Rattle.c_paths.specs.Forms.{Form, Row, done}
 use Rattle.c_paths.specs.Evaluation.{Happens, Condition, MaybeCondition}
 use Rattle.c_paths.specs.Flow.{Flow, Does, Block, If, While, Do, For, Switch, Case, Default, Label, Goto, Break, Continue, Return, Flows, no_flows, flows}
-use Rattle.c_paths.specs.Steps.{Task, Run, Test, Turn, Behind, Close, in_order, after_break, after_continue, LabelAt, LabelIn, CaseAt, CaseIn, HasDefault, HasDefaultIn, StepOf, Step}
-use Rattle.c_paths.specs.Listing.{joined, words_of, words_in, words_of_maybe, if_so, labels_at, labels_in, cases_at, cases_in, has_default, has_default_in, with_each, to_each, silently, steps_of, steps}
+use Rattle.c_paths.specs.Steps.{Task, Run, Test, Turn, Behind, Close, Nowhere, in_order, after_break, after_continue, LabelAt, LabelIn, CaseAt, CaseIn, HasDefault, HasDefaultIn, StepOf, Step}
+use Rattle.c_paths.specs.Listing.{words_of, words_in, if_so, labels_at, labels_in, cases_at, cases_in, has_default, has_default_in, with_each, to_each, silently, steps_of, steps}
 use Rattle.c_paths.proofs.Listed.{among_front, among_back, among_either, Lists, lists_only, lists_then, words_listed, row_listed, maybe_listed}
 
 -- the list has exactly the continuations of the set
@@ -195,3 +195,4 @@ module _ (body : Flow) (whole : List Task) where
   steps_listed (Turn c u s ∷ k) = row_step u (Test c u s ∷ k)
   steps_listed (Behind ∷ k) = silent_step k
   steps_listed (Close e ∷ k) = each_step (Only (EventMark e)) (λ h. h ≡ []) ((EventMark e ∷ []) ∷ []) ([] ∷ []) (lists_only (EventMark e)) (one_task [])
+  steps_listed (Nowhere ∷ k) = record { all = λ l h x. absurd x; only = λ l h x. absurd x }

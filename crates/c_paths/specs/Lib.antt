@@ -11,3 +11,10 @@ pub mod Steps
 pub mod Traces
 pub mod Listing
 pub mod Theorems
+pub mod Graphs
+pub mod Fragments
+pub mod Layout
+pub mod Building
+pub mod Exits
+pub mod SoundGraphs
+pub mod Bodies

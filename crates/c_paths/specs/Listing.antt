@@ -1,12 +1,12 @@
 -- Lists of all evaluations, of all steps, and of the longest traces of at most so many steps.
-use Rattle.std.specs.Prelude.{◌≡◌, ◌⊎◌, ℕ, zero, suc, Bool, true, false, not, ◌||◌, ◌&&◌, ◌==◌, List, [], ◌∷◌, ◌++◌, Option, None, Some}
+use Rattle.std.specs.Prelude.{◌≡◌, ℕ, zero, suc, Bool, true, false, not, ◌||◌, ◌&&◌, ◌==◌, List, [], ◌∷◌, ◌++◌, Option, None, Some}
 use Rattle.path_theory.specs.Marks.{EventMark}
 use Rattle.c_paths.specs.Membership.{Among}
 use Rattle.c_paths.specs.Events.{Item, branched, Exited}
 use Rattle.c_paths.specs.Facts.{Facts}
 use Rattle.c_paths.specs.Forms.{Form, Plain, Inverts, Keeps, Both, Any, Chooses, Follows, Row, done, operand, item}
 use Rattle.c_paths.specs.Flow.{Flow, Does, Block, If, While, Do, For, Switch, Case, Default, Label, Goto, Break, Continue, Return, Flows, no_flows, flows}
-use Rattle.c_paths.specs.Steps.{Task, Run, Test, Turn, Behind, Close, in_order, after_break, after_continue}
+use Rattle.c_paths.specs.Steps.{Task, Run, Test, Turn, Behind, Close, Nowhere, in_order, after_break, after_continue}
 use Rattle.c_paths.specs.TreeFlow.{flow_of}
 use Rattle.c_paths.specs.Traces.{Definition}
 
@@ -158,6 +158,7 @@ steps body whole (Test c u s ∷ k) = to_each (words_of_maybe c true) ((Run s �
 steps body whole (Turn c u s ∷ k) = to_each (words_in u) ((Test c u s ∷ k) ∷ [])
 steps body whole (Behind ∷ k) = silently k
 steps body whole (Close e ∷ k) = (EventMark e ∷ [], []) ∷ []
+steps body whole (Nowhere ∷ k) = []
 
 -- what each step gives before what its continuation gives
 abbrev pub stepped : (List Task → List (List Item)) → List (List Item × List Task) → List (List Item)

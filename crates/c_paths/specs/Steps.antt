@@ -1,7 +1,7 @@
 -- The steps of a function's body, from what is still to be done to what then is.
 -- A jump takes the continuation of its target, wherever that stands, so that it goes into blocks, loops and switches too
 -- (ISO 9899:1990, 6.6.1, 6.6.4.2 and 6.6.6).
-use Rattle.std.specs.Prelude.{◌≡◌, ℕ, suc, zero, true, false, List, [], ◌∷◌, ◌++◌, ◌⊎◌, Option, Some, None}
+use Rattle.std.specs.Prelude.{◌≡◌, ℕ, true, false, List, [], ◌∷◌, ◌⊎◌, Option, Some}
 use Rattle.path_theory.specs.Marks.{EventMark}
 use Rattle.c_paths.specs.Events.{Event, Item}
 use Rattle.c_paths.specs.Words.{Only, Then}
@@ -20,6 +20,8 @@ pub data Task : Type 0 where
   Behind : Task
   -- the closing brace of the function, with its exit
   Close : Event → Task
+  -- where a `break` or a `continue` leads that stands in nothing that it could leave: no step goes on
+  Nowhere : Task
 
 -- the statements of a block in order, and then k
 abbrev pub in_order : Flows → List Task → List Task
@@ -28,21 +30,23 @@ in_order (flows s ss) k = Run s ∷ in_order ss k
 
 -- where a `break` leads: behind the innermost open loop or switch
 abbrev pub after_break : List Task → List Task
-after_break [] = []
+after_break [] = Nowhere ∷ []
 after_break (Run s ∷ k) = after_break k
 after_break (Test c u s ∷ k) = after_break k
 after_break (Turn c u s ∷ k) = k
 after_break (Behind ∷ k) = k
-after_break (Close e ∷ k) = []
+after_break (Close e ∷ k) = Nowhere ∷ []
+after_break (Nowhere ∷ k) = Nowhere ∷ []
 
 -- where a `continue` leads: to the end of the turn of the innermost open loop
 abbrev pub after_continue : List Task → List Task
-after_continue [] = []
+after_continue [] = Nowhere ∷ []
 after_continue (Run s ∷ k) = after_continue k
 after_continue (Test c u s ∷ k) = after_continue k
 after_continue (Turn c u s ∷ k) = Turn c u s ∷ k
 after_continue (Behind ∷ k) = after_continue k
-after_continue (Close e ∷ k) = []
+after_continue (Close e ∷ k) = Nowhere ∷ []
+after_continue (Nowhere ∷ k) = Nowhere ∷ []
 
 -- a label L in s, with k behind s, has the continuation h
 abbrev mutual
@@ -127,7 +131,7 @@ StepOf body whole Break k l h = (l ≡ []) × (h ≡ after_break k)
 StepOf body whole Continue k l h = (l ≡ []) × (h ≡ after_continue k)
 StepOf body whole (Return r e) k l h = Then (Happens r) (Only (EventMark e)) l × (h ≡ [])
 
--- one step; what is behind the closing brace is whole
+-- one step; behind an exit nothing is left to do
 abbrev pub Step : (body : Flow) (whole : List Task) → List Task → List Item → List Task → Type 0
 Step body whole [] l h = ⊥
 Step body whole (Run s ∷ k) l h = StepOf body whole s k l h
@@ -135,3 +139,4 @@ Step body whole (Test c u s ∷ k) l h = (MaybeCondition c true l × (h ≡ Run 
 Step body whole (Turn c u s ∷ k) l h = Happens u l × (h ≡ Test c u s ∷ k)
 Step body whole (Behind ∷ k) l h = (l ≡ []) × (h ≡ k)
 Step body whole (Close e ∷ k) l h = (l ≡ EventMark e ∷ []) × (h ≡ [])
+Step body whole (Nowhere ∷ k) l h = ⊥

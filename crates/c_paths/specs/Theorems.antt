@@ -1,9 +1,13 @@
 -- The theorems of this crate as statements, which contracts can name.
 use Rattle.std.specs.Prelude.{◌≡◌, ◌↔◌, ℕ, true, List}
-use Rattle.c_paths.specs.Events.{Item}
+use Rattle.c_paths.specs.Events.{Event, Item}
 use Rattle.c_paths.specs.Facts.{Facts}
-use Rattle.c_paths.specs.Traces.{Definition, Trace}
+use Rattle.c_paths.specs.Flow.{Flow}
+use Rattle.c_paths.specs.Traces.{BodyTrace, Definition, Trace}
 use Rattle.c_paths.specs.Listing.{longest_traces, finishes_within, Begins}
+use Rattle.c_paths.specs.Graphs.{Block, GraphTrace}
+use Rattle.c_paths.specs.Layout.{IsGraphOf}
+use Rattle.c_paths.specs.Building.{graph_of}
 
 -- what is listed are traces
 abbrev pub ListedAreTraces : Type 0
@@ -13,3 +17,13 @@ ListedAreTraces = (F : Facts) (d : Definition) (n : ℕ) (l : List Item) → Beg
 abbrev pub FinishedListsAreAll : Type 0
 FinishedListsAreAll = (F : Facts) (d : Definition) (n : ℕ) → finishes_within F d n ≡ true
     → (l : List Item) → Trace F d l ↔ Begins l (longest_traces F d n)
+
+-- a graph that has the blocks of a body has exactly its traces
+abbrev pub GraphsHaveTheTraces : Type 0
+GraphsHaveTheTraces = (g : List Block) (body : Flow) (exit : Event) (entry : ℕ) → IsGraphOf g body exit entry
+    → (l : List Item) → BodyTrace body exit l ↔ GraphTrace g entry l
+
+-- so has the graph that the plain builder makes of a function
+abbrev pub BuiltGraphsHaveTheTraces : Type 0
+BuiltGraphsHaveTheTraces = (F : Facts) (d : Definition) (l : List Item)
+    → Trace F d l ↔ GraphTrace (graph_of F d).blocks (graph_of F d).entry l

@@ -1,8 +1,7 @@
 -- The flow of control of each statement of C, and what a declaration gives.
 use Rattle.std.specs.Prelude.{Option, None, Some}
 use Rattle.c_tree.specs.declared.place.Place.{Place}
-use Rattle.c_tree.specs.declared.token.Token.{Token}
-use Rattle.c_tree.specs.Node.{Node, node, Primary, Operation, Initializer, Specifier, Declarator, Part, Outer, Statement, Iteration, Jump, OuterShape, StatementShape, IterationShape, JumpShape, Init, Braces, Designated, Declaration, Function, Empty, Block, ExprStmt, If, Switch, Case, Default, Label, While, Do, For, ForDeclaration, Goto, Continue, Break, Return, MaybeNode, absent, present, Nodes, no_more, more}
+use Rattle.c_tree.specs.Node.{Node, node, Primary, Operation, Initializer, Specifier, Declarator, Part, Outer, Statement, Iteration, Jump, OuterShape, StatementShape, IterationShape, JumpShape, Init, Declaration, Function, Empty, Block, ExprStmt, If, Switch, Case, Default, Label, While, Do, For, ForDeclaration, Goto, Continue, Break, Return, MaybeNode, absent, present, Nodes, no_more, more}
 use Rattle.c_paths.specs.Events.{Variable, declared, Exited}
 use Rattle.c_paths.specs.Facts.{Facts}
 use Rattle.c_paths.specs.Forms.{Form, Row, done, operand, item}

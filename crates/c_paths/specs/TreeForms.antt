@@ -1,7 +1,7 @@
 -- The form of each expression of C.
 -- A tree is evaluated behind its operands (ISO 9899:1990, 6.3). Nothing is evaluated in `sizeof` and `__builtin_offsetof`, in
 -- type names, array bounds and the indices of designators. Parentheses are their inside, and braces their elements in order.
-use Rattle.std.specs.Prelude.{ℕ, Bool, true, false, ◌==◌}
+use Rattle.std.specs.Prelude.{Bool, true, false, ◌==◌}
 use Rattle.c_tree.specs.declared.operator.BinaryOp.{BinaryOp}
 use Rattle.c_tree.specs.declared.operator.BinaryOp.TheVariants as binary
 use Rattle.c_tree.specs.declared.operator.UnaryOp.{UnaryOp}

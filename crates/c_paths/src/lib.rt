@@ -1,6 +1,8 @@
-//! The events of a function of C, the evaluation of its expressions, and its traces.
+//! The events of a function of C, the evaluation of its expressions, its traces, and flow graphs with these traces.
 #![tactic(auto)]
 
 mod theorems;
 
-pub use theorems::{finished_lists_are_all, listed_are_traces};
+pub use theorems::{
+    built_graphs_have_the_traces, finished_lists_are_all, graphs_have_the_traces, listed_are_traces,
+};

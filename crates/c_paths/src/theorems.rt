@@ -1,7 +1,12 @@
 // The theorems of traces, each in the contract of a function that does nothing: a call of it hands the fact to a caller's
 // proof.
 
-ghost use Rattle.c_paths.specs.Theorems.{FinishedListsAreAll, ListedAreTraces};
+ghost use Rattle.c_paths.specs.Theorems.{
+  BuiltGraphsHaveTheTraces,
+  FinishedListsAreAll,
+  GraphsHaveTheTraces,
+  ListedAreTraces,
+};
 
 /// Each beginning of a list that is found by making steps is a trace of the function.
 pub fn listed_are_traces()
@@ -11,4 +16,14 @@ pub fn listed_are_traces()
 /// Where no more steps can be made, the beginnings of the lists that are found are all traces of the function.
 pub fn finished_lists_are_all()
     ensures { FinishedListsAreAll }
+{}
+
+/// A graph that has the blocks of a body has exactly its traces.
+pub fn graphs_have_the_traces()
+    ensures { GraphsHaveTheTraces }
+{}
+
+/// The graph that the plain builder makes of a function has exactly its traces.
+pub fn built_graphs_have_the_traces()
+    ensures { BuiltGraphsHaveTheTraces }
 {}
