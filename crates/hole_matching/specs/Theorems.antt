@@ -26,6 +26,3 @@ BindingsAreUnique = (g : Setting) (items : List Item) (s : Subject) (b c : Bindi
 -- What two trees are compared by is the head and the parts that they are matched by.
 abbrev pub ComparedLevelByLevel : Type 0
 ComparedLevelByLevel = (u : Facts) (s : Subject) → compared u s ≡ with_parts (head_of u (inner s)) (compared_all u (parts_of (inner s)))
-
--- Equal trees are those that match: what a tree is compared by, as a pattern, stands over exactly the trees that are equal to
--- it and are read as something, and its holes take nothing.
