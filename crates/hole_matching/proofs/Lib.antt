@@ -1,0 +1,11 @@
+pub mod Alternatives
+pub mod Bindings
+pub mod Building
+pub mod CalloutExamples
+pub mod CodeFacts
+pub mod Heads
+pub mod Levels
+pub mod MatchExamples
+pub mod MessageExamples
+pub mod Standing
+pub mod TypeExamples

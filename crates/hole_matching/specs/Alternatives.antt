@@ -1,0 +1,54 @@
+-- Alternatives of a rule: base patterns that are matched with one subject and one joint binding, and callouts on it.
+use Rattle.std.specs.Prelude.{◌≡◌, ℕ, List, [], ◌∷◌, ◌++◌, true, Bool, cond, ◌&&◌, Option, None, Some}
+use Rattle.c_objects.specs.Objects.{Object}
+use Rattle.c_tree.specs.Syntax.{Syntax}
+use Rattle.c_typing.specs.Options.{◌>?◌}
+use Rattle.hole_matching.specs.Callouts.{Condition, holds}
+use Rattle.hole_matching.specs.Holes.{Setting}
+use Rattle.hole_matching.specs.Matched.{matched, nothing_taken}
+use Rattle.hole_matching.specs.Matching.{Taking, Taken, One, Many, Binding, slot, Stands, IsBinding}
+use Rattle.hole_matching.specs.Subjects.{Subject, subject_object}
+use Rattle.hole_matching.specs.Written.{pattern_of}
+
+-- A base pattern, a callout, or `$end_of_path$`, which asks nothing of a subject.
+pub data Item : Type 0 where
+  Base : Syntax → Item
+  Holds : Condition → Item
+  EndOfPath : Item
+
+-- all base patterns stand over the subject; what their holes take, in the order of the text
+abbrev pub BasesStand : Setting → List Item → Subject → List Taking → Type 0
+BasesStand g [] s ts = ts ≡ []
+BasesStand g (Base e ∷ items) s ts = (xs : List Taking) × (ys : List Taking) × (ts ≡ (xs ++ ys)) × Stands g (pattern_of e) s xs × BasesStand g items s ys
+BasesStand g (item ∷ items) s ts = BasesStand g items s ts
+
+abbrev pub all_hold : Setting → List Item → Binding → Bool
+all_hold g [] b = true
+all_hold g (Holds c ∷ items) b = holds g c b && all_hold g items b
+all_hold g (item ∷ items) b = all_hold g items b
+
+-- AN ALTERNATIVE MATCHES a subject with a binding.
+pub record Matches (g : Setting) (items : List Item) (s : Subject) (b : Binding) : Type 0 where
+  pub takings : List Taking
+  pub bases : BasesStand g items s takings
+  pub joint : IsBinding g.facts takings b
+  pub conditions : all_hold g items b ≡ true
+
+-- the binding of the base patterns, from the one before
+abbrev pub matched_bases : Setting → List Item → Subject → Binding → Option Binding
+matched_bases g [] s b = Some b
+matched_bases g (Base e ∷ items) s b = matched g (pattern_of e) s b >? matched_bases g items s
+matched_bases g (item ∷ items) s b = matched_bases g items s b
+
+-- the binding with which an alternative matches
+abbrev pub matched_alternative : Setting → List Item → Subject → Option Binding
+matched_alternative g items s = matched_bases g items s nothing_taken >? λ b. cond (all_hold g items b) (Some b) None
+
+abbrev pub object_taken : Setting → Option Taken → Option Object
+object_taken g None = None
+object_taken g (Some (One s)) = subject_object g.facts g.depth s
+object_taken g (Some (Many ss)) = None
+
+-- the object that a state variable is bound to
+abbrev pub bound_object : Setting → ℕ → Binding → Option Object
+bound_object g variable b = object_taken g (slot variable b)

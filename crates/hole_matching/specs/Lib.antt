@@ -1,0 +1,13 @@
+pub mod Codes
+pub mod MatchedTypes
+pub mod Pattern
+pub mod Written
+pub mod Subjects
+pub mod ComparedSubjects
+pub mod Holes
+pub mod Matching
+pub mod Matched
+pub mod Callouts
+pub mod Alternatives
+pub mod Message
+pub mod Theorems
