@@ -1,0 +1,2 @@
+//! The grammar of C on syntax trees.
+#![tactic(auto)]
