@@ -1,1 +1,3 @@
+pub mod BasicTypes
 pub mod Declarations
+pub mod Runs

@@ -1,2 +1,4 @@
 pub mod Declarations
 pub mod Scopes
+pub mod Runs
+pub mod Lines
