@@ -1,3 +1,4 @@
 pub mod BasicTypes
 pub mod Declarations
 pub mod Runs
+pub mod SpecifierWords

@@ -2,3 +2,4 @@ pub mod Declarations
 pub mod Scopes
 pub mod Runs
 pub mod Lines
+pub mod SpecifierPlaces

@@ -4,6 +4,7 @@
 mod basic_types;
 mod fault;
 mod operators;
+mod specifier_words;
 mod symbols;
 #[cfg(test)]
 mod tests;
