@@ -3,3 +3,4 @@ pub mod Scopes
 pub mod Runs
 pub mod Lines
 pub mod SpecifierPlaces
+pub mod Gives

@@ -3,15 +3,20 @@
 
 mod basic_types;
 mod fault;
+mod nodes;
 mod operators;
 mod specifier_words;
+mod specifiers;
 mod symbols;
 #[cfg(test)]
 mod tests;
 mod type_names;
 
 pub use fault::ExprFault;
+pub use nodes::Read;
 pub use operators::{
     ASSIGNMENT_LEVEL, CAST_LEVEL, COMMA_LEVEL, CONDITIONAL_LEVEL, POSTFIX_LEVEL, UNARY_LEVEL,
 };
+pub use specifier_words::{SpecifierPlace, begins_specifiers};
+pub use specifiers::read_specifiers;
 pub use type_names::TypeNames;
