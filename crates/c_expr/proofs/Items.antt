@@ -1,5 +1,5 @@
 -- Specifiers that are read one after the other.
-use Rattle.std.proofs.Common.{◌≡◌, ℕ, zero, suc, max, ◌+◌, ◌-◌, ◌<◌, ◌≤◌, Bool, true, false, cond, ◌||◌, List, [], ◌∷◌, ◌++◌, length, Option, None, Some, ap, refl, ◌∙◌, sym, arith}
+use Rattle.std.proofs.Common.{◌≡◌, ℕ, zero, suc, max, ◌+◌, ◌-◌, ◌<◌, ◌≤◌, Bool, true, false, cond, ◌||◌, List, [], ◌∷◌, ◌++◌, length, Option, None, Some, Result, Ok, Err, ap, refl, ◌∙◌, sym, arith}
 use Rattle.c_tree.specs.declared.tree.Tree.{Tree}
 use Rattle.c_tree.specs.declared.tree.Trees.{Trees, out-Trees}
 use Rattle.c_tree.specs.Symbol.{Symbol}
@@ -15,7 +15,9 @@ use Rattle.c_grammar.specs.SpecifierSteps.{read_tag, read_item, read_items}
 use Rattle.c_grammar.specs.Nonterminal.{Specifiers}
 use Rattle.c_grammar.specs.Reading.{read}
 use Rattle.c_grammar.proofs.Steps.{read-zero, read-some, read_items-zero, read_items-some}
-use Rattle.c_expr.specs.Gives.{before, ending_with, count_in}
+use Rattle.c_expr.specs.Gives.{before, ending_with, count_in, done}
+use Rattle.c_expr.specs.declared.fault.ExprFault.{ExprFault}
+use Rattle.c_expr.specs.declared.nodes.Read.{Read}
 
 pub before-push : (ts : List Tree) (t : Tree) (es : Syntaxes) → before (ts ++ (t ∷ [])) es ≡ before ts (more (view t) es)
 before-push [] t es = refl
@@ -86,6 +88,10 @@ specifiers-none m place names ts h = by m
 
 pub list_out : (trees : Trees) → list_view trees ≡ view_all (out-Trees trees).all.now
 list_out trees = ap syntaxes_of (nodes_out trees)
+
+pub done-most : (r : Result Read ExprFault) → done r ≤ 1
+done-most (Ok r) = omega arith
+done-most (Err e) = omega arith
 
 pub ruleset items = (read_items-zero, read_items-some, read_items-end, before-none, height_in-push, count_in-push)
 

@@ -37,6 +37,11 @@ abbrev pub left : Result Read ExprFault → ℕ
 left (Ok r) = length r.rest.now
 left (Err e) = 0
 
+-- 1 for what is read
+abbrev pub done : Result Read ExprFault → ℕ
+done (Ok r) = 1
+done (Err e) = 0
+
 abbrev pub left_by_list : Result ReadList ExprFault → ℕ
 left_by_list (Ok r) = length r.rest.now
 left_by_list (Err e) = 0

@@ -18,5 +18,5 @@ pub use operators::{
     ASSIGNMENT_LEVEL, CAST_LEVEL, COMMA_LEVEL, CONDITIONAL_LEVEL, POSTFIX_LEVEL, UNARY_LEVEL,
 };
 pub use specifier_words::{SpecifierPlace, begins_specifiers};
-pub use specifiers::read_specifiers;
+pub use specifiers::specifiers_in_front;
 pub use type_names::TypeNames;

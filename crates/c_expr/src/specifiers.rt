@@ -9,7 +9,7 @@ ghost use Rattle.c_grammar.specs.Specifiers.{goes_on};
 ghost use Rattle.c_grammar.specs.SpecifierSteps as steps;
 ghost use Rattle.c_grammar.specs.Nonterminal.{Specifiers};
 ghost use Rattle.c_grammar.specs.Reading.{read};
-ghost use Rattle.c_expr.specs.Gives.{Gives, GivesList, left, left_by_list, count_of, Spends};
+ghost use Rattle.c_expr.specs.Gives.{Gives, GivesList, left, left_by_list, count_of, done, Spends};
 ghost use Rattle.c_expr.specs.SpecifierPlaces.{place_of};
 
 use crate::fault::ExprFault;
@@ -146,7 +146,7 @@ fn read_items<'a>(
 
 /// All specifiers in front.
 #[tactic(auto, using(crate::proofs::Items::specifiers))]
-pub fn read_specifiers<'a>(
+pub fn specifiers_in_front<'a>(
     arena: &'a Arena,
     place: SpecifierPlace,
     tokens: &'a [Token],
@@ -156,7 +156,7 @@ pub fn read_specifiers<'a>(
 ) -> Result<Read<'a>, ExprFault>
     requires { next.old + 16 * length tokens.now < 2 ^ 32 }
     ensures found { Gives result (read room (Specifiers (place_of place)) names.now.now (symbols_of tokens.now)) }
-    ensures ids { Spends next.old next.new (length tokens.now) (left result) }
+    ensures ids { (next.old ≤ next.new) × (next.new + 16 * left result + 8 * done result ≤ next.old + 16 * length tokens.now) }
 {
     if room == 0 {
         return Err(ExprFault::NoTree);
