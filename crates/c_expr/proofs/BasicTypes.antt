@@ -72,4 +72,3 @@ is_among-drop ks table i d h = passed (λ ls. is_among ks (lines_of ls)) table i
 
 pub is_among-end : (ks : List Keyword) (table : List (Bor (List Keyword))) (i : ℕ) → length table ≤ i → is_among ks (lines_of (drop i table)) ≡ false
 is_among-end ks table i h = ap (λ ls. is_among ks (lines_of ls)) (drop_all i table h) ∙ is_among-none ks
-

@@ -36,7 +36,12 @@ const BASIC_TYPES: &[&[Keyword]] = &[
     &[Keyword::Signed, Keyword::Long, Keyword::Long],
     &[Keyword::Signed, Keyword::Long, Keyword::Long, Keyword::Int],
     &[Keyword::Unsigned, Keyword::Long, Keyword::Long],
-    &[Keyword::Unsigned, Keyword::Long, Keyword::Long, Keyword::Int],
+    &[
+        Keyword::Unsigned,
+        Keyword::Long,
+        Keyword::Long,
+        Keyword::Int,
+    ],
     &[Keyword::Int128],
     &[Keyword::Signed, Keyword::Int128],
     &[Keyword::Unsigned, Keyword::Int128],

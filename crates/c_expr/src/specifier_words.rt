@@ -29,11 +29,8 @@ fn is_storage(word: Keyword) -> bool
     ensures { result ≡ is_storage word }
 {
     match word {
-        Keyword::Typedef
-        | Keyword::Extern
-        | Keyword::Static
-        | Keyword::Auto
-        | Keyword::Register => true,
+        Keyword::Typedef | Keyword::Extern | Keyword::Static | Keyword::Auto | Keyword::Register =>
+            true,
         _ => false,
     }
 }
@@ -134,11 +131,7 @@ fn type_word_of(item: &Tree) -> Option<Keyword>
     match &item.kind {
         Kind::Part(part) => match part {
             Part::SpecWord { word } => match word.kind {
-                TokenKind::Keyword(word) => if is_type_word(word) {
-                    Some(word)
-                } else {
-                    None
-                },
+                TokenKind::Keyword(word) => if is_type_word(word) { Some(word) } else { None },
                 _ => None,
             },
             _ => None,
@@ -154,11 +147,7 @@ fn storage_of(item: &Tree) -> Option<Keyword>
     match &item.kind {
         Kind::Part(part) => match part {
             Part::SpecWord { word } => match word.kind {
-                TokenKind::Keyword(word) => if is_storage(word) {
-                    Some(word)
-                } else {
-                    None
-                },
+                TokenKind::Keyword(word) => if is_storage(word) { Some(word) } else { None },
                 _ => None,
             },
             _ => None,
@@ -303,7 +292,9 @@ pub(crate) fn fit<'a>(
         SpecifierPlace::InDeclaration => true,
         _ => false,
     };
-    Ok(is_one_type(words, other_types(items))
-        && are_allowed(place, storages)
-        && (may_inline || !inlines(items)))
+    Ok(
+        is_one_type(words, other_types(items))
+            && are_allowed(place, storages)
+            && (may_inline || !inlines(items)),
+    )
 }

@@ -33,7 +33,13 @@ fn read_struct_tag<'a>(
     let Some((tag, rest)) = take_word(tokens) else {
         return Err(ExprFault::NoTree);
     };
-    Ok(part(Kind::Specifier(Specifier::StructTag { which, tag }), first, 1, rest, next))
+    Ok(part(
+        Kind::Specifier(Specifier::StructTag { which, tag }),
+        first,
+        1,
+        rest,
+        next,
+    ))
 }
 
 /// The tag behind `enum`.
@@ -49,15 +55,17 @@ fn read_enum_tag<'a>(
     let Some((tag, rest)) = take_word(tokens) else {
         return Err(ExprFault::NoTree);
     };
-    Ok(part(Kind::Specifier(Specifier::EnumTag { tag }), first, 1, rest, next))
+    Ok(part(
+        Kind::Specifier(Specifier::EnumTag { tag }),
+        first,
+        1,
+        rest,
+        next,
+    ))
 }
 
 /// A tag without a body (6.5.2.3), with its word in front.
-fn read_tag<'a>(
-    front: &Token,
-    tokens: &'a [Token],
-    next: &mut u32,
-) -> Result<Read<'a>, ExprFault>
+fn read_tag<'a>(front: &Token, tokens: &'a [Token], next: &mut u32) -> Result<Read<'a>, ExprFault>
     requires { next.old + 16 * length tokens.now < 2 ^ 32 }
     ensures found { Gives result (steps.read_tag (symbol_of front.now ∷ symbols_of tokens.now)) }
     ensures ids { Spends next.old next.new (length tokens.now) (left result) }
@@ -87,7 +95,13 @@ fn read_item<'a>(
     if begins_tag(front) {
         return read_tag(front, tokens, next);
     }
-    Ok(part(Kind::Part(Part::SpecWord { word: front }), front.place, 0, tokens, next))
+    Ok(part(
+        Kind::Part(Part::SpecWord { word: front }),
+        front.place,
+        0,
+        tokens,
+        next,
+    ))
 }
 
 /// The token in front that goes on with specifiers, and what follows it.
@@ -165,8 +179,6 @@ pub fn specifiers_in_front<'a>(
     if !fit(arena, place, items.trees.all)? {
         return Err(ExprFault::NoTree);
     }
-    let kind = Kind::Specifier(Specifier::Specs {
-        items: items.trees,
-    });
+    let kind = Kind::Specifier(Specifier::Specs { items: items.trees });
     node(kind, place_of(tokens), items.height, items.rest, room, next)
 }
