@@ -1,0 +1,6 @@
+pub mod BasicTypes
+pub mod Declarations
+pub mod Items
+pub mod Lists
+pub mod Runs
+pub mod SpecifierWords

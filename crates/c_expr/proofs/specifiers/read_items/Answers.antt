@@ -1,0 +1,17 @@
+use Rattle.std.proofs.Common.{◌≡◌, ◌<◌, ◌∙◌, sym, arith}
+use Rattle.c_tree.specs.Symbol.{symbol_of, symbols_of}
+use Rattle.c_expr.proofs.Items.{items-next, height_pushed, count_pushed}
+use Rattle.c_expr.proofs.specifiers.read_items.Goals as goal
+
+pub loop-front-preserved : goal.loop-front-preserved
+loop-front-preserved c =
+    let positive : 0 < c.loop-front.fuel = omega arith in
+    let item = c.in_ok-item.item in
+    let highest = height_pushed c.loop-front.all.items c.push.new.self.items item.tree c.in_ok-push.ensures.items in
+    let counted = count_pushed c.loop-front.all.items c.push.new.self.items item.tree c.in_ok-push.ensures.items in
+    record {
+      found = items-next c.args.names.now.now c.loop-front.fuel c.loop-front.typed c.types-typed.result (symbols_of c.loop-front.rest.now) (symbol_of c.in-Some.front.now) (symbols_of c.in-Some.behind.now) (symbols_of item.rest.now) c.loop-front.all.items c.push.new.self.items item.tree _ positive (sym c.in-Some.ensures.found) c.in_ok-item.ensures.found.0 c.types-typed.ensures c.in_ok-push.ensures.items c.loop-front.invariant.found;
+      height = omega (arith, c.in_ok-item.ensures.found.1, highest);
+      rises = omega arith;
+      spent = omega (arith, counted, c.in_ok-item.ensures.ids.1, c.in-Some.ensures.shorter, c.loop-front.invariant.spent);
+    }

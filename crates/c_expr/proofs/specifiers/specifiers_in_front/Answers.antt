@@ -1,0 +1,15 @@
+use Rattle.std.proofs.Common.{arith}
+use Rattle.c_expr.specs.SpecifierPlaces.{place_of}
+use Rattle.c_expr.proofs.Items.{fit-some, done-most}
+use Rattle.c_expr.proofs.specifiers.specifiers_in_front.Goals as goal
+
+pub node-requires-clause-ids : goal.node-requires-clause-ids
+node-requires-clause-ids c =
+    let some = fit-some (place_of c.args.place) c.in_ok-items.items.trees _ c.in_ok-fit.ensures c.if-not-branch.false in
+    omega (arith, some, c.in_ok-items.ensures.ids)
+
+pub returns-clause-ids : goal.returns-clause-ids
+returns-clause-ids c =
+    let some = fit-some (place_of c.args.place) c.in_ok-items.items.trees _ c.in_ok-fit.ensures c.if-not-branch.false in
+    let one = done-most c.node.result in
+    (omega arith, omega (arith, some, one, c.in_ok-items.ensures.ids, c.node.ensures.ids))

@@ -1,0 +1,100 @@
+//! Nodes and lists of nodes that were read.
+
+ghost use Rattle.std.specs.Prelude.{◌≡◌, ◌+◌, ◌*◌, ◌<◌, ◌≤◌, ◌^◌, length, MatchResult};
+ghost use Rattle.c_tree.specs.Symbol.{symbols_of};
+ghost use Rattle.c_tree.specs.Height.{height_of};
+ghost use Rattle.c_tree.specs.Forget.{view, view_all, list_view};
+ghost use Rattle.c_grammar.specs.Found.{made};
+ghost use Rattle.c_expr.specs.Gives.{Gives, kind_view, left, Spends};
+ghost use Rattle.c_expr.specs.declared.fault.ExprFault.TheVariants.{NoMemory};
+
+use crate::fault::ExprFault;
+use bumpalo::collections::into_bump_slice;
+use c_tree::{Arena, Kind, Place, Token, Tree, Trees};
+
+/// A tree that was read.
+#[derive(Clone, Copy)]
+pub struct Read<'a> {
+    pub tree: Tree<'a>,
+    /// The tokens behind it.
+    pub rest: &'a [Token],
+    /// Its height.
+    pub height: u32,
+}
+
+/// Nodes that were read, side by side.
+#[derive(Clone, Copy)]
+pub(crate) struct ReadList<'a> {
+    pub trees: Trees<'a>,
+    /// The tokens behind them.
+    pub rest: &'a [Token],
+    /// The height of the highest, and 0 where there is none.
+    pub height: u32,
+}
+
+/// A node in the arena.
+pub(crate) fn keep<'a>(arena: &'a Arena, tree: Tree<'a>) -> Result<&'a Tree<'a>, ExprFault>
+    ensures { MatchResult result (λ kept. kept.now ≡ tree.entry) (λ e. e ≡ NoMemory) }
+{
+    Ok(arena.try_alloc(tree)?)
+}
+
+/// Nodes side by side in the arena.
+#[tactic(auto, using(crate::proofs::Lists::made_list))]
+pub(crate) fn list_of<'a>(all: Vec<Tree<'a>, &'a Arena>) -> Trees<'a>
+    ensures { list_view result ≡ view_all all.entry.items }
+{
+    Trees {
+        all: into_bump_slice(all),
+    }
+}
+
+/// A node of height at most `room`, whose highest child has this height.
+pub(crate) fn node<'a>(
+    kind: Kind<'a>,
+    first: Place,
+    highest: u32,
+    rest: &'a [Token],
+    room: u32,
+    next: &mut u32,
+) -> Result<Read<'a>, ExprFault>
+    requires height { height_of (kind_view kind) ≡ highest + 1 }
+    requires ids { next.old + 1 < 2 ^ 32 }
+    ensures found { Gives result (made room (kind_view kind.entry) (symbols_of rest.now)) }
+    ensures ids { (next.old ≤ next.new) × (next.new ≤ next.old + 1) × (left result ≤ length rest.now) }
+{
+    if room <= highest {
+        return Err(ExprFault::NoTree);
+    }
+    let id = *next;
+    *next += 1;
+    Ok(Read {
+        tree: Tree { id, first, kind },
+        rest,
+        height: highest + 1,
+    })
+}
+
+/// A part, which is no node of its own for the height, or a leaf.
+pub(crate) fn part<'a>(
+    kind: Kind<'a>,
+    first: Place,
+    height: u32,
+    rest: &'a [Token],
+    next: &mut u32,
+) -> Read<'a>
+    requires height { height_of (kind_view kind) ≡ height }
+    requires ids { next.old + 1 < 2 ^ 32 }
+    ensures tree { view result.tree ≡ kind_view kind.entry }
+    ensures height { result.height ≡ height }
+    ensures rest { result.rest.now ≡ rest.now }
+    ensures ids { next.new ≡ next.old + 1 }
+{
+    let id = *next;
+    *next += 1;
+    Read {
+        tree: Tree { id, first, kind },
+        rest,
+        height,
+    }
+}
