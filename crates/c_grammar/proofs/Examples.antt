@@ -384,3 +384,17 @@ named_type_name = refl
 nothing_nested : whole NameOfType [] (int ∷ left ∷ left ∷ right ∷ right ∷ []) ≡ Some (Specifier (TypeName (Specifier (Specs (more (Part (SpecWord (int))) no_more))) (present (Declarator (Nested [] (Declarator (Unnamed [] (more (Part (Params no_more false)) no_more))) no_more)))))
 unfolding read read_binary read_chain read_postfix_operators read_more_arguments read_path read_items read_suffixes read_params run_of after_run is_type type_words other_types storages inlines occurrences as_often is_among
 nothing_nested = refl
+
+-- (x) is two high
+high_enough : read 2 (Expression 15) [] (left ∷ x ∷ right ∷ []) ≡ Some (Primary (Paren (ident x)), [])
+unfolding read read_binary read_chain read_postfix_operators read_more_arguments read_path read_items read_suffixes read_params run_of after_run is_type type_words other_types storages inlines occurrences as_often is_among
+high_enough = refl
+
+too_high : read 1 (Expression 15) [] (left ∷ x ∷ right ∷ []) ≡ None
+unfolding read read_binary read_chain read_postfix_operators read_more_arguments read_path read_items read_suffixes read_params run_of after_run is_type type_words other_types storages inlines occurrences as_often is_among
+too_high = refl
+
+-- what follows a tree is left: x + y ; of which the sum is read
+left_over : read 9 (Expression 15) [] (x ∷ Sign marks.Plus ∷ y ∷ Sign marks.Semicolon ∷ []) ≡ Some (Operation (Binary binary.Add (ident x) (ident y)), Sign marks.Semicolon ∷ [])
+unfolding read read_binary read_chain read_postfix_operators read_more_arguments read_path read_items read_suffixes read_params run_of after_run is_type type_words other_types storages inlines occurrences as_often is_among
+left_over = refl

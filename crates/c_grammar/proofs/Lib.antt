@@ -5,3 +5,13 @@ pub mod Front
 pub mod Steps
 pub mod Readers
 pub mod SoundSpecifiers
+pub mod SoundDeclarators
+pub mod SoundExpressions
+pub mod Sound
+pub mod Longer
+pub mod Begins
+pub mod CompleteSpecifiers
+pub mod CompleteDeclarators
+pub mod Stops
+pub mod CompleteExpressions
+pub mod Complete

@@ -1,5 +1,5 @@
 -- What is read as specifiers are specifiers.
-use Rattle.std.proofs.Common.{◌≡◌, ℕ, zero, suc, ◌≤◌, Bool, true, false, cond, ◌||◌, List, [], ◌∷◌, length, Option, None, Some, inl, inr, ap, refl, ◌∙◌, sym, subst}
+use Rattle.std.proofs.Common.{◌≡◌, ℕ, zero, suc, ◌≤◌, Bool, true, false, ◌||◌, List, ◌∷◌, length, Option, Some, inl, inr, ap, ◌∙◌, subst}
 use Rattle.c_tree.specs.declared.keyword.Keyword.TheVariants as words
 use Rattle.c_tree.specs.declared.operator.StructOrUnion.{StructOrUnion}
 use Rattle.c_tree.specs.declared.operator.StructOrUnion.TheVariants as which_word
@@ -17,7 +17,7 @@ use Rattle.c_grammar.specs.Found.{Found, made}
 use Rattle.c_grammar.specs.SpecifierSteps.{read_item, read_items, read_specifiers, read_struct_tag, read_enum_tag, read_tag}
 use Rattle.c_grammar.proofs.Options.{bound, chosen, when, which, parts, either, made_some}
 use Rattle.c_grammar.proofs.Front.{take_symbol_some, taken_keyword}
-use Rattle.c_grammar.proofs.Readers.{Stands, finish}
+use Rattle.c_grammar.proofs.Readers.{Stands}
 
 -- what the reader of specifiers with tags finds is one
 abbrev pub FindsTagged : (Syntax → Type 0) → (List Symbol → Option Found) → Type 0

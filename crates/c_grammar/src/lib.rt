@@ -3,3 +3,5 @@
 #![tactic(auto)]
 
 mod theorems;
+
+pub use theorems::{parses_are_read, parses_are_unique, reading_is_complete, reading_is_sound};
