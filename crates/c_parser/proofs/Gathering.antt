@@ -1,9 +1,10 @@
 -- Labels that are gathered one after the other.
-use Rattle.std.proofs.Common.{◌≡◌, ℕ, zero, suc, Bool, true, false, cond, not, ◌||◌, ◌&&◌, nat_eq, List, [], ◌∷◌, ◌++◌, Option, None, Some, ap, refl, sym, ◌∙◌}
+use Rattle.std.proofs.Common.{◌≡◌, ℕ, Bool, true, false, cond, not, ◌||◌, ◌&&◌, nat_eq, List, [], ◌∷◌, ◌++◌, Option, None, Some, ap, refl, sym, ◌∙◌, arith}
 use Rattle.std.specs.List.{list_any}
 use Rattle.std.proofs.lemmas.List.{append_assoc, append-nil}
+use Rattle.c_tree.specs.Syntax.{Syntax}
 use Rattle.c_grammar.specs.Found.{◌>>=◌}
-use Rattle.unit_grammar.specs.Control.{has_name, are_different}
+use Rattle.unit_grammar.specs.Control.{has_name, are_different, labels, may_stand, is_controlled}
 use Rattle.c_parser.specs.Gathered.{with_label, gathered, known_if}
 
 pub any_name : (name : ℕ) (names : List ℕ) → list_any (nat_eq name) names ≡ has_name name names
@@ -43,10 +44,7 @@ apart [] known = true
 apart (name ∷ names) known = not (has_name name known) && apart names known
 
 same_sym : (a b : ℕ) → nat_eq a b ≡ nat_eq b a
-same_sym zero zero = refl
-same_sym zero (suc b) = refl
-same_sym (suc a) zero = refl
-same_sym (suc a) (suc b) = same_sym a b
+same_sym a b = grind arith
 
 has_name-push : (name last : ℕ) (known : List ℕ) → has_name name (known ++ (last ∷ [])) ≡ (has_name name known || nat_eq name last)
 unfolding has_name
@@ -105,10 +103,10 @@ gathered-all known (name ∷ names) =
     by false false c false all = refl
 
 different : (b : Bool) (all : List ℕ) (fresh : Bool) (new : List ℕ) → cond b (Some all) None ≡ known_if fresh new → (b ≡ fresh) × (fresh ≡ true → new ≡ all)
-different true all true new h = grind
-different true all false new h = grind
-different false all true new h = grind
-different false all false new h = grind
+different true all true new h = grind arith
+different true all false new h = grind arith
+different false all true new h = grind arith
+different false all false new h = grind arith
 
 -- the labels of a function's body
 pub all_gathered : (names : List ℕ) (fresh : Bool) (new : List ℕ) → gathered [] names ≡ known_if fresh new → (are_different names ≡ fresh) × (fresh ≡ true → new ≡ names)
@@ -117,6 +115,20 @@ all_gathered names fresh new h = different (are_different names) names fresh new
     by : (b : Bool) → (b && true) ≡ b
     by true = refl
     by false = refl
+
+-- a label that stands twice
+pub uncontrolled : (body : Syntax) (start : List ℕ) (fresh : Bool) (new : List ℕ) → gathered start (labels body) ≡ known_if fresh new → start ≡ [] → fresh ≡ false → false ≡ is_controlled body
+uncontrolled body start fresh new g s f =
+    let d = all_gathered (labels body) fresh new (ap (λ k. gathered k (labels body)) (sym s) ∙ g) in
+    sym (ap (λ b. b && may_stand (record { loop = false; switch = false; known = labels body }) body) (d.0 ∙ f))
+
+-- no label that stands twice
+pub controlled : (body : Syntax) (start : List ℕ) (fresh : Bool) (new : List ℕ) → gathered start (labels body) ≡ known_if fresh new → start ≡ [] → fresh ≡ true
+    → may_stand (record { loop = false; switch = false; known = new }) body ≡ is_controlled body
+controlled body start fresh new g s f =
+    let d = all_gathered (labels body) fresh new (ap (λ k. gathered k (labels body)) (sym s) ∙ g) in
+    ap (λ k. may_stand (record { loop = false; switch = false; known = k }) body) (d.1 f)
+    ∙ sym (ap (λ b. b && may_stand (record { loop = false; switch = false; known = labels body }) body) (d.0 ∙ f))
 
 pub ruleset known_names = (any_name)
 

@@ -260,7 +260,6 @@ fn all_may_stand(trees: &Trees, around: Around, labels: &Labels) -> bool
 }
 
 /// Whether all labels in a function's body differ, and each jump and each label of a `switch` stands where it may.
-#[tactic(auto, using(crate::proofs::Gathering::all_gathered))]
 pub fn is_controlled(alloc: Global, body: &Tree) -> Result<bool, AllocError>
     ensures { IfOk result (λ controlled. controlled ≡ is_controlled (view body.now)) }
 {
