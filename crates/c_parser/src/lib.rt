@@ -2,6 +2,8 @@
 #![tactic(auto)]
 
 mod control;
+mod declared;
+mod definitions;
 mod labels;
 
 pub use control::is_controlled;
