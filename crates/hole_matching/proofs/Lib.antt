@@ -2,7 +2,9 @@ pub mod Alternatives
 pub mod Bindings
 pub mod Building
 pub mod CalloutExamples
+pub mod Closed
 pub mod CodeFacts
+pub mod Copies
 pub mod Heads
 pub mod Levels
 pub mod MatchExamples

@@ -10,4 +10,5 @@ pub mod Matched
 pub mod Callouts
 pub mod Alternatives
 pub mod Message
+pub mod Plain
 pub mod Theorems

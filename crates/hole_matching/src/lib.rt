@@ -5,5 +5,6 @@
 mod theorems;
 
 pub use theorems::{
-    alternatives_are_matched, bindings_are_unique, compared_level_by_level, patterns_are_matched,
+    alternatives_are_matched, bindings_are_unique, compared_level_by_level, copies_are_compared,
+    equal_trees_match, patterns_are_matched, same_trees_are_equal,
 };

@@ -6,6 +6,9 @@ ghost use Rattle.hole_matching.specs.Theorems.{
   AlternativesAreMatched,
   BindingsAreUnique,
   ComparedLevelByLevel,
+  EqualTreesMatch,
+  CopiesAreCompared,
+  SameTreesAreEqual,
 };
 
 /// A pattern is matched with a subject by exactly the binding of what its holes take where it stands over it.
@@ -26,4 +29,19 @@ pub fn bindings_are_unique()
 /// What two trees are compared by is the head and the parts that they are matched by.
 pub fn compared_level_by_level()
     ensures { ComparedLevelByLevel }
+{}
+
+/// A pattern without holes stands over exactly the subjects that are compared by it.
+pub fn equal_trees_match()
+    ensures { EqualTreesMatch }
+{}
+
+/// An expression without type names that is written as a pattern is what the same expression in a tree is compared by.
+pub fn copies_are_compared()
+    ensures { CopiesAreCompared }
+{}
+
+/// Trees without type names that are the same by themselves are equal in a match.
+pub fn same_trees_are_equal()
+    ensures { SameTreesAreEqual }
 {}
