@@ -127,7 +127,7 @@ module _ (M : Model) (facts : M.Fn → Facts) (definition : M.Fn → Definition)
   over_call : (w : List Item) (p : Spot) (n : Node) (q : Spot) → SpotMarks p n q → At w p → At (w ++ CallMark n ∷ []) q
   over_call w (Before [] (Calls m b)) n (Head c) s a =
       subst (λ z. Reaches g (w ++ CallMark z ∷ []) (graph f).entry c) (sym s.1) (subst (Reaches g (w ++ CallMark m ∷ []) (graph f).entry) (sym s.0)
-          (subst (λ z. Reaches g z (graph f).entry b) whole (reaches_then g a.word (marks_of (a.done ++ []) ++ CallMark m ∷ []) (graph f).entry a.block b a.reaches call)))
+      (subst (λ z. Reaches g z (graph f).entry b) whole (reaches_then g a.word (marks_of (a.done ++ []) ++ CallMark m ∷ []) (graph f).entry a.block b a.reaches call)))
     where
       nil_event : (xs : List Event) → xs ++ [] ≡ xs
       nil_event [] = refl
@@ -135,12 +135,11 @@ module _ (M : Model) (facts : M.Fn → Facts) (definition : M.Fn → Definition)
 
       call : Reaches g (marks_of (a.done ++ []) ++ CallMark m ∷ []) a.block b
       call = record {
-        by = λ k r walk.
-            (
-              suc k,
-              closed g k a.block (record { events = a.done ++ []; ending = Calls m b }) ((marks_of (a.done ++ []) ++ CallMark m ∷ []) ++ r) a.has
+        by = λ k r walk. (
+          suc k,
+          closed g k a.block (record { events = a.done ++ []; ending = Calls m b }) ((marks_of (a.done ++ []) ++ CallMark m ∷ []) ++ r) a.has
               (inr (CallMark m ∷ r, inr (r, walk, refl), append_assoc (marks_of (a.done ++ [])) (CallMark m ∷ []) r)),
-            );
+        );
       }
 
       whole : a.word ++ (marks_of (a.done ++ []) ++ CallMark m ∷ []) ≡ w ++ CallMark m ∷ []
@@ -255,9 +254,9 @@ module _ (M : Model) (facts : M.Fn → Facts) (definition : M.Fn → Definition)
       → HasMarked M by_steps (by_graphs graph) × HasMarked M (by_graphs graph) by_steps
   graphs_have_walks graph sound same = (
     same_walks M facts definition event site by_steps (by_graphs graph) (λ f w. Trace (facts f) (definition f) w) (λ f w. GraphTrace (graph f).blocks (graph f).entry w) (λ f w t. (same f w).0 t)
-    (λ f. step_walks M facts definition event site f) (λ f. graph_walks M facts definition event site graph f (sound f)),
+        (λ f. step_walks M facts definition event site f) (λ f. graph_walks M facts definition event site graph f (sound f)),
     same_walks M facts definition event site (by_graphs graph) by_steps (λ f w. GraphTrace (graph f).blocks (graph f).entry w) (λ f w. Trace (facts f) (definition f) w) (λ f w t. (same f w).1 t)
-    (λ f. graph_walks M facts definition event site graph f (sound f)) (λ f. step_walks M facts definition event site f),
+        (λ f. graph_walks M facts definition event site graph f (sound f)) (λ f. step_walks M facts definition event site f),
   )
 
   -- so have those that the plain builder makes
