@@ -1,12 +1,11 @@
 -- The marked walks of a sound graph are its traces, with the end behind an exit; so those of a function's graph are those of
 -- its body by steps.
-use Rattle.std.proofs.Common.{◌≡◌, ◌↔◌, ℕ, zero, suc, Bool, true, false, List, [], ◌∷◌, ◌++◌, ◌⊎◌, inl, inr, Option, None, Some, refl, sym, ap, ◌∙◌, subst, append_assoc}
-use Rattle.std.specs.Prelude.{slice_get, map}
+use Rattle.std.proofs.Common.{◌≡◌, ◌↔◌, ℕ, zero, suc, Bool, true, false, List, [], ◌∷◌, ◌++◌, inl, inr, Option, None, Some, refl, sym, ap, ◌∙◌, subst, append_assoc}
+use Rattle.std.specs.Prelude.{slice_get}
 use Rattle.c_tree.specs.Node.{Node}
 use Rattle.path_theory.specs.Model.{Model}
 use Rattle.path_theory.specs.Trails.{Trail, Start, More}
 use Rattle.path_theory.specs.Marks.{Mark, EventMark, CallMark, Bodies, Marked, MarkedWalk, MarkedStart, MarkedSkip, MarkedGo, MarkedCall, HasMarked}
-use Rattle.c_paths.specs.Membership.{Among}
 use Rattle.c_paths.specs.Events.{Event, Evaluated, Declared, Branched, Exited, Item}
 use Rattle.c_paths.specs.Facts.{Facts}
 use Rattle.c_paths.specs.Traces.{Definition, Trace}
@@ -15,7 +14,7 @@ use Rattle.c_paths.specs.Graphs.{Block, Ending, ToAny, Calls, Stops, marks_of, L
 use Rattle.c_paths.specs.Fragments.{Has}
 use Rattle.c_paths.specs.SoundGraphs.{IsSoundEnd, AreSound, IsSoundGraph}
 use Rattle.c_paths.specs.Building.{Graph, graph_of}
-use Rattle.c_paths.specs.Bodies.{is_exit, Spot, Head, Before, SpotSkips, SpotGoes, SpotMarks, SpotEnds, step_bodies, graph_bodies, mark_of, marked_then, ends_in_exit}
+use Rattle.c_paths.specs.Bodies.{is_exit, Spot, Head, Before, SpotSkips, SpotGoes, SpotMarks, SpotEnds, step_bodies, graph_bodies, marked_then, ends_in_exit}
 use Rattle.c_paths.proofs.Ahead.{append_nil}
 use Rattle.c_paths.proofs.GraphWalks.{walks_nil, Reaches, closed, block_to, reaches_then}
 use Rattle.c_paths.proofs.StepBodies.{ends_snoc, marks_snoc, WalksAre, same_walks, step_walks}
