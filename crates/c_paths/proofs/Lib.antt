@@ -15,3 +15,4 @@ pub mod TreeExits
 pub mod SoundDrafts
 pub mod StepBodies
 pub mod GraphBodies
+pub mod ExampleGraphs
