@@ -14,3 +14,5 @@ pub mod BuiltGraphs
 pub mod TreeExits
 pub mod SoundDrafts
 pub mod StepBodies
+pub mod GraphBodies
+pub mod ExampleGraphs

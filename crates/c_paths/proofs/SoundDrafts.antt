@@ -1,6 +1,6 @@
 -- The graphs that the plain builder makes are sound.
-use Rattle.std.proofs.Common.{◌≡◌, ℕ, zero, suc, ◌<◌, ◌≤◌, ◌+◌, Bool, true, false, List, [], ◌∷◌, ◌++◌, Option, None, Some, refl, sym, ap, ◌∙◌, subst, length, get_or, arith, length-append}
-use Rattle.std.specs.Prelude.{slice_get, slice_set, not, map, ◌==◌}
+use Rattle.std.proofs.Common.{◌≡◌, ℕ, zero, suc, ◌<◌, ◌≤◌, Bool, true, false, List, [], ◌∷◌, ◌++◌, Option, None, Some, refl, sym, ap, subst, length, get_or, arith, length-append}
+use Rattle.std.specs.Prelude.{slice_set, not, map, ◌==◌}
 use Rattle.std.proofs.lemmas.Option.{slice_get_within, slice_get-get_or}
 use Rattle.c_tree.specs.Node.{Node}
 use Rattle.path_theory.specs.Marks.{EventMark, CallMark}
@@ -12,12 +12,12 @@ use Rattle.c_paths.specs.TreeFlow.{flow_of}
 use Rattle.c_paths.specs.Traces.{Definition}
 use Rattle.c_paths.specs.Listing.{if_so, has_default}
 use Rattle.c_paths.specs.Exits.{IsExit, NoExits, IsInner, IsInnerForm, IsInnerRow, IsInnerMaybe, ExitsLast, ExitsLastIn}
-use Rattle.c_paths.specs.Graphs.{Ending, ToAny, Calls, Stops}
+use Rattle.c_paths.specs.Graphs.{ToAny, Calls, Stops}
 use Rattle.c_paths.specs.SoundGraphs.{AllBelow, IsSoundEnd, AreSound, IsSoundGraph}
 use Rattle.c_paths.specs.Fragments.{Way, To, ToEither}
 use Rattle.c_paths.specs.Layout.{Entry}
-use Rattle.c_paths.specs.Building.{Sketch, Settled, Jumps, Waits, Draft, Made, push, lead, filled, item_block, split_blocks, form_blocks, row_blocks, test_blocks, Placed, flow_blocks, flows_blocks, label_blocks, settled_ending, settled, Graph, body_graph, graph_of}
-use Rattle.c_paths.proofs.DraftGrowth.{Grown, push_grown, item_grown, form_grown, row_grown, flow_grown, flows_grown}
+use Rattle.c_paths.specs.Building.{Sketch, Settled, Jumps, Waits, Draft, Made, push, lead, filled, item_block, split_blocks, form_blocks, row_blocks, test_blocks, Placed, flow_blocks, flows_blocks, label_blocks, settled_ending, settled, body_graph, graph_of}
+use Rattle.c_paths.proofs.DraftGrowth.{Grown, push_grown, item_grown, form_grown, row_grown, flow_grown}
 use Rattle.c_paths.proofs.TreeExits.{flow_exits_last}
 
 grown_longer : (x y : List Draft) → Grown x y → length x ≤ length y

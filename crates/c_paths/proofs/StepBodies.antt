@@ -1,5 +1,5 @@
 -- The walks of a body by steps are its traces, with the end behind an exit.
-use Rattle.std.proofs.Common.{◌≡◌, ℕ, zero, suc, Bool, true, false, List, [], ◌∷◌, ◌++◌, ◌⊎◌, inl, inr, refl, sym, ap, ◌∙◌, subst, append_assoc}
+use Rattle.std.proofs.Common.{◌≡◌, ℕ, zero, suc, Bool, true, false, List, [], ◌∷◌, ◌++◌, inl, inr, refl, sym, ap, ◌∙◌, subst, append_assoc}
 use Rattle.c_tree.specs.Node.{Node}
 use Rattle.path_theory.specs.Model.{Model}
 use Rattle.path_theory.specs.Trails.{Trail, Start, More}
@@ -9,7 +9,7 @@ use Rattle.c_paths.specs.Facts.{Facts}
 use Rattle.c_paths.specs.Flow.{Flow}
 use Rattle.c_paths.specs.TreeFlow.{flow_of}
 use Rattle.c_paths.specs.Steps.{Task, Run, Close, Step}
-use Rattle.c_paths.specs.Traces.{Runs, TraceFrom, Definition, Trace}
+use Rattle.c_paths.specs.Traces.{Runs, Definition, Trace}
 use Rattle.c_paths.specs.Bodies.{is_exit, Pending, step_bodies, mark_of, marked_then, ends_in_exit}
 use Rattle.c_paths.proofs.Ahead.{append_nil}
 

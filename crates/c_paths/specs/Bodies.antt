@@ -3,7 +3,7 @@
 use Rattle.std.specs.Prelude.{◌≡◌, ℕ, Bool, true, false, List, [], ◌∷◌}
 use Rattle.c_tree.specs.Node.{Node}
 use Rattle.path_theory.specs.Model.{Model}
-use Rattle.path_theory.specs.Trails.{Trail, Start, More}
+use Rattle.path_theory.specs.Trails.{Trail, More}
 use Rattle.path_theory.specs.Marks.{Mark, EventMark, CallMark, Bodies}
 use Rattle.c_paths.specs.Membership.{Among}
 use Rattle.c_paths.specs.Events.{Event, Evaluated, Declared, Branched, Exited, Item}

@@ -7,6 +7,7 @@ use Rattle.c_paths.specs.Traces.{BodyTrace, Definition, Trace}
 use Rattle.c_paths.specs.Listing.{longest_traces, finishes_within, Begins}
 use Rattle.c_paths.specs.Graphs.{Block, GraphTrace}
 use Rattle.c_paths.specs.Layout.{IsGraphOf}
+use Rattle.c_paths.specs.SoundGraphs.{IsSoundGraph}
 use Rattle.c_paths.specs.Building.{graph_of}
 
 -- what is listed are traces
@@ -27,3 +28,7 @@ GraphsHaveTheTraces = (g : List Block) (body : Flow) (exit : Event) (entry : ℕ
 abbrev pub BuiltGraphsHaveTheTraces : Type 0
 BuiltGraphsHaveTheTraces = (F : Facts) (d : Definition) (l : List Item)
     → Trace F d l ↔ GraphTrace (graph_of F d).blocks (graph_of F d).entry l
+
+-- it names only its own blocks, and each exit has a block of its own
+abbrev pub BuiltGraphsAreSound : Type 0
+BuiltGraphsAreSound = (F : Facts) (d : Definition) → IsSoundGraph (graph_of F d).blocks (graph_of F d).entry

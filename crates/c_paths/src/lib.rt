@@ -4,5 +4,6 @@
 mod theorems;
 
 pub use theorems::{
-    built_graphs_have_the_traces, finished_lists_are_all, graphs_have_the_traces, listed_are_traces,
+    built_graphs_are_sound, built_graphs_have_the_traces, finished_lists_are_all,
+    graphs_have_the_traces, listed_are_traces,
 };

@@ -2,6 +2,7 @@
 // proof.
 
 ghost use Rattle.c_paths.specs.Theorems.{
+  BuiltGraphsAreSound,
   BuiltGraphsHaveTheTraces,
   FinishedListsAreAll,
   GraphsHaveTheTraces,
@@ -26,4 +27,9 @@ pub fn graphs_have_the_traces()
 /// The graph that the plain builder makes of a function has exactly its traces.
 pub fn built_graphs_have_the_traces()
     ensures { BuiltGraphsHaveTheTraces }
+{}
+
+/// The graph that the plain builder makes names only its own blocks, and each exit has a block of its own.
+pub fn built_graphs_are_sound()
+    ensures { BuiltGraphsAreSound }
 {}
