@@ -17,3 +17,4 @@ pub mod Plain
 pub mod Cuts
 pub mod Passing
 pub mod Whole
+pub mod Limited

@@ -15,4 +15,5 @@ pub mod Meaning
 pub mod Definition
 pub mod Steps
 pub mod Reading
+pub mod Limits
 pub mod Theorems

@@ -123,8 +123,8 @@ machine_with n name holes rules = record {
   rules = map (rule_of n) rules;
 }
 
+abbrev pub numbering_of : Spelling → List Clause → Numbering
+numbering_of spelling cs = record { spelling = spelling; holes = map (λ h. h.name) (in_order (holes_of spelling cs)); states = states_mentioned (rules_of cs) }
+
 abbrev pub machine_of : Spelling → List Clause → Machine
-machine_of spelling cs =
-    machine_with
-    (record { spelling = spelling; holes = map (λ h. h.name) (in_order (holes_of spelling cs)); states = states_mentioned (rules_of cs) })
-    (machine_name cs) (holes_of spelling cs) (rules_of cs)
+machine_of spelling cs = machine_with (numbering_of spelling cs) (machine_name cs) (holes_of spelling cs) (rules_of cs)

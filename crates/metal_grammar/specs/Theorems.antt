@@ -7,6 +7,7 @@ use Rattle.metal_grammar.specs.Grammar.{nothing_before, IsText, IsSyntaxFault, t
 use Rattle.metal_grammar.specs.Machine.{Machine}
 use Rattle.metal_grammar.specs.FirstFault.{Fault}
 use Rattle.metal_grammar.specs.Definition.{IsMachine, IsFirstFault}
+use Rattle.metal_grammar.specs.Limits.{IsLimited}
 use Rattle.metal_grammar.specs.Reading.{AllRead, Unread, read_text, Accepted, Refused, read_machine}
 
 -- what is read of all clauses is exactly the text that they are
@@ -45,3 +46,8 @@ NeverBoth = (spelling : Spelling) (ts : List Symbol) (m : Machine) (fault : Faul
 -- Symbols are a text just where they are its tokens and it is well-formed. So clauses are cut where the grammar has them.
 abbrev pub TextsAreTheirTokens : Type 0
 TextsAreTheirTokens = (spelling : Spelling) (ts : List Symbol) (cs : List Clause) → IsText spelling cs ts ↔ ((ts ≡ text_tokens cs) × AreWellFormed spelling nothing_before true cs)
+
+-- A machine keeps to the limits; its state variables are among its holes, each has its list of states, and its rules are numbered
+-- from 1 in their order.
+abbrev pub MachinesAreLimited : Type 0
+MachinesAreLimited = (spelling : Spelling) (ts : List Symbol) (m : Machine) → IsMachine spelling ts m → IsLimited m

@@ -5,6 +5,7 @@ ghost use Rattle.metal_grammar.specs.Theorems.{
   FirstFaultsAreRead,
   FirstFaultsAreUnique,
   MachineOrFault,
+  MachinesAreLimited,
   MachinesAreRead,
   MachinesAreUnique,
   NeverBoth,
@@ -62,4 +63,10 @@ pub fn machine_or_fault()
 /// No symbols are a machine and have a fault.
 pub fn never_both()
     ensures { NeverBoth }
+{}
+
+/// Each machine has at most 8 state variables, which are the first of at most 16 holes, and at most 1000 rules, which are
+/// numbered from 1 in their order.
+pub fn machines_are_limited()
+    ensures { MachinesAreLimited }
 {}

@@ -1,0 +1,17 @@
+-- What is true of the size of every machine.
+use Rattle.std.specs.Prelude.{◌≡◌, ◌≤◌, ℕ, ◌+◌, List, [], ◌∷◌, length}
+use Rattle.metal_grammar.specs.Machine.{Rule, Machine}
+use Rattle.metal_grammar.specs.FirstFault.{most_variables, most_holes, most_rules}
+
+-- the rules have these numbers, one after the other
+abbrev pub AreNumbered : ℕ → List Rule → Type 0
+AreNumbered number [] = Unit {0}
+AreNumbered number (r ∷ rs) = (r.number ≡ number) × AreNumbered (number + 1) rs
+
+pub record IsLimited (m : Machine) : Type 0 where
+  pub variables : m.variables ≤ most_variables
+  pub holes : length m.holes ≤ most_holes
+  pub first : m.variables ≤ length m.holes
+  pub states : length m.states ≡ m.variables
+  pub rules : length m.rules ≤ most_rules
+  pub numbers : AreNumbered 1 m.rules
