@@ -16,7 +16,7 @@ use Rattle.c_paths.specs.SoundGraphs.{IsSoundEnd, AreSound, IsSoundGraph}
 use Rattle.c_paths.specs.Building.{Graph, graph_of}
 use Rattle.c_paths.specs.Bodies.{is_exit, Spot, Head, Before, SpotSkips, SpotGoes, SpotMarks, SpotEnds, step_bodies, graph_bodies, marked_then, ends_in_exit}
 use Rattle.c_paths.proofs.Ahead.{append_nil}
-use Rattle.c_paths.proofs.GraphWalks.{walks_nil, Reaches, closed, block_to, reaches_then}
+use Rattle.c_paths.proofs.GraphWalks.{marks_append, walks_nil, Reaches, closed, block_to, reaches_then}
 use Rattle.c_paths.proofs.StepBodies.{ends_snoc, marks_snoc, WalksAre, same_walks, step_walks}
 use Rattle.c_paths.proofs.BuiltGraphs.{built_traces}
 use Rattle.c_paths.proofs.SoundDrafts.{built_graph_sound}
@@ -28,10 +28,6 @@ sound_at n (x ∷ ss) zero s a e = subst (λ (z : Block). IsSoundEnd n z.events 
     the_same : (x y : Block) → Some x ≡ Some y → x ≡ y
     the_same x y p = cc
 sound_at n (x ∷ ss) (suc b) s a e = sound_at n ss b s a.1 e
-
-marks_append : (xs ys : List Event) → marks_of (xs ++ ys) ≡ marks_of xs ++ marks_of ys
-marks_append [] ys = refl
-marks_append (x ∷ xs) ys = ap (λ z. EventMark x ∷ z) (marks_append xs ys)
 
 exit_is : (e : Event) → IsExit e → is_exit (EventMark e) ≡ true
 exit_is (Evaluated s) h = absurd h

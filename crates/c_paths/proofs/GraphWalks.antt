@@ -10,7 +10,11 @@ use Rattle.c_paths.specs.Graphs.{Block, Ending, ToAny, Calls, Stops, marks_of, L
 use Rattle.c_paths.specs.Fragments.{Has, ItemAt}
 use Rattle.c_paths.proofs.Ahead.{append_nil, Ahead}
 
-leaves_maps : (f h : ℕ → List Item → Type 0) → ((b : ℕ) (l : List Item) → f b l → h b l) → (e : Ending) (l : List Item) → Leaves f e l → Leaves h e l
+pub marks_append : (xs ys : List Event) → marks_of (xs ++ ys) ≡ marks_of xs ++ marks_of ys
+marks_append [] ys = refl
+marks_append (x ∷ xs) ys = ap (λ z. EventMark x ∷ z) (marks_append xs ys)
+
+pub leaves_maps : (f h : ℕ → List Item → Type 0) → ((b : ℕ) (l : List Item) → f b l → h b l) → (e : Ending) (l : List Item) → Leaves f e l → Leaves h e l
 leaves_maps f h m (ToAny bs) l (inl e) = inl e
 leaves_maps f h m (ToAny bs) l (inr w) = inr (w.0, w.1, m w.0 l w.2)
 leaves_maps f h m (Calls s b) l (inl e) = inl e

@@ -16,3 +16,4 @@ pub mod SoundDrafts
 pub mod StepBodies
 pub mod GraphBodies
 pub mod ExampleGraphs
+pub mod JoinedBlocks

@@ -1,11 +1,12 @@
 -- The theorems of this crate as statements, which contracts can name.
-use Rattle.std.specs.Prelude.{◌≡◌, ◌↔◌, ℕ, true, List}
+use Rattle.std.specs.Prelude.{◌≡◌, ◌↔◌, ℕ, true, List, [], ◌∷◌, ◌++◌, slice_set}
 use Rattle.c_paths.specs.Events.{Event, Item}
 use Rattle.c_paths.specs.Facts.{Facts}
 use Rattle.c_paths.specs.Flow.{Flow}
 use Rattle.c_paths.specs.Traces.{BodyTrace, Definition, Trace}
 use Rattle.c_paths.specs.Listing.{longest_traces, finishes_within, Begins}
-use Rattle.c_paths.specs.Graphs.{Block, GraphTrace}
+use Rattle.c_paths.specs.Graphs.{Block, Ending, ToAny, GraphTrace}
+use Rattle.c_paths.specs.Fragments.{Has}
 use Rattle.c_paths.specs.Layout.{IsGraphOf}
 use Rattle.c_paths.specs.SoundGraphs.{IsSoundGraph}
 use Rattle.c_paths.specs.Building.{graph_of}
@@ -32,3 +33,8 @@ BuiltGraphsHaveTheTraces = (F : Facts) (d : Definition) (l : List Item)
 -- it names only its own blocks, and each exit has a block of its own
 abbrev pub BuiltGraphsAreSound : Type 0
 BuiltGraphsAreSound = (F : Facts) (d : Definition) → IsSoundGraph (graph_of F d).blocks (graph_of F d).entry
+
+-- a block that leads to one other may have that block's events and end as its own
+abbrev pub JoinedBlocksKeepTheTraces : Type 0
+JoinedBlocksKeepTheTraces = (g : List Block) (b c : ℕ) (es fs : List Event) (end : Ending) → Has g b es (ToAny (c ∷ [])) → Has g c fs end
+    → (entry : ℕ) (l : List Item) → GraphTrace g entry l ↔ GraphTrace (slice_set g b (record { events = es ++ fs; ending = end })) entry l

@@ -6,6 +6,7 @@ ghost use Rattle.c_paths.specs.Theorems.{
   BuiltGraphsHaveTheTraces,
   FinishedListsAreAll,
   GraphsHaveTheTraces,
+  JoinedBlocksKeepTheTraces,
   ListedAreTraces,
 };
 
@@ -32,4 +33,9 @@ pub fn built_graphs_have_the_traces()
 /// The graph that the plain builder makes names only its own blocks, and each exit has a block of its own.
 pub fn built_graphs_are_sound()
     ensures { BuiltGraphsAreSound }
+{}
+
+/// A block that leads to one other may have that block's events and end as its own.
+pub fn joined_blocks_keep_the_traces()
+    ensures { JoinedBlocksKeepTheTraces }
 {}
