@@ -69,8 +69,8 @@ read_member_declarators-zero reader names ts = refl
 
 pub read_member_declarators-some : (reader : Reader) (names : Names) (f : ℕ) (ts : List Symbol) → 0 < f → read_member_declarators reader names f ts
     ≡ (read_member_declarator reader names ts >>= λ e. if_there (after_sign marks.Comma e.1)
-      (after_sign marks.Semicolon e.1 >>= λ rest. Some (more e.0 no_more, rest))
-      (λ others. read_member_declarators reader names (f - 1) others >>= λ es. Some (more e.0 es.0, es.1)))
+    (after_sign marks.Semicolon e.1 >>= λ rest. Some (more e.0 no_more, rest))
+    (λ others. read_member_declarators reader names (f - 1) others >>= λ es. Some (more e.0 es.0, es.1)))
 unfolding read_member_declarators
 read_member_declarators-some reader names zero ts h = absurd (omega arith)
 read_member_declarators-some reader names (suc f) ts h = rw (less f) refl
@@ -81,10 +81,10 @@ read_enumerators-zero reader names ts = refl
 
 pub read_enumerators-some : (reader : Reader) (names : Names) (f : ℕ) (ts : List Symbol) → 0 < f → read_enumerators reader names f ts
     ≡ (read_enumerator reader names ts >>= λ e. if_there (after_sign marks.Comma e.1)
-      (after_sign marks.CloseBrace e.1 >>= λ rest. Some (more e.0 no_more, false, rest))
-      (λ others. if_there (after_sign marks.CloseBrace others)
-      (read_enumerators reader (declared e.0 names) (f - 1) others >>= λ es. Some (more e.0 es.0, es.1, es.2))
-      (λ rest. Some (more e.0 no_more, true, rest))))
+    (after_sign marks.CloseBrace e.1 >>= λ rest. Some (more e.0 no_more, false, rest))
+    (λ others. if_there (after_sign marks.CloseBrace others)
+    (read_enumerators reader (declared e.0 names) (f - 1) others >>= λ es. Some (more e.0 es.0, es.1, es.2))
+    (λ rest. Some (more e.0 no_more, true, rest))))
 unfolding read_enumerators
 read_enumerators-some reader names zero ts h = absurd (omega arith)
 read_enumerators-some reader names (suc f) ts h = rw (less f) refl
@@ -95,10 +95,10 @@ read_initials-zero reader inner names ts = refl
 
 pub read_initials-some : (reader : Reader) (inner : ConstructReader) (names : Names) (f : ℕ) (ts : List Symbol) → 0 < f → read_initials reader inner names f ts
     ≡ (read_initial reader inner names ts >>= λ e. if_there (after_sign marks.Comma e.1)
-      (after_sign marks.CloseBrace e.1 >>= λ rest. Some (more e.0 no_more, false, rest))
-      (λ others. if_there (after_sign marks.CloseBrace others)
-      (read_initials reader inner names (f - 1) others >>= λ es. Some (more e.0 es.0, es.1, es.2))
-      (λ rest. Some (more e.0 no_more, true, rest))))
+    (after_sign marks.CloseBrace e.1 >>= λ rest. Some (more e.0 no_more, false, rest))
+    (λ others. if_there (after_sign marks.CloseBrace others)
+    (read_initials reader inner names (f - 1) others >>= λ es. Some (more e.0 es.0, es.1, es.2))
+    (λ rest. Some (more e.0 no_more, true, rest))))
 unfolding read_initials
 read_initials-some reader inner names zero ts h = absurd (omega arith)
 read_initials-some reader inner names (suc f) ts h = rw (less f) refl
@@ -109,9 +109,9 @@ read_init_declarators-zero reader inner type names d ts = refl
 
 pub read_init_declarators-some : (reader : Reader) (inner : ConstructReader) (type : Bool) (names : Names) (f : ℕ) (d : Syntax) (ts : List Symbol) → 0 < f → read_init_declarators reader inner type names f d ts
     ≡ (read_initialized reader inner type names d ts >>= λ e. if_there (after_sign marks.Comma e.1)
-      (after_sign marks.Semicolon e.1 >>= λ rest. Some (more e.0 no_more, rest))
-      (λ others. reader (DeclaratorIn WithName) (with_name (declared_name e.0) type names) others >>= λ next.
-      read_init_declarators reader inner type (with_name (declared_name e.0) type names) (f - 1) next.0 next.1 >>= λ es. Some (more e.0 es.0, es.1)))
+    (after_sign marks.Semicolon e.1 >>= λ rest. Some (more e.0 no_more, rest))
+    (λ others. reader (DeclaratorIn WithName) (with_name (declared_name e.0) type names) others >>= λ next.
+    read_init_declarators reader inner type (with_name (declared_name e.0) type names) (f - 1) next.0 next.1 >>= λ es. Some (more e.0 es.0, es.1)))
 unfolding read_init_declarators
 read_init_declarators-some reader inner type names zero d ts h = absurd (omega arith)
 read_init_declarators-some reader inner type names (suc f) d ts h = rw (less f) refl

@@ -44,7 +44,7 @@ pub statements-next : (inner : ConstructReader) (names a : Names) (f : ℕ) (ts 
     → ending_with all (read_statements inner names f ts) ≡ whole → ending_with pushed (read_statements inner names (f - 1) r) ≡ whole
 statements-next inner names a f ts r all pushed t whole p k c h n w =
     joins (read_statements inner names (f - 1) r) whole all pushed t (read_statements inner names f ts) n
-        (rw (read_statements-some inner names f ts p, c, sym (ap (λ x. inner OneStatement x ts) k) ∙ h) refl) w
+    (rw (read_statements-some inner names f ts p, c, sym (ap (λ x. inner OneStatement x ts) k) ∙ h) refl) w
 
 -- a declaration in a block; what it declares is in force behind it
 pub block_items-next : (inner : ConstructReader) (a b : Names) (f : ℕ) (ts r : List Symbol) (all pushed : List Tree) (t : Tree) (whole : Items)
@@ -68,7 +68,7 @@ pub member_declarators-next : (reader : Reader) (names a : Names) (f : ℕ) (ts 
     → ending_with all (read_member_declarators reader names f ts) ≡ whole → ending_with pushed (read_member_declarators reader names (f - 1) others) ≡ whole
 member_declarators-next reader names a f ts r others all pushed t whole p k h c n w =
     joins (read_member_declarators reader names (f - 1) others) whole all pushed t (read_member_declarators reader names f ts) n
-        (rw (read_member_declarators-some reader names f ts p, sym (ap (λ x. read_member_declarator reader x ts) k) ∙ h, c) refl) w
+    (rw (read_member_declarators-some reader names f ts p, sym (ap (λ x. read_member_declarator reader x ts) k) ∙ h, c) refl) w
 
 -- an enumerator and a comma; its name is in force behind it
 pub enumerators-next : (reader : Reader) (a b : Names) (f : ℕ) (ts r others : List Symbol) (all pushed : List Tree) (t : Tree) (whole : CommaItems)
@@ -84,7 +84,7 @@ pub initials-next : (reader : Reader) (inner : ConstructReader) (names a : Names
     → commas_after all (read_initials reader inner names f ts) ≡ whole → commas_after pushed (read_initials reader inner names (f - 1) others) ≡ whole
 initials-next reader inner names a f ts r others all pushed t whole p k h c e n w =
     joins_commas (read_initials reader inner names (f - 1) others) whole all pushed t (read_initials reader inner names f ts) n
-        (rw (read_initials-some reader inner names f ts p, sym (ap (λ x. read_initial reader inner x ts) k) ∙ h, c, e) refl) w
+    (rw (read_initials-some reader inner names f ts p, sym (ap (λ x. read_initial reader inner x ts) k) ∙ h, c, e) refl) w
 
 -- a declarator with or without an initial value, a comma and the next declarator; the name is in force behind it
 pub init_declarators-next : (reader : Reader) (inner : ConstructReader) (type : Bool) (a b : Names) (f : ℕ) (d next : Syntax) (ts r others behind : List Symbol) (all pushed : List Tree) (t : Tree) (whole : Items)
@@ -95,4 +95,4 @@ init_declarators-next reader inner type a b f d next ts r others behind all push
     let g' : reader (DeclaratorIn WithName) (with_name (declared_name (view t)) type a) others ≡ Some (next, behind) = sym (ap (λ x. reader (DeclaratorIn WithName) x others) k) ∙ g in
     ap (λ x. ending_with pushed (read_init_declarators reader inner type x (f - 1) next behind)) k
     ∙ joins (read_init_declarators reader inner type (with_name (declared_name (view t)) type a) (f - 1) next behind) whole all pushed t (read_init_declarators reader inner type a f d ts) n
-        (rw (read_init_declarators-some reader inner type a f d ts p, h, c, g') refl) w
+    (rw (read_init_declarators-some reader inner type a f d ts p, h, c, g') refl) w

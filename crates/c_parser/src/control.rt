@@ -50,8 +50,9 @@ fn add_labels_of_statement(kind: &Statement, known: &mut Labels) -> Result<bool,
             }
             add_labels_of_optional(*otherwise, known)
         }
-        Statement::Switch { body, .. } | Statement::Case { body, .. } | Statement::Default { body } =>
-            add_labels(body, known),
+        Statement::Switch { body, .. }
+        | Statement::Case { body, .. }
+        | Statement::Default { body } => add_labels(body, known),
         Statement::Label { label, body } => {
             if !add_label(label, known)? {
                 return Ok(false);
