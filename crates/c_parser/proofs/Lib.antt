@@ -1,4 +1,6 @@
+pub mod Equations
+pub mod FunctionForms
 pub mod Gathering
+pub mod ListSteps
 pub mod Lists
 pub mod Specifiers
-pub mod FunctionForms

@@ -1,3 +1,4 @@
 pub mod Gathered
 pub mod Around
 pub mod Suffixes
+pub mod CommaLists
