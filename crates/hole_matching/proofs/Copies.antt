@@ -6,7 +6,7 @@ use Rattle.c_tree.specs.declared.operator.UnaryOp.TheVariants as unary
 use Rattle.c_tree.specs.declared.token.Token.{Token}
 use Rattle.c_tree.specs.declared.token.TokenKind.{TokenKind}
 use Rattle.c_tree.specs.declared.token.TokenKind.TheVariants as kinds
-use Rattle.c_tree.specs.Compared as forms
+use Rattle.tree_equality.specs.Compared as forms
 use Rattle.c_tree.specs.Forget.{syntax_of, syntaxes_of, primary_syntax, operation_syntax}
 use Rattle.c_tree.specs.Node.{Node, node, Primary, Operation, PrimaryShape, OperationShape, Ident, Constant, StrConst, Paren, VaArg, Offsetof, Hole, Nodes, no_more, more}
 use Rattle.c_tree.specs.Node as nodes
@@ -111,7 +111,7 @@ mutual
   primary-same (Offsetof of m path) h = absurd h
   primary-same (Hole n) h = absurd h
 
-  operation-same : (k : OperationShape) → IsPlainOperation k → pattern_of (forms.compared_operation (operation_syntax k)) ≡ operation_pattern (operation_syntax k)
+  operation-same : (k : OperationShape) → IsPlainOperation k → operation_pattern (forms.compared_operation (operation_syntax k)) ≡ operation_pattern (operation_syntax k)
   operation-same (nodes.Index a b) h = two Index (pattern_of (forms.compared (syntax_of a))) (pattern_of (syntax_of a)) (pattern_of (forms.compared (syntax_of b))) (pattern_of (syntax_of b)) (same a h.0) (same b h.1)
   operation-same (nodes.Call f paren es) h = called (pattern_of (forms.compared (syntax_of f))) (pattern_of (syntax_of f)) (patterns_of (forms.compared_all (syntaxes_of es))) (patterns_of (syntaxes_of es)) (same f h.0) (sames es h.1)
   operation-same (nodes.Member a m) h = one (Member (spelling (symbol_of m))) (pattern_of (forms.compared (syntax_of a))) (pattern_of (syntax_of a)) (same a h.0)
