@@ -1,2 +1,0 @@
-pub mod ComparedKinds
-pub mod ComparedLists
