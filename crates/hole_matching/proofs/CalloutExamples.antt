@@ -21,7 +21,7 @@ negation row text = record { negated = true; row = row; hole = 0; text = text }
 
 -- whether a row holds where hole 0 has taken this tree
 abbrev of_tree : ℕ → Node → Bool
-of_tree row e = holds setting (condition row 3) (Some (One (Tree e)) ∷ [])
+of_tree entry e = holds setting (condition entry 3) (Some (One (Tree e)) ∷ [])
 
 -- mc_is_const: 1, 'a', "..", (1), (T)1, e, (T)(e); not i, not g, not *p, not a `*p` out of `p->f`
 pub const_number : of_tree 0 (number 1) ≡ true
