@@ -1,0 +1,2 @@
+pub mod ComparedKinds
+pub mod ComparedLists
