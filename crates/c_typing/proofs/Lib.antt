@@ -6,6 +6,7 @@ pub mod ExpressionExamples
 pub mod DeclarationExamples
 pub mod Filled
 pub mod First
+pub mod Functions
 pub mod Places
 pub mod Stay
 pub mod UnitExamples

@@ -11,6 +11,7 @@ use Rattle.c_typing.specs.Options.{if_there}
 use Rattle.c_typing.specs.Parts.{flat}
 use Rattle.c_typing.specs.Roles.{Plain}
 use Rattle.c_typing.specs.Scopes.{Scopes, Entry, at_start}
+use Rattle.c_typing.specs.ScopesByCase.{scoped}
 use Rattle.c_typing.specs.Specified.{Storage, keyword_in, storage_of}
 use Rattle.c_typing.specs.Specified as stored
 use Rattle.c_typing.specs.Types.{CType, Struct, Union}
@@ -103,6 +104,11 @@ functions_in v (more e es) = if_there (defined_in v e) (functions_in (after v Pl
 
 abbrev pub functions_of : Nodes → List Defined
 functions_of unit = functions_in at_start unit
+
+-- the same under the scopes that are written out for each kind, as code goes through them
+abbrev pub defined_each : Scopes → Nodes → List Defined
+defined_each v no_more = []
+defined_each v (more e es) = if_there (defined_in v e) (defined_each (scoped v Plain e) es) (λ f. f ∷ defined_each (scoped v Plain e) es)
 
 -- the tags of the structures and unions of a unit, by their numbers
 abbrev pub structs_of : Nodes → List (Option ℕ)

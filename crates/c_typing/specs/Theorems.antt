@@ -3,6 +3,7 @@ use Rattle.std.specs.Prelude.{◌≡◌, ◌⊎◌, true, [], None, Some, Result
 use Rattle.c_tree.specs.Node.{Node, Nodes}
 use Rattle.c_typing.specs.Definition.{after, type_of, Out, first_fault, Table, IsAmong, is_kept, HasCell}
 use Rattle.c_typing.specs.Faults.{Fault}
+use Rattle.c_typing.specs.Functions.{functions_of, defined_each, structs_of}
 use Rattle.c_typing.specs.Order.{visited, fill}
 use Rattle.c_typing.specs.Parts.{Visit, flat}
 use Rattle.c_typing.specs.Roles.{Role, Plain}
@@ -49,6 +50,10 @@ UnitByCase unit (Err fault) = IsFirstFault unit fault
 
 abbrev pub UnitsByCase : Type 0
 UnitsByCase = (unit : Nodes) (found : Result CType Fault) → typed_each at_start Plain unit ≡ found → UnitByCase unit found
+
+-- The functions of a unit, and the tags of its structures and unions, under the scopes that are written out for each kind.
+abbrev pub FunctionsByCase : Type 0
+FunctionsByCase = (unit : Nodes) → (functions_of unit ≡ defined_each at_start unit) × (structs_of unit ≡ (scoped_each at_start Plain unit).structs)
 
 -- Behind a node, and behind nodes one after the other, what was in force still is.
 abbrev pub ScopesStay : Type 0

@@ -1,7 +1,7 @@
 // The theorems of typing, each in the contract of a function that does nothing: a call of it hands the fact to a caller's
 // proof.
 
-ghost use Rattle.c_typing.specs.Theorems.{TypedHasNoFault, FaultsAreUnique, TypedOrAtFault, CellsAreRight, PlacesAreTyped, ByCase, UnitsByCase, ScopesStay};
+ghost use Rattle.c_typing.specs.Theorems.{TypedHasNoFault, FaultsAreUnique, TypedOrAtFault, CellsAreRight, PlacesAreTyped, ByCase, UnitsByCase, FunctionsByCase, ScopesStay};
 
 /// A unit that is typed has no fault.
 pub fn typed_has_no_fault()
@@ -39,6 +39,12 @@ pub fn by_case()
 /// or its fault is the first.
 pub fn units_by_case()
     ensures { UnitsByCase }
+{}
+
+/// The functions that a unit defines, and the tags of its structures and unions, under the scopes as they are written out for
+/// each kind.
+pub fn functions_by_case()
+    ensures { FunctionsByCase }
 {}
 
 /// Behind a node, and behind nodes one after the other, the names and tags of before are still in force, in the same scope.
