@@ -3,14 +3,16 @@ use Rattle.std.proofs.Common.{◌≡◌, List, [], ◌∷◌, None, Some, refl}
 use Rattle.c_grammar.specs.Specifiers.{occurrences, as_often}
 use Rattle.c_tree.specs.declared.keyword.Keyword.TheVariants as words
 use Rattle.c_tree.specs.declared.operator.StructOrUnion.TheVariants as which_word
+use Rattle.c_tree.specs.declared.operator.UnaryOp.TheVariants as prefix
 use Rattle.c_tree.specs.Node.{Node, absent, present}
+use Rattle.c_typing.specs.Arithmetic as kind
 use Rattle.c_typing.specs.Definition.{type_of}
-use Rattle.c_typing.specs.Faults.{Undeclared, Redeclared}
+use Rattle.c_typing.specs.Faults.{Undeclared, Redeclared, NotStruct}
 use Rattle.c_typing.specs.Parts.{flat}
 use Rattle.c_typing.specs.Roles.{Plain}
-use Rattle.c_typing.specs.Types.{Void, Pointer, Func, Struct, int}
+use Rattle.c_typing.specs.Types.{Void, Arith, Pointer, Array, Func, Struct, int}
 use Rattle.c_typing.specs.Vars.{Extern, FileStatic, LocalStatic, Local}
-use Rattle.c_typing.proofs.Building.{at, name, decimal, paren, call, arrow, sizeof, assigned, type_name, tag, tagged_body, body, enumeration, enumerated, specs, ints, chars, voids, stored, type_in, member, declarator, plain, pointer, nested, bound, no_params, params, param, initialized, declaration, function, f_with, block, statement, for_in, behind, inside, type_behind, var_behind, var_inside, var_within, fault_of, star}
+use Rattle.c_typing.proofs.Building.{at, name, decimal, paren, unary, call, arrow, sizeof, assigned, keyword, type_name, tag, tagged_body, body, enumeration, enumerated, specs, ints, chars, voids, stored, type_in, member, declarator, plain, pointer, nested, bound, no_params, params, param, initialized, declaration, function, f_with, block, statement, for_in, behind, inside, type_behind, var_behind, var_inside, var_within, fault_of, star}
 
 -- void f(void){ x; }
 pub undeclared : fault_of (f_with [] (statement (name 1 5) ∷ []) ∷ []) ≡ Some (Undeclared (at 5) 1)
@@ -251,3 +253,141 @@ same_tag_inside = refl
 adjusted_parameters : fault_of (f_with (param ints (declarator [] 1 1 (bound (present (decimal 2)) ∷ [])) ∷ param ints (declarator [] 2 2 (no_params ∷ [])) ∷ []) (statement (assigned 3 (name 1 3) (decimal 0)) ∷ statement (assigned 4 (name 2 4) (decimal 0)) ∷ []) ∷ []) ≡ None
 unfolding occurrences as_often
 adjusted_parameters = refl
+
+-- void f(int y(void)){ int y(void); }: the parameter is a pointer by then, and no function
+function_parameter_again : fault_of (f_with (param ints (declarator [] 2 1 (no_params ∷ [])) ∷ []) (declaration ints (declarator [] 2 2 (no_params ∷ []) ∷ []) ∷ []) ∷ []) ≡ Some (Redeclared (at 2) 2)
+unfolding occurrences as_often
+function_parameter_again = refl
+
+-- int (f)(int x){ x; } and int (f(int x)){ x; }
+name_in_parentheses : fault_of (function ints (nested [] (plain 0 0) (params (param ints (plain 1 1) ∷ []) ∷ [])) (statement (name 1 2) ∷ []) ∷ []) ≡ None
+unfolding occurrences as_often
+name_in_parentheses = refl
+
+all_in_parentheses : fault_of (function ints (nested [] (declarator [] 0 0 (params (param ints (plain 1 1) ∷ []) ∷ [])) []) (statement (name 1 2) ∷ []) ∷ []) ≡ None
+unfolding occurrences as_often
+all_in_parentheses = refl
+
+-- int (*(f)(int x))(int y){ x; y; }: x is a parameter of f, and y one of what f gives
+parameter_of_result : fault_of (function ints (nested [] (nested (star ∷ []) (plain 0 0) (params (param ints (plain 1 1) ∷ []) ∷ [])) (params (param ints (plain 2 2) ∷ []) ∷ [])) (statement (name 1 3) ∷ statement (name 2 4) ∷ []) ∷ []) ≡ Some (Undeclared (at 4) 2)
+unfolding occurrences as_often
+parameter_of_result = refl
+
+-- void f(int (*y)(int x)){ x; }
+parameter_of_parameter : fault_of (f_with (param ints (nested [] (pointer 2 0) (params (param ints (plain 1 1) ∷ []) ∷ [])) ∷ []) (statement (name 1 2) ∷ []) ∷ []) ≡ Some (Undeclared (at 2) 1)
+unfolding occurrences as_often
+parameter_of_parameter = refl
+
+-- void f(int x){ } void p(void){ x; }
+parameters_end : fault_of (f_with (param ints (plain 1 1) ∷ []) [] ∷ function voids (declarator [] 3 1 (no_params ∷ [])) (statement (name 1 2) ∷ []) ∷ []) ≡ Some (Undeclared (at 2) 1)
+unfolding occurrences as_often
+parameters_end = refl
+
+-- int f(int f){ f = 1; }
+parameter_like_function : fault_of (function ints (declarator [] 0 0 (params (param ints (plain 0 1) ∷ []) ∷ [])) (statement (assigned 2 (name 0 2) (decimal 1)) ∷ []) ∷ []) ≡ None
+unfolding occurrences as_often
+parameter_like_function = refl
+
+-- void f(struct s *p, union s *q); and void f(struct s *p){ union s *q; }: the parameters' tags are of one scope, and the body's
+sorts_of_parameters : fault_of (declaration voids (declarator [] 0 0 (params (param (specs (tag which_word.Struct 5 1 ∷ [])) (pointer 3 2) ∷ param (specs (tag which_word.Union 5 3 ∷ [])) (pointer 4 4) ∷ []) ∷ []) ∷ []) ∷ []) ≡ Some (Redeclared (at 3) 5)
+unfolding occurrences as_often
+sorts_of_parameters = refl
+
+sorts_of_body : fault_of (f_with (param (specs (tag which_word.Struct 5 1 ∷ [])) (pointer 3 2) ∷ []) (declaration (specs (tag which_word.Union 5 3 ∷ [])) (pointer 4 4 ∷ []) ∷ []) ∷ []) ≡ Some (Redeclared (at 3) 5)
+unfolding occurrences as_often
+sorts_of_body = refl
+
+-- x(); x;: a call declares nothing
+call_declares_nothing : fault_of (f_with [] (statement (call 1 (name 1 1) []) ∷ statement (name 1 2) ∷ []) ∷ []) ≡ Some (Undeclared (at 2) 1)
+unfolding occurrences as_often
+call_declares_nothing = refl
+
+-- int x(void); int x; enum { x };: functions and variables are one class, enumerators another
+function_and_variable : fault_of (declaration ints (declarator [] 1 1 (no_params ∷ []) ∷ []) ∷ declaration ints (plain 1 2 ∷ []) ∷ declaration (specs (enumeration (enumerated 1 3 absent ∷ []) ∷ [])) [] ∷ []) ≡ Some (Redeclared (at 3) 1)
+unfolding occurrences as_often
+function_and_variable = refl
+
+-- int x; char x;: the latest type counts
+latest_type : type_behind (declaration ints (plain 1 1 ∷ []) ∷ declaration chars (plain 1 2 ∷ []) ∷ []) (name 1 0) ≡ Some (Arith kind.Char)
+unfolding occurrences as_often
+latest_type = refl
+
+-- for (int x, x; x; ) ; and for (int x; x; ) { int x; }
+twice_in_for : fault_of (f_with [] (for_in (declaration ints (plain 1 1 ∷ plain 1 2 ∷ [])) (name 1 3) (block []) ∷ []) ∷ []) ≡ Some (Redeclared (at 2) 1)
+unfolding occurrences as_often
+twice_in_for = refl
+
+hidden_in_for : fault_of (f_with [] (for_in (declaration ints (plain 1 1 ∷ [])) (name 1 3) (block (declaration ints (plain 1 4 ∷ []) ∷ [])) ∷ []) ∷ []) ≡ None
+unfolding occurrences as_often
+hidden_in_for = refl
+
+-- static int x; void f(void){ extern int x; extern int x; int x; }
+extern_then_local : fault_of (static_x ∷ f_with [] (declaration (stored words.Extern words.Int) (plain 1 2 ∷ []) ∷ declaration (stored words.Extern words.Int) (plain 1 3 ∷ []) ∷ declaration ints (plain 1 4 ∷ []) ∷ []) ∷ []) ≡ Some (Redeclared (at 4) 1)
+unfolding static_x occurrences as_often
+extern_then_local = refl
+
+-- a `static` of a block hides that of the file
+extern_behind_local_static : var_within (inside (inside (behind (static_x ∷ [])) (declaration (stored words.Static words.Int) (plain 1 2 ∷ []) ∷ [])) (declaration (stored words.Extern words.Int) (plain 1 3 ∷ []) ∷ [])) (name 1 0) ≡ Some (Extern 1)
+unfolding static_x occurrences as_often
+extern_behind_local_static = refl
+
+-- auto int x; and extern int x = 1; at file scope
+auto_in_file : var_behind (declaration (stored words.Auto words.Int) (plain 1 1 ∷ []) ∷ []) (name 1 0) ≡ Some (Extern 1)
+unfolding occurrences as_often
+auto_in_file = refl
+
+extern_initialized : var_behind (declaration (stored words.Extern words.Int) (initialized 1 1 (decimal 1) ∷ []) ∷ []) (name 1 0) ≡ Some (Extern 1)
+unfolding occurrences as_often
+extern_initialized = refl
+
+-- typedef int T = x;: the initializer is typed
+type_initialized : fault_of (declaration (stored words.Typedef words.Int) (initialized 6 1 (name 1 2) ∷ []) ∷ []) ≡ Some (Undeclared (at 2) 1)
+unfolding occurrences as_often
+type_initialized = refl
+
+-- struct { struct { int a; }; int a; } x;
+member_behind_unnamed : fault_of (declaration (specs (body which_word.Struct (member (specs (body which_word.Struct (member ints (plain 7 1 ∷ []) ∷ []) ∷ [])) [] ∷ member ints (plain 7 2 ∷ []) ∷ []) ∷ [])) (plain 1 3 ∷ []) ∷ []) ≡ Some (Redeclared (at 2) 7)
+unfolding occurrences as_often
+member_behind_unnamed = refl
+
+-- struct { struct { int a; }; struct { int b; union { int a; }; }; } x;
+member_two_deep_twice : fault_of (declaration (specs (body which_word.Struct (member (specs (body which_word.Struct (member ints (plain 7 1 ∷ []) ∷ []) ∷ [])) [] ∷ member (specs (body which_word.Struct (member ints (plain 8 2 ∷ []) ∷ member (specs (body which_word.Union (member ints (plain 7 3 ∷ []) ∷ []) ∷ [])) [] ∷ []) ∷ [])) [] ∷ []) ∷ [])) (plain 1 4 ∷ []) ∷ []) ≡ Some (Redeclared (at 3) 7)
+unfolding occurrences as_often
+member_two_deep_twice = refl
+
+-- struct s *p; struct s { int a; int b[sizeof p->a]; };: the structure is complete behind its body alone
+incomplete_in_its_body : fault_of (declaration (specs (tag which_word.Struct 5 1 ∷ [])) (pointer 3 2 ∷ []) ∷ declaration (specs (tagged_body which_word.Struct 5 3 (member ints (plain 7 4 ∷ declarator [] 8 5 (bound (present (unary prefix.Sizeof 6 (arrow 7 (name 3 7) 7))) ∷ []) ∷ []) ∷ []) ∷ [])) [] ∷ []) ≡ Some (NotStruct (at 7))
+unfolding occurrences as_often
+incomplete_in_its_body = refl
+
+-- struct s { int a; } x; void f(void){ SPECIFIERS; struct s *p; p->a; }
+behind_mention : List Node → List Node
+behind_mention items =
+    declaration (specs (tagged_body which_word.Struct 5 1 (member ints (plain 7 2 ∷ []) ∷ []) ∷ [])) (plain 1 3 ∷ [])
+    ∷ f_with [] (declaration (specs items) [] ∷ declaration (specs (tag which_word.Struct 5 5 ∷ [])) (pointer 3 6 ∷ []) ∷ statement (arrow 7 (name 3 7) 7) ∷ [])
+    ∷ []
+
+-- struct s; alone is a new tag, and const struct s; is the visible one
+struct_alone : fault_of (behind_mention (tag which_word.Struct 5 4 ∷ [])) ≡ Some (NotStruct (at 7))
+unfolding behind_mention occurrences as_often
+struct_alone = refl
+
+struct_not_alone : fault_of (behind_mention (keyword words.Const ∷ tag which_word.Struct 5 4 ∷ [])) ≡ None
+unfolding behind_mention occurrences as_often
+struct_not_alone = refl
+
+-- int *a[2], (*b)[2], *(*c(void))[2];
+three_declarators : List Node
+three_declarators = declaration ints (declarator (star ∷ []) 7 0 (bound (present (decimal 2)) ∷ []) ∷ nested [] (pointer 8 0) (bound (present (decimal 2)) ∷ []) ∷ nested (star ∷ []) (declarator (star ∷ []) 9 0 (no_params ∷ [])) (bound (present (decimal 2)) ∷ []) ∷ []) ∷ []
+
+array_of_pointers : type_behind three_declarators (name 7 0) ≡ Some (Array (Pointer int))
+unfolding three_declarators occurrences as_often
+array_of_pointers = refl
+
+pointer_to_array : type_behind three_declarators (name 8 0) ≡ Some (Pointer (Array int))
+unfolding three_declarators occurrences as_often
+pointer_to_array = refl
+
+function_to_array : type_behind three_declarators (name 9 0) ≡ Some (Func (Pointer (Array (Pointer int))))
+unfolding three_declarators occurrences as_often
+function_to_array = refl

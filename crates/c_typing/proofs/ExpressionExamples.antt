@@ -8,13 +8,13 @@ use Rattle.c_tree.specs.declared.operator.StructOrUnion.TheVariants as which_wor
 use Rattle.c_tree.specs.declared.operator.UnaryOp.TheVariants as prefix
 use Rattle.c_tree.specs.declared.token.FloatEnd.TheVariants as ends
 use Rattle.c_tree.specs.declared.token.TokenKind.TheVariants as kinds
-use Rattle.c_tree.specs.Node.{Node, present}
+use Rattle.c_tree.specs.Node.{Node, Declarator, Unnamed, present}
 use Rattle.c_typing.specs.Arithmetic.{convert, promote}
 use Rattle.c_typing.specs.Arithmetic as kind
 use Rattle.c_typing.specs.Faults.{Undeclared, NoField, NotPointer, NotStruct, NotFunction, NotLvalue}
 use Rattle.c_typing.specs.Specified.{basic_types}
 use Rattle.c_typing.specs.Types.{Void, Arith, Pointer, Array, Func, int, long}
-use Rattle.c_typing.proofs.Building.{at, name, func, constant, decimal, paren, unary, binary, choice, assigned, call, dot, arrow, index, cast, keyword, tag, tagged_body, body, specs, ints, chars, voids, type_in, member, declarator, plain, pointer, pointer_alone, bound, params, declaration, type_behind, fault_behind}
+use Rattle.c_typing.proofs.Building.{at, a_node, list, name, func, constant, decimal, paren, unary, binary, choice, assigned, call, dot, arrow, index, cast, keyword, tag, tagged_body, body, specs, ints, chars, voids, type_in, member, declarator, plain, pointer, pointer_alone, bound, params, declaration, type_behind, fault_behind}
 
 -- the words of basic types are those of the grammar
 pub same_basic_types : map (λ line. line.0) basic_types ≡ grammar.basic_types
@@ -216,6 +216,20 @@ function_not_assigned : fault_behind some_names (assigned 5 (name 4 5) (name 1 6
 unfolding some_names occurrences as_often
 function_not_assigned = refl
 
+-- (x + x)++, which begins with its operand
+sum_not_counted : fault_behind some_names (unary prefix.PostInc 4 (paren (binary op.Add (name 1 5) (name 1 6)))) ≡ Some (NotLvalue (at 4))
+unfolding some_names occurrences as_often
+sum_not_counted = refl
+
+-- x(c), where x is no function: the argument comes first
+argument_first : fault_behind some_names (call 1 (name 1 1) (name 9 2 ∷ [])) ≡ Some (Undeclared (at 2) 9)
+unfolding some_names occurrences as_often
+argument_first = refl
+
+-- (int [c])b: the type comes before the operand
+type_first : fault_behind [] (cast (type_in ints (present (a_node 0 (Declarator (Unnamed [] (list (bound (present (name 9 1)) ∷ []))))))) (name 8 2)) ≡ Some (Undeclared (at 1) 9)
+type_first = refl
+
 -- &q has a type, since q is a function
 function_has_address : type_behind some_names (unary prefix.AddressOf 5 (name 4 6)) ≡ Some (Pointer (Func Void))
 unfolding some_names occurrences as_often
@@ -276,6 +290,11 @@ member_two_deep = refl
 no_such_member : fault_behind inner_struct (arrow 5 (name 3 5) 4) ≡ Some (NoField (at 5) 4)
 unfolding inner_struct occurrences as_often
 no_such_member = refl
+
+-- struct s { int a; } q(); &q().a: what a function gives is no lvalue
+member_of_result : fault_behind (declaration (specs (tagged_body which_word.Struct 5 0 (member ints (plain 7 0 ∷ []) ∷ []) ∷ [])) (declarator [] 4 0 (params [] ∷ []) ∷ []) ∷ []) (unary prefix.AddressOf 3 (dot 4 (call 4 (name 4 4) []) 7)) ≡ Some (NotLvalue (at 3))
+unfolding occurrences as_often
+member_of_result = refl
 
 -- behind struct s *p alone, p->a is refused: the structure isn't complete
 incomplete : fault_behind (declaration (specs (tag which_word.Struct 5 0 ∷ [])) (pointer 3 0 ∷ []) ∷ []) (arrow 5 (name 3 5) 7) ≡ Some (NotStruct (at 5))

@@ -6,7 +6,8 @@ use Rattle.c_tree.specs.declared.operator.BinaryOp.TheVariants as op
 use Rattle.c_tree.specs.declared.operator.StructOrUnion.TheVariants as which_word
 use Rattle.c_tree.specs.declared.operator.UnaryOp.TheVariants as prefix
 use Rattle.c_tree.specs.declared.token.TokenKind.TheVariants as kinds
-use Rattle.c_tree.specs.Node.{Node, node, Primary, Operation, Initializer, Specifier, Declarator, Part, PrimaryShape, OperationShape, StrConst, VaArg, Offsetof, Ident, Binary, Unary, CompoundLit, Braces, Designated, Named, Unnamed, MemberDesignator, IndexDesignator, EnumTag, BitField, Iteration, Do, MaybeNode, Nodes, absent, present}
+use Rattle.c_tree.specs.Node.{Node, node, Primary, Operation, Initializer, Specifier, Declarator, Part, PrimaryShape, OperationShape, StrConst, VaArg, Offsetof, Ident, Binary, Unary, CompoundLit, Braces, Designated, Named, Unnamed, MemberDesignator, IndexDesignator, EnumTag, EnumBody, BitField, Iteration, Do, MaybeNode, Nodes, absent, present}
+use Rattle.c_tree.specs.Node as tree
 use Rattle.c_typing.specs.Arithmetic as kind
 use Rattle.c_typing.specs.Definition.{Cell}
 use Rattle.c_typing.specs.Faults.{Undeclared, Redeclared}
@@ -16,7 +17,7 @@ use Rattle.c_typing.specs.Roles.{Plain}
 use Rattle.c_typing.specs.Scopes.{at_start}
 use Rattle.c_typing.specs.TablesByCase.{filled_each}
 use Rattle.c_typing.specs.Vars.{CVar, Extern, Param}
-use Rattle.c_typing.proofs.Building.{at, word, token, list, name, keyword, tag, tagged_body, body, specs, ints, chars, voids, type_in, member, declarator, plain, pointer, bound, no_params, params, param, declaration, function, f_with, block, statement, type_behind, fault_behind, fault_of}
+use Rattle.c_typing.proofs.Building.{at, word, token, list, name, star, keyword, enumerated, tag, tagged_body, body, specs, ints, chars, voids, type_in, member, declarator, plain, pointer, nested, bound, no_params, params, param, declaration, function, f_with, block, statement, type_behind, fault_behind, fault_of}
 
 -- the name x, as a node of its own number
 abbrev numbered : ℕ → ℕ → Node
@@ -54,6 +55,24 @@ own_functions : owns (list (declaration (specs (keyword words.Static ∷ keyword
 unfolding occurrences as_often
 own_functions = refl
 
+-- void f(void){ static void p(void); } void p(void){ }: a `static` of a block makes p none of the file's own
+static_in_block : owns (list (f_with [] (declaration (specs (keyword words.Static ∷ keyword words.Void ∷ [])) (declarator [] 3 1 (no_params ∷ []) ∷ []) ∷ []) ∷ function voids (declarator [] 3 2 (no_params ∷ [])) [] ∷ [])) ≡ (0, false) ∷ (2, false) ∷ []
+unfolding occurrences as_often
+static_in_block = refl
+
+-- static void f(void); void f(void); void f(void){ }: any earlier declaration counts
+static_before_another : owns (list (declaration (specs (keyword words.Static ∷ keyword words.Void ∷ [])) (declarator [] 0 1 (no_params ∷ []) ∷ []) ∷ declaration voids (declarator [] 0 2 (no_params ∷ []) ∷ []) ∷ function voids (declarator [] 0 3 (no_params ∷ [])) [] ∷ [])) ≡ (3, true) ∷ []
+unfolding occurrences as_often
+static_before_another = refl
+
+abbrev formals : Nodes → List (List (Option CVar))
+formals unit = map (λ f. f.formals) (functions_of unit)
+
+-- int (*(f)(int x, int))(int y){ }: the formals are those beside the name, and the second has none
+formals_beside_name : formals (list (function ints (nested [] (nested (star ∷ []) (plain 0 0) (params (param ints (plain 1 1) ∷ node 0 (at 0) (Specifier (tree.Param ints absent)) ∷ []) ∷ [])) (params (param ints (plain 2 2) ∷ []) ∷ [])) [] ∷ [])) ≡ (Some (Param 0 1 1) ∷ None ∷ []) ∷ []
+unfolding occurrences as_often
+formals_beside_name = refl
+
 -- struct s *p; union { int a; } x; struct T { int a; } y;: the numbers count structures and unions, and know their tags
 three_structs : Nodes
 three_structs = list (
@@ -84,6 +103,10 @@ wide_string = refl
 va_arg : type_behind (declaration (specs (keyword words.BuiltinVaList ∷ [])) (plain 1 0 ∷ []) ∷ []) (primary (VaArg (name 1 0) (type_in ints absent))) ≡ Some int
 unfolding occurrences as_often
 va_arg = refl
+
+-- __builtin_va_arg(x, int[y]): the list comes before the type
+va_arg_in_order : fault_behind [] (primary (VaArg (name 1 1) (type_in ints (present (node 0 (at 2) (Declarator (Unnamed [] (list (bound (present (name 2 2)) ∷ []))))))))) ≡ Some (Undeclared (at 1) 1)
+va_arg_in_order = refl
 
 -- __builtin_offsetof(struct s, a.b[x]): no member is looked up, and the index is typed
 offset : type_behind (declaration ints (plain 1 0 ∷ []) ∷ []) (primary (Offsetof (type_in (specs (tag which_word.Struct 5 1 ∷ [])) absent) (word 7 2) (list (node 0 (at 3) (Part (MemberDesignator (word 8 3))) ∷ node 0 (at 4) (Part (IndexDesignator (name 1 4))) ∷ [])))) ≡ Some size
@@ -121,6 +144,20 @@ enum_seen_inside = refl
 tag_of_prototype : type_behind (declaration voids (declarator [] 0 0 (params (param (specs (tag which_word.Struct 5 1 ∷ [])) (pointer 3 1) ∷ []) ∷ []) ∷ []) ∷ declaration (specs (tag which_word.Struct 5 2 ∷ [])) (pointer 4 3 ∷ []) ∷ []) (name 4 0) ≡ Some (Pointer (Struct 1))
 unfolding occurrences as_often
 tag_of_prototype = refl
+
+-- struct s; { enum s x; struct s *q; }: the enumeration is a new tag of the block
+enum_hides_struct : fault_of (declaration (specs (tag which_word.Struct 5 1 ∷ [])) [] ∷ block (declaration (specs (node 0 (at 2) (Specifier (EnumTag (word 5 2))) ∷ [])) (plain 1 3 ∷ []) ∷ declaration (specs (tag which_word.Struct 5 4 ∷ [])) (pointer 4 5 ∷ []) ∷ []) ∷ []) ≡ Some (Redeclared (at 4) 5)
+enum_hides_struct = refl
+
+abbrev enumeration_of : ℕ → ℕ → Node → Node
+enumeration_of x k e = node 0 (at 0) (Specifier (EnumBody (Some (word x k)) (list (e ∷ [])) false))
+
+-- enum s { a }; enum s x; enum s { b }; and with the last in a block
+enumeration_twice : fault_of (declaration (specs (enumeration_of 5 1 (enumerated 7 2 absent) ∷ [])) [] ∷ declaration (specs (node 0 (at 3) (Specifier (EnumTag (word 5 3))) ∷ [])) (plain 1 4 ∷ []) ∷ declaration (specs (enumeration_of 5 5 (enumerated 8 6 absent) ∷ [])) [] ∷ []) ≡ Some (Redeclared (at 5) 5)
+enumeration_twice = refl
+
+enumeration_inside : fault_of (declaration (specs (enumeration_of 5 1 (enumerated 7 2 absent) ∷ [])) [] ∷ block (declaration (specs (enumeration_of 5 3 (enumerated 8 4 absent) ∷ [])) [] ∷ []) ∷ []) ≡ None
+enumeration_inside = refl
 
 abbrev bits : MaybeNode → Node → Node
 bits d width = node 0 (at 0) (Specifier (BitField d width))
