@@ -7,6 +7,7 @@ pub mod DeclarationExamples
 pub mod Filled
 pub mod First
 pub mod Functions
+pub mod Numbers
 pub mod Places
 pub mod Stay
 pub mod UnitExamples

@@ -1,6 +1,9 @@
 -- The theorems of this crate as statements, which contracts can name.
-use Rattle.std.specs.Prelude.{◌≡◌, ◌⊎◌, true, [], None, Some, Result, Ok, Err}
+use Rattle.std.specs.Prelude.{◌≡◌, ◌⊎◌, ℕ, List, true, [], None, Some, Result, Ok, Err}
+use Rattle.c_tree.specs.declared.token.Token.{Token}
 use Rattle.c_tree.specs.Node.{Node, Nodes}
+use Rattle.c_places.specs.Lines.{row_line}
+use Rattle.c_places.specs.Stands.{Stands}
 use Rattle.c_typing.specs.Definition.{after, type_of, Out, first_fault, Table, IsAmong, is_kept, HasCell}
 use Rattle.c_typing.specs.Faults.{Fault}
 use Rattle.c_typing.specs.Functions.{functions_of, defined_each, structs_of}
@@ -54,6 +57,10 @@ UnitsByCase = (unit : Nodes) (found : Result CType Fault) → typed_each at_star
 -- The functions of a unit, and the tags of its structures and unions, under the scopes that are written out for each kind.
 abbrev pub FunctionsByCase : Type 0
 FunctionsByCase = (unit : Nodes) → (functions_of unit ≡ defined_each at_start unit) × (structs_of unit ≡ (scoped_each at_start Plain unit).structs)
+
+-- Trees that stand over tokens, one after the other, have nodes with different numbers.
+abbrev pub NumbersDiffer : Type 0
+NumbersDiffer = (unit : Nodes) (low high : ℕ) (ts rest : List Token) → Stands (row_line unit) low high ts rest → AreNumbered unit
 
 -- Behind a node, and behind nodes one after the other, what was in force still is.
 abbrev pub ScopesStay : Type 0

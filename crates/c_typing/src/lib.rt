@@ -5,6 +5,6 @@
 mod theorems;
 
 pub use theorems::{
-    by_case, cells_are_right, faults_are_unique, functions_by_case, places_are_typed, scopes_stay,
-    typed_has_no_fault, typed_or_at_fault, units_by_case,
+    by_case, cells_are_right, faults_are_unique, functions_by_case, numbers_differ,
+    places_are_typed, scopes_stay, typed_has_no_fault, typed_or_at_fault, units_by_case,
 };

@@ -1,7 +1,7 @@
 // The theorems of typing, each in the contract of a function that does nothing: a call of it hands the fact to a caller's
 // proof.
 
-ghost use Rattle.c_typing.specs.Theorems.{TypedHasNoFault, FaultsAreUnique, TypedOrAtFault, CellsAreRight, PlacesAreTyped, ByCase, UnitsByCase, FunctionsByCase, ScopesStay};
+ghost use Rattle.c_typing.specs.Theorems.{TypedHasNoFault, FaultsAreUnique, TypedOrAtFault, CellsAreRight, PlacesAreTyped, ByCase, UnitsByCase, FunctionsByCase, NumbersDiffer, ScopesStay};
 
 /// A unit that is typed has no fault.
 pub fn typed_has_no_fault()
@@ -45,6 +45,11 @@ pub fn units_by_case()
 /// each kind.
 pub fn functions_by_case()
     ensures { FunctionsByCase }
+{}
+
+/// Trees that stand over tokens, one after the other, have nodes with different numbers.
+pub fn numbers_differ()
+    ensures { NumbersDiffer }
 {}
 
 /// Behind a node, and behind nodes one after the other, the names and tags of before are still in force, in the same scope.
