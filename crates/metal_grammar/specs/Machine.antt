@@ -37,8 +37,10 @@ pub data Item : Type 0 where
   Holds : Condition → Item
   EndOfPath : Item
 
+-- The position is that of the rule's first symbol in the text.
 pub record Rule : Type 0 where
   pub number : ℕ
+  pub position : ℕ
   pub source : Source
   pub alternatives : List (List Item)
   pub dest : Dest

@@ -99,6 +99,7 @@ action_of n (Some a) = message_with n.spelling a (map (λ argument. number_in n.
 abbrev pub rule_of : Numbering → PlacedRule → Rule
 rule_of n r = record {
   number = r.number;
+  position = r.position;
   source = source_of n r.source;
   alternatives = map (λ items. map (item_of n) (members items)) (members r.rule.alternatives);
   dest = dest_of n r.rule.destination;
