@@ -116,7 +116,7 @@ callouts : read_machine spelling (sm ∷ m ∷ brace ∷ state ∷ decl ∷ any_
   globals = [];
   states = (8 ∷ []) ∷ [];
   rules =
-      (record { number = 1; position = 10; source = FromGlobal 0; alternatives = (Base (Operation (Call (ident f) (more (Primary (Hole 0)) no_more))) ∷ Holds (record { negated = true; row = 0; hole = 0; text = [] }) ∷ Holds (record { negated = false; row = 4; hole = 0; text = codes "a" }) ∷ []) ∷ (Holds (record { negated = false; row = 5; hole = 0; text = codes "b" }) ∷ Base (Primary (Hole 0)) ∷ Holds (record { negated = false; row = 6; hole = 0; text = [] }) ∷ Holds (record { negated = true; row = 7; hole = 0; text = [] }) ∷ []) ∷ []; dest = Always (ToObject 0 0); action = None })
+      (record { number = 1; position = 10; source = FromGlobal 0; alternatives = (Base (Operation (Call (ident f) (more (Primary (Hole 0)) no_more))) ∷ Holds (record { negated = true; row = 0; hole = 0; text = 0 }) ∷ Holds (record { negated = false; row = 4; hole = 0; text = 8 }) ∷ []) ∷ (Holds (record { negated = false; row = 5; hole = 0; text = 9 }) ∷ Base (Primary (Hole 0)) ∷ Holds (record { negated = false; row = 6; hole = 0; text = 0 }) ∷ Holds (record { negated = true; row = 7; hole = 0; text = 0 }) ∷ []) ∷ []; dest = Always (ToObject 0 0); action = None })
       ∷ [];
 })
 unfolding read_row read_identifiers read read_binary read_chain read_postfix_operators read_more_arguments read_path read_items read_suffixes read_params run_of after_run is_type type_words other_types storages inlines occurrences as_often is_among
@@ -131,7 +131,7 @@ excused_at_end : read_machine spelling (begun ++ v ∷ dot ∷ a ∷ colon ∷ b
   globals = [];
   states = (8 ∷ []) ∷ [] ∷ [];
   rules =
-      (record { number = 1; position = 18; source = FromObject 0 0; alternatives = (Base (Operation (Call (ident f) (more (Primary (Hole 0)) no_more))) ∷ Holds (record { negated = false; row = 3; hole = 0; text = [] }) ∷ []) ∷ (EndOfPath ∷ []) ∷ []; dest = Always (ToUnknown 0); action = None })
+      (record { number = 1; position = 18; source = FromObject 0 0; alternatives = (Base (Operation (Call (ident f) (more (Primary (Hole 0)) no_more))) ∷ Holds (record { negated = false; row = 3; hole = 0; text = 0 }) ∷ []) ∷ (EndOfPath ∷ []) ∷ []; dest = Always (ToUnknown 0); action = None })
       ∷ [];
 })
 unfolding read_row read_identifiers read read_binary read_chain read_postfix_operators read_more_arguments read_path read_items read_suffixes read_params run_of after_run is_type type_words other_types storages inlines occurrences as_often is_among
@@ -146,7 +146,7 @@ without_pattern : read_machine spelling (sm ∷ m ∷ brace ∷ start ∷ colon 
   globals = 22 ∷ 5 ∷ [];
   states = [];
   rules =
-      (record { number = 1; position = 5; source = FromGlobal 0; alternatives = (Holds (record { negated = false; row = 7; hole = 0; text = [] }) ∷ []) ∷ []; dest = Always (ToGlobal 2); action = None })
+      (record { number = 1; position = 5; source = FromGlobal 0; alternatives = (Holds (record { negated = false; row = 7; hole = 0; text = 0 }) ∷ []) ∷ []; dest = Always (ToGlobal 2); action = None })
       ∷ (record { number = 2; position = 14; source = FromGlobal 2; alternatives = (EndOfPath ∷ EndOfPath ∷ []) ∷ []; dest = Always (ToGlobal 3); action = None })
       ∷ (record { number = 3; position = 26; source = FromGlobal 3; alternatives = (Base (Operation (Call (ident f) no_more)) ∷ []) ∷ []; dest = Always (ToGlobal 1); action = None })
       ∷ [];

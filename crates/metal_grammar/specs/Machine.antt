@@ -25,12 +25,12 @@ pub data Dest : Type 0 where
   ByTruth : Target → Target → Dest
 
 -- The rows of callouts are `mc_is_const`, `mc_is_global`, `mc_is_param`, `mc_is_local`, `mc_name_is`, `mc_in_function`, `0` and
--- `1`, from 0 on. The hole is 0 where the row has none, and the text has no bytes.
+-- `1`, from 0 on. The hole is 0 where the row has none. The text is the number of a name, 0 where the row has none.
 pub record Condition : Type 0 where
   pub negated : Bool
   pub row : ℕ
   pub hole : ℕ
-  pub text : List ℕ
+  pub text : ℕ
 
 pub data Item : Type 0 where
   Base : Syntax → Item
