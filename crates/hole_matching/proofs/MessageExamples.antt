@@ -11,7 +11,8 @@ use Rattle.c_tree.specs.declared.punctuator.Punctuator.TheVariants as marks
 use Rattle.c_tree.specs.declared.token.Mark.TheVariants as marked
 use Rattle.c_tree.specs.Node.{Node, node, Primary, Operation, Ident, Paren, Arrow}
 use Rattle.hole_matching.specs.Matching.{One, Many}
-use Rattle.hole_matching.specs.Message.{Bytes, HoleText, Source, message, shortened}
+use Rattle.metal_machines.specs.Machine.{Bytes, HoleText}
+use Rattle.hole_matching.specs.Message.{Source, message, shortened}
 use Rattle.hole_matching.specs.Subjects.{Tree, DerefOf}
 use Rattle.hole_matching.proofs.Building.{setting}
 

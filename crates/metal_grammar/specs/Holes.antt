@@ -1,26 +1,11 @@
--- Holes: their types, the names that a text declares as holes, and where in an expression each may stand.
+-- The types of holes as they are written, the names that a text declares as holes, and where in an expression each may stand.
 use Rattle.std.specs.Prelude.{ℕ, zero, suc, Bool, true, false, cond, nat_eq, ◌&&◌, List, [], ◌∷◌, map, Option, None, Some}
-use Rattle.c_tree.specs.declared.keyword.Keyword.{Keyword}
-use Rattle.c_tree.specs.declared.operator.StructOrUnion.{StructOrUnion}
 use Rattle.c_tree.specs.Symbol.{Symbol, Word}
 use Rattle.c_tree.specs.Syntax.{Syntax, Primary, Operation, Initializer, Part, PrimarySyntax, OperationSyntax, InitializerSyntax, Ident, Paren, VaArg, Offsetof, Index, Call, Member, Arrow, CompoundLit, Unary, Cast, Binary, Cond, Assign, Braces, Designated, IndexDesignator, Syntaxes, no_more, more}
+use Rattle.metal_machines.specs.Machine.{NamedType, Basic, Tag, Pointer, HoleType, AnyExpr, AnyScalar, AnyPointer, AnyArguments, AnyFnCall, Named}
 use Rattle.metal_grammar.specs.Words.{Spelling, is_spelled}
 use Rattle.metal_grammar.specs.Written.{members, WrittenType, KindOfHole, BasicType, TagType, Declaration}
 use Rattle.std.specs.Prelude.{codes, is_some}
-
--- a type of C that a hole may have: the words of a basic type, a tag, or a pointer
-pub data NamedType : Type 0 where
-  Basic : List Keyword → NamedType
-  Tag : StructOrUnion → ℕ → NamedType
-  Pointer : NamedType → NamedType
-
-pub data HoleType : Type 0 where
-  AnyExpr : HoleType
-  AnyScalar : HoleType
-  AnyPointer : HoleType
-  AnyArguments : HoleType
-  AnyFnCall : HoleType
-  Named : NamedType → HoleType
 
 abbrev pub pointers : ℕ → NamedType → NamedType
 pointers zero t = t
