@@ -26,7 +26,7 @@ abbrev object : ℕ → ℕ → ℕ → ℕ → Subject → Option Object
 object number k depth function s = object_bound machine number k some_facts depth function s 0
 
 -- g(p), g((p)), the `*p` in `p->f`
-pub first_rule : object 1 0 4 20 (Tree (call_of (name 6) (name 0 ∷ []))) ≡ Some (path p [])
+first_rule : object 1 0 4 20 (Tree (call_of (name 6) (name 0 ∷ []))) ≡ Some (path p [])
 first_rule = refl
 
 first_rule_in_parentheses : object 1 0 4 20 (Tree (call_of (name 6) (paren (name 0) ∷ []))) ≡ Some (path p [])

@@ -13,7 +13,7 @@ use Rattle.metal_grammar.specs.Reading.{Accepted, Refused, read_machine}
 use Rattle.metal_grammar.proofs.Vocabulary.{spelling, a, any_expr, any_scalar, b, begun, both, brace, c, colon, comma, d, decl, dollar, dot, e, end_brace, end_of_path, end_paren, equals, err, f, false_word, g, h, i, m, mc_big, mc_is_local, paren, semicolon, sm, start, state, stop, text_1, to, true_word, v, w, x}
 
 -- `sm m { start: { f( } ==> stop; }`
-pub unfinished_call : read_machine spelling (sm ∷ m ∷ brace ∷ start ∷ colon ∷ brace ∷ f ∷ paren ∷ end_brace ∷ to ∷ stop ∷ semicolon ∷ end_brace ∷ []) ≡ Refused (SyntaxAt 0)
+unfinished_call : read_machine spelling (sm ∷ m ∷ brace ∷ start ∷ colon ∷ brace ∷ f ∷ paren ∷ end_brace ∷ to ∷ stop ∷ semicolon ∷ end_brace ∷ []) ≡ Refused (SyntaxAt 0)
 unfolding read_row read_identifiers read read_binary read_chain read_postfix_operators read_more_arguments read_path read_items read_suffixes read_params run_of after_run is_type type_words other_types storages inlines occurrences as_often is_among
 unfinished_call = refl
 

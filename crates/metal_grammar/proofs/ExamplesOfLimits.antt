@@ -20,7 +20,7 @@ rules (suc n) = row one_rule (rules n)
 abbrev section : ℕ → Clause
 section n = record { head = None; content = Rules (record { source = OfMachine 1; rules = rules n }); closing = false }
 
-pub a_thousand_rules : passing count_of_rules most_rules 0 0 (section 799 ∷ section 199 ∷ []) ≡ None
+a_thousand_rules : passing count_of_rules most_rules 0 0 (section 799 ∷ section 199 ∷ []) ≡ None
 a_thousand_rules = refl
 
 -- the first clause has 2 + 800 * 6 symbols

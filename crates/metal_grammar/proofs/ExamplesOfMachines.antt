@@ -31,7 +31,7 @@ int_pointer = Specifier (TypeName (Specifier (Specs (more (Part (SpecWord c_int)
 --      v.freed: { *v } ==> v.stop, { err("using %s after free!", mc_identifier(v)); }
 --             | { kfree(v) } ==> v.stop, { err("double free of %s!", mc_identifier(v)); } ;
 --     }
-pub free_checker_machine : read_machine spelling (sm ∷ free_checker ∷ brace ∷ state ∷ decl ∷ any_pointer ∷ v ∷ semicolon ∷ start ∷ colon ∷ brace ∷ kfree ∷ paren ∷ v ∷ end_paren ∷ end_brace ∷ to ∷ v ∷ dot ∷ freed ∷ semicolon ∷ v ∷ dot ∷ freed ∷ colon ∷ brace ∷ star ∷ v ∷ end_brace ∷ to ∷ v ∷ dot ∷ stop ∷ comma ∷ brace ∷ err ∷ paren ∷ text_7 ∷ comma ∷ mc_identifier ∷ paren ∷ v ∷ end_paren ∷ end_paren ∷ semicolon ∷ end_brace ∷ bar ∷ brace ∷ kfree ∷ paren ∷ v ∷ end_paren ∷ end_brace ∷ to ∷ v ∷ dot ∷ stop ∷ comma ∷ brace ∷ err ∷ paren ∷ text_8 ∷ comma ∷ mc_identifier ∷ paren ∷ v ∷ end_paren ∷ end_paren ∷ semicolon ∷ end_brace ∷ semicolon ∷ end_brace ∷ []) ≡ Accepted (record {
+free_checker_machine : read_machine spelling (sm ∷ free_checker ∷ brace ∷ state ∷ decl ∷ any_pointer ∷ v ∷ semicolon ∷ start ∷ colon ∷ brace ∷ kfree ∷ paren ∷ v ∷ end_paren ∷ end_brace ∷ to ∷ v ∷ dot ∷ freed ∷ semicolon ∷ v ∷ dot ∷ freed ∷ colon ∷ brace ∷ star ∷ v ∷ end_brace ∷ to ∷ v ∷ dot ∷ stop ∷ comma ∷ brace ∷ err ∷ paren ∷ text_7 ∷ comma ∷ mc_identifier ∷ paren ∷ v ∷ end_paren ∷ end_paren ∷ semicolon ∷ end_brace ∷ bar ∷ brace ∷ kfree ∷ paren ∷ v ∷ end_paren ∷ end_brace ∷ to ∷ v ∷ dot ∷ stop ∷ comma ∷ brace ∷ err ∷ paren ∷ text_8 ∷ comma ∷ mc_identifier ∷ paren ∷ v ∷ end_paren ∷ end_paren ∷ semicolon ∷ end_brace ∷ semicolon ∷ end_brace ∷ []) ≡ Accepted (record {
   name = 44;
   variables = 1;
   holes = record { name = 19; of = AnyPointer } ∷ [];

@@ -14,7 +14,7 @@ use Rattle.metal_grammar.proofs.Vocabulary.{spelling, a, any_expr, b, bar, begun
 
 -- the limit of variables comes first, at the clause that passes it:
 -- `sm m { decl any_expr a, b, c, d, e, f, g, h, i, x; state decl any_expr a, b, c, d, e, f, g, h, i; }`
-pub variables_before_holes : read_machine spelling (sm ∷ m ∷ brace ∷ decl ∷ any_expr ∷ a ∷ comma ∷ b ∷ comma ∷ c ∷ comma ∷ d ∷ comma ∷ e ∷ comma ∷ f ∷ comma ∷ g ∷ comma ∷ h ∷ comma ∷ i ∷ comma ∷ x ∷ semicolon ∷ state ∷ decl ∷ any_expr ∷ a ∷ comma ∷ b ∷ comma ∷ c ∷ comma ∷ d ∷ comma ∷ e ∷ comma ∷ f ∷ comma ∷ g ∷ comma ∷ h ∷ comma ∷ i ∷ semicolon ∷ end_brace ∷ []) ≡ Refused (TooMany Variables 25)
+variables_before_holes : read_machine spelling (sm ∷ m ∷ brace ∷ decl ∷ any_expr ∷ a ∷ comma ∷ b ∷ comma ∷ c ∷ comma ∷ d ∷ comma ∷ e ∷ comma ∷ f ∷ comma ∷ g ∷ comma ∷ h ∷ comma ∷ i ∷ comma ∷ x ∷ semicolon ∷ state ∷ decl ∷ any_expr ∷ a ∷ comma ∷ b ∷ comma ∷ c ∷ comma ∷ d ∷ comma ∷ e ∷ comma ∷ f ∷ comma ∷ g ∷ comma ∷ h ∷ comma ∷ i ∷ semicolon ∷ end_brace ∷ []) ≡ Refused (TooMany Variables 25)
 unfolding read_row read_identifiers read read_binary read_chain read_postfix_operators read_more_arguments read_path read_items read_suffixes read_params run_of after_run is_type type_words other_types storages inlines occurrences as_often is_among
 variables_before_holes = refl
 

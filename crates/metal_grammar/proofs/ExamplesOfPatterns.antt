@@ -24,7 +24,7 @@ literal a i b =
     (Initializer (Braces (more (Initializer (Designated (more (Part (MemberDesignator (Word 8))) no_more) a)) (more (Initializer (Designated (more (Part (IndexDesignator i)) no_more) (Initializer (Braces (more b no_more) false)))) no_more)) true)))
 
 -- the names of holes become holes, also as indices, and not as members
-pub compound_holes : with_holes holes (literal (name 19) (name 16) (name 20)) ≡ literal (Primary (Hole 0)) (Primary (Hole 2)) (Primary (Hole 1))
+compound_holes : with_holes holes (literal (name 19) (name 16) (name 20)) ≡ literal (Primary (Hole 0)) (Primary (Hole 2)) (Primary (Hole 1))
 compound_holes = refl
 
 compound_names : names_in (literal (name 19) (name 16) (name 20)) ≡ (19 ∷ 16 ∷ 20 ∷ [])

@@ -13,7 +13,7 @@ use Rattle.metal_grammar.specs.Reading.{Refused, read_machine}
 use Rattle.metal_grammar.proofs.Vocabulary.{spelling, a, any, any_arguments, any_expr, any_fn_call, b, begun, both, brace, c_const, c_enum, c_float, c_int, c_long, c_sizeof, colon, comma, decl, digits_00, digits_2, dollar, dot, e, end, end_brace, end_of_path, end_paren, equals, f, false_word, g, m, paren, semicolon, sm, start, state, stop, text_2, to, true_word, v, x}
 
 -- no symbols at all
-pub no_symbols : read_machine spelling ([]) ≡ Refused (SyntaxAt 0)
+no_symbols : read_machine spelling ([]) ≡ Refused (SyntaxAt 0)
 unfolding read_row read_identifiers read read_binary read_chain read_postfix_operators read_more_arguments read_path read_items read_suffixes read_params run_of after_run is_type type_words other_types storages inlines occurrences as_often is_among
 no_symbols = refl
 

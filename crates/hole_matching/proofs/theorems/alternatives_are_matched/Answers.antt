@@ -1,6 +1,5 @@
 use Rattle.hole_matching.proofs.Alternatives.{alternative-sound, alternative-complete}
-use Rattle.hole_matching.proofs.MachineExamples.{first_rule}
 use Rattle.hole_matching.proofs.theorems.alternatives_are_matched.Goals as goal
 
 pub returns : goal.returns
-returns c g items s b = let a = first_rule in (alternative-sound g items s b, alternative-complete g items s b)
+returns c g items s b = (alternative-sound g items s b, alternative-complete g items s b)
