@@ -1,7 +1,8 @@
 -- The match of a pattern and of an alternative is exactly the relation, and its binding is the only one.
 use Rattle.std.proofs.Common.{◌≡◌, List, [], ◌∷◌, ◌++◌, Bool, true, false, None, Some, refl, ◌∙◌, sym, ap, subst, cond}
 use Rattle.c_typing.specs.Options.{◌>?◌}
-use Rattle.hole_matching.specs.Alternatives.{Item, Base, Holds, EndOfPath, BasesStand, all_hold, Matches, matched_bases, matched_alternative}
+use Rattle.metal_machines.specs.Machine.{Item, Base, Holds, EndOfPath}
+use Rattle.hole_matching.specs.Alternatives.{BasesStand, all_hold, Matches, matched_bases, matched_alternative}
 use Rattle.hole_matching.specs.Holes.{Setting}
 use Rattle.hole_matching.specs.Matched.{matched, nothing_taken}
 use Rattle.hole_matching.specs.Matching.{Taking, Binding, Stands, IsBinding}

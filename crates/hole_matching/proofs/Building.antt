@@ -20,8 +20,9 @@ use Rattle.c_tree.specs.Syntax.{Syntax, Primary, Operation, Specifier, Declarato
 use Rattle.c_typing.specs.Options.{◌>?◌}
 use Rattle.c_typing.specs.Arithmetic as kind
 use Rattle.c_typing.specs.Types.{Arith, Pointer, Struct, Union, int}
-use Rattle.hole_matching.specs.Holes.{Setting, AnyExpr, AnyScalar, AnyPointer, AnyArguments, AnyFnCall, Named, Basic, Tag}
-use Rattle.hole_matching.specs.Holes as holes
+use Rattle.metal_machines.specs.Machine.{AnyExpr, AnyScalar, AnyPointer, AnyArguments, AnyFnCall, Named, Basic, Tag}
+use Rattle.hole_matching.specs.Holes.{Setting}
+use Rattle.metal_machines.specs.Machine as holes
 use Rattle.hole_matching.specs.Matched.{matched, nothing_taken}
 use Rattle.hole_matching.specs.Matching.{Taken, Binding, slot}
 use Rattle.hole_matching.specs.Subjects.{Subject, Tree}

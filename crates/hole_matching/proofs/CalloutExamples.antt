@@ -7,8 +7,9 @@ use Rattle.c_tree.specs.declared.operator.AssignOp.TheVariants as assign
 use Rattle.c_tree.specs.declared.token.TokenKind.TheVariants as kinds
 use Rattle.c_tree.specs.Node.{Node, Primary, StrConst}
 use Rattle.c_typing.specs.Options.{◌>?◌}
-use Rattle.hole_matching.specs.Alternatives.{Item, Base, Holds, EndOfPath, matched_alternative, bound_object}
-use Rattle.hole_matching.specs.Callouts.{Condition, holds}
+use Rattle.metal_machines.specs.Machine.{Item, Base, Holds, EndOfPath, Condition}
+use Rattle.hole_matching.specs.Alternatives.{matched_alternative, bound_object}
+use Rattle.hole_matching.specs.Callouts.{holds}
 use Rattle.hole_matching.specs.Matching.{One, Many}
 use Rattle.hole_matching.specs.Subjects.{Subject, Tree, DerefOf}
 use Rattle.hole_matching.proofs.Building.{setting, hole, named, calling, starred, assigning, call_of, assigned, initialized, braces}

@@ -7,6 +7,7 @@ pub mod CodeFacts
 pub mod Copies
 pub mod Heads
 pub mod Levels
+pub mod MachineExamples
 pub mod MatchExamples
 pub mod MessageExamples
 pub mod Standing

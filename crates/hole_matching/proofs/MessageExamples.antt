@@ -9,9 +9,10 @@ use Rattle.c_tree.specs.declared.token.TokenKind.{TokenKind}
 use Rattle.c_tree.specs.declared.token.TokenKind.TheVariants as kinds
 use Rattle.c_tree.specs.declared.punctuator.Punctuator.TheVariants as marks
 use Rattle.c_tree.specs.declared.token.Mark.TheVariants as marked
-use Rattle.c_tree.specs.Node.{Node, node, Primary, Operation, Ident, Paren, Arrow}
+use Rattle.c_tree.specs.Node.{Node, node, Primary, Operation, Initializer, Declarator, Ident, Paren, Arrow, Init, Named, no_more}
 use Rattle.hole_matching.specs.Matching.{One, Many}
-use Rattle.hole_matching.specs.Message.{Bytes, HoleText, Source, message, shortened}
+use Rattle.metal_machines.specs.Machine.{Bytes, HoleText}
+use Rattle.hole_matching.specs.Message.{Source, message, shortened}
 use Rattle.hole_matching.specs.Subjects.{Tree, DerefOf}
 use Rattle.hole_matching.proofs.Building.{setting}
 
@@ -75,3 +76,18 @@ cut = refl
 
 literal_bytes : message setting source (Bytes (replicate 201 97) ∷ []) [] None ≡ replicate 201 97
 literal_bytes = refl
+
+-- the tokens of an initialized name are those of its line: over `* q = p;`, whose spelling 17 is `=`
+abbrev initialized_source : Source
+initialized_source = record {
+  names = source.names ++ (codes "=" ∷ []);
+  tokens =
+      at (kinds.Punct marks.Star) 16 0 ∷ plain 5 1 ∷ at (kinds.Punct marks.Assign) 17 2 ∷ plain 0 3 ∷ at (kinds.Punct marks.Semicolon) 15 4 ∷ [];
+}
+
+abbrev initialized : Node
+initialized =
+    node 99 (here 0) (Initializer (Init (node 5 (here 1) (Primary (Ident (plain 5 1)))) (node 98 (here 0) (Declarator (Named (at (kinds.Punct marks.Star) 16 0 ∷ []) (plain 5 1) no_more))) (node 0 (here 3) (Primary (Ident (plain 0 3))))))
+
+by_initialized : message setting initialized_source (HoleText 1 ∷ []) (None ∷ Some (One (Tree initialized)) ∷ []) None ≡ codes "* q = p"
+by_initialized = refl

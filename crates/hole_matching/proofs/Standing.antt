@@ -4,7 +4,9 @@ use Rattle.std.specs.Prelude.{slice_get}
 use Rattle.c_objects.specs.Facts.{Facts}
 use Rattle.c_typing.specs.Options.{if_there, ◌>?◌}
 use Rattle.c_typing.specs.Types.{CType}
-use Rattle.hole_matching.specs.Holes.{HoleType, AnyExpr, AnyScalar, AnyPointer, AnyArguments, AnyFnCall, Named, Setting, most_holes, has_slot, takes_type, is_rest_type, is_variable, may_take, takes_rest}
+use Rattle.metal_machines.specs.Machine.{HoleType, AnyExpr, AnyScalar, AnyPointer, AnyArguments, AnyFnCall, Named}
+use Rattle.metal_machines.specs.Limits.{most_holes}
+use Rattle.hole_matching.specs.Holes.{Setting, has_slot, takes_type, is_rest_type, is_variable, may_take, takes_rest}
 use Rattle.hole_matching.specs.Matched.{bound, rest_hole, is_head, matched, matched_all}
 use Rattle.hole_matching.specs.Matching.{Taken, One, Many, Taking, taking, Binding, TakesRest, Stands, StandAll}
 use Rattle.hole_matching.specs.Pattern.{Head, Pattern, hole, likewise, other, Patterns, no_more, more}

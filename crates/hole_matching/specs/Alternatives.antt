@@ -1,20 +1,14 @@
 -- Alternatives of a rule: base patterns that are matched with one subject and one joint binding, and callouts on it.
 use Rattle.std.specs.Prelude.{◌≡◌, ℕ, List, [], ◌∷◌, ◌++◌, true, Bool, cond, ◌&&◌, Option, None, Some}
 use Rattle.c_objects.specs.Objects.{Object}
-use Rattle.c_tree.specs.Syntax.{Syntax}
 use Rattle.c_typing.specs.Options.{◌>?◌}
-use Rattle.hole_matching.specs.Callouts.{Condition, holds}
+use Rattle.metal_machines.specs.Machine.{Item, Base, Holds, EndOfPath}
+use Rattle.hole_matching.specs.Callouts.{holds}
 use Rattle.hole_matching.specs.Holes.{Setting}
 use Rattle.hole_matching.specs.Matched.{matched, nothing_taken}
 use Rattle.hole_matching.specs.Matching.{Taking, Taken, One, Many, Binding, slot, Stands, IsBinding}
 use Rattle.hole_matching.specs.Subjects.{Subject, subject_object}
 use Rattle.hole_matching.specs.Written.{pattern_of}
-
--- A base pattern, a callout, or `$end_of_path$`, which asks nothing of a subject.
-pub data Item : Type 0 where
-  Base : Syntax → Item
-  Holds : Condition → Item
-  EndOfPath : Item
 
 -- all base patterns stand over the subject; what their holes take, in the order of the text
 abbrev pub BasesStand : Setting → List Item → Subject → List Taking → Type 0

@@ -1,5 +1,6 @@
 -- Callouts (Metal: conditions in `${ }`): what they ask of a binding.
 use Rattle.std.specs.Prelude.{ℕ, nat_eq, List, [], ◌∷◌, get_or, Bool, true, false, cond, not, ◌&&◌, Option, None, Some, is_none}
+use Rattle.metal_machines.specs.Machine.{Condition}
 use Rattle.c_objects.specs.Facts.{Facts, numbered_type, numbered_var}
 use Rattle.c_objects.specs.Objects.{is_static_var}
 use Rattle.c_tree.specs.Node.{Node, node, Primary, Operation, PrimaryShape, OperationShape, Ident, Constant, StrConst, Paren, Cast}
@@ -9,14 +10,6 @@ use Rattle.c_typing.specs.Vars.{CVar, Param, Local}
 use Rattle.hole_matching.specs.Holes.{Setting}
 use Rattle.hole_matching.specs.Matching.{Taken, One, Many, Binding, slot}
 use Rattle.hole_matching.specs.Subjects.{Subject, Tree, DerefOf, subject_object}
-
--- A callout. The rows are `mc_is_const`, `mc_is_global`, `mc_is_param`, `mc_is_local`, `mc_name_is`, `mc_in_function`, `0` and
--- `1`, from 0 on. The hole is 0 where the row has none. The text is the number of a name, 0 where the row has none.
-pub record Condition : Type 0 where
-  pub negated : Bool
-  pub row : ℕ
-  pub hole : ℕ
-  pub text : ℕ
 
 -- a name without a variable whose type is arithmetic is an enumerator; a function has the type of one
 abbrev pub is_enumerator : Facts → ℕ → Bool

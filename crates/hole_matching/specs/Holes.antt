@@ -1,28 +1,14 @@
--- Holes: their types, and which subjects they take.
+-- Holes: which subjects they take.
+use Rattle.metal_machines.specs.Machine.{NamedType, Basic, Tag, Pointer, HoleType, AnyExpr, AnyScalar, AnyPointer, AnyArguments, AnyFnCall, Named}
+use Rattle.metal_machines.specs.Limits.{most_holes}
 use Rattle.std.specs.Prelude.{ℕ, nat_lt, List, slice_get, Bool, true, false, not, ◌&&◌, ◌||◌, Some, is_some}
 use Rattle.c_objects.specs.Facts.{Facts}
-use Rattle.c_tree.specs.declared.keyword.Keyword.{Keyword}
-use Rattle.c_tree.specs.declared.operator.StructOrUnion.{StructOrUnion}
 use Rattle.c_typing.specs.Options.{if_there}
 use Rattle.c_typing.specs.Types.{CType}
 use Rattle.c_typing.specs.Types as types
 use Rattle.hole_matching.specs.MatchedTypes.{MatchedType, Tagged, matched_type, basic, same_type}
 use Rattle.hole_matching.specs.MatchedTypes as matched
 use Rattle.hole_matching.specs.Subjects.{Subject, is_expression, subject_type, subject_object}
-
--- a type of C that a hole may have: the words of a basic type, a tag, or a pointer
-pub data NamedType : Type 0 where
-  Basic : List Keyword → NamedType
-  Tag : StructOrUnion → ℕ → NamedType
-  Pointer : NamedType → NamedType
-
-pub data HoleType : Type 0 where
-  AnyExpr : HoleType
-  AnyScalar : HoleType
-  AnyPointer : HoleType
-  AnyArguments : HoleType
-  AnyFnCall : HoleType
-  Named : NamedType → HoleType
 
 abbrev pub named_type : NamedType → MatchedType
 named_type (Basic words) = basic words
@@ -37,9 +23,6 @@ pub record Setting : Type 0 where
   pub variables : ℕ
   pub holes : List HoleType
   pub function : ℕ
-
-abbrev pub most_holes : ℕ
-most_holes = 16
 
 abbrev pub is_scalar : CType → Bool
 is_scalar (types.Arith k) = true

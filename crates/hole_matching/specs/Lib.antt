@@ -9,6 +9,7 @@ pub mod Matching
 pub mod Matched
 pub mod Callouts
 pub mod Alternatives
+pub mod MachineMatches
 pub mod Message
 pub mod Plain
 pub mod Theorems

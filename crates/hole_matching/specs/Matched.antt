@@ -3,7 +3,8 @@ use Rattle.std.specs.Prelude.{ℕ, zero, suc, List, [], ◌∷◌, replicate, Bo
 use Rattle.c_objects.specs.Facts.{Facts}
 use Rattle.c_typing.specs.Options.{if_there, ◌>?◌}
 use Rattle.hole_matching.specs.ComparedSubjects.{compared, compared_all}
-use Rattle.hole_matching.specs.Holes.{Setting, most_holes, may_take, takes_rest}
+use Rattle.metal_machines.specs.Limits.{most_holes}
+use Rattle.hole_matching.specs.Holes.{Setting, may_take, takes_rest}
 use Rattle.hole_matching.specs.Matching.{Taken, One, Many, Binding, slot}
 use Rattle.hole_matching.specs.Pattern.{Head, Pattern, hole, likewise, other, Patterns, no_more, more, same_head, same_pattern, same_patterns}
 use Rattle.hole_matching.specs.Subjects.{Subject, inner, head_of, parts_of}

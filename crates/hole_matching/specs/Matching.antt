@@ -2,7 +2,8 @@
 use Rattle.std.specs.Prelude.{◌≡◌, ◌⊎◌, ℕ, zero, suc, nat_eq, List, [], ◌∷◌, ◌++◌, length, true, cond, Option, None, Some}
 use Rattle.c_objects.specs.Facts.{Facts}
 use Rattle.hole_matching.specs.ComparedSubjects.{compared, compared_all}
-use Rattle.hole_matching.specs.Holes.{Setting, most_holes, may_take, takes_rest}
+use Rattle.metal_machines.specs.Limits.{most_holes}
+use Rattle.hole_matching.specs.Holes.{Setting, may_take, takes_rest}
 use Rattle.hole_matching.specs.Pattern.{Pattern, hole, likewise, other, Patterns, no_more, more}
 use Rattle.hole_matching.specs.Subjects.{Subject, inner, head_of, parts_of}
 

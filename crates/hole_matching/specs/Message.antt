@@ -1,5 +1,6 @@
 -- The text of a message (Metal: the action `err`).
 use Rattle.std.specs.Prelude.{ℕ, nat_eq, nat_le, List, [], ◌∷◌, ◌++◌, length, take, map, flat_map, Bool, cond, ◌&&◌, Option, codes}
+use Rattle.metal_machines.specs.Machine.{Piece, Bytes, HoleText}
 use Rattle.c_objects.specs.Objects.{Object}
 use Rattle.c_objects.specs.Text.{text_of, object_text}
 use Rattle.c_tree.specs.declared.place.Place.{Place}
@@ -11,11 +12,6 @@ use Rattle.c_typing.specs.Options.{if_there}
 use Rattle.hole_matching.specs.Holes.{Setting, is_variable}
 use Rattle.hole_matching.specs.Matching.{Taken, One, Many, Binding, slot}
 use Rattle.hole_matching.specs.Subjects.{Subject, Tree, DerefOf}
-
--- bytes as they stand, or the text of what a hole took
-pub data Piece : Type 0 where
-  Bytes : List ℕ → Piece
-  HoleText : ℕ → Piece
 
 -- What messages are written from: the texts of names by their numbers, and the tokens of the unit.
 pub record Source : Type 0 where

@@ -4,7 +4,8 @@ use Rattle.c_objects.specs.Facts.{Facts}
 use Rattle.tree_equality.specs.Compared as forms
 use Rattle.c_tree.specs.Forget.{syntax_of}
 use Rattle.c_tree.specs.Node.{Node}
-use Rattle.hole_matching.specs.Alternatives.{Item, Matches, matched_alternative}
+use Rattle.metal_machines.specs.Machine.{Item}
+use Rattle.hole_matching.specs.Alternatives.{Matches, matched_alternative}
 use Rattle.hole_matching.specs.ComparedSubjects.{compared, compared_all, with_parts}
 use Rattle.hole_matching.specs.Holes.{Setting}
 use Rattle.hole_matching.specs.Matched.{matched, nothing_taken}

@@ -5,7 +5,7 @@ use Rattle.c_tree.specs.Symbol.{Symbol, Word, Sign}
 use Rattle.c_tree.specs.Phrase.{phrase_then, sign}
 use Rattle.c_grammar.specs.Symbols.{is_sign, begins}
 use Rattle.c_grammar.proofs.Options.{both, same}
-use Rattle.metal_grammar.specs.Words.{Spelling, is_spelled}
+use Rattle.metal_grammar.specs.Words.{Spelling, spelled, is_spelled}
 use Rattle.metal_grammar.specs.Written.{Row, lone, row, WrittenType, KindOfHole, BasicType, TagType, Declaration, StateName, OfMachine, OfVariable, Content, Nothing, Declares, Rules, Clause}
 use Rattle.metal_grammar.specs.Phrases.{word, row_phrase, maybe_phrase, sign_if, type_phrase, declaration_phrase, state_phrase, rule_phrase, content_phrase, head_phrase, clause_tokens}
 use Rattle.metal_grammar.specs.Holes.{hole_type}
@@ -53,7 +53,7 @@ declaration_by : (spelling : Spelling) (state : Option ℕ) (d : Declaration) (r
     → d.state ≡ state → spelled_if spelling (codes "state") state ≡ true → is_spelled spelling (codes "decl") d.decl ≡ true → is_type d.type ≡ true
     → read_declaration spelling (phrase_then (maybe_phrase word state) (Word d.decl ∷ phrase_then (type_phrase d.type) (phrase_then (row_phrase (sign marks.Comma) word d.names) (Sign marks.Semicolon ∷ r)))) ≡ Some (d, r)
 declaration_by spelling None d r s h w t =
-    rw (decl_no_state (spelling d.decl) w, sym s) (declared-complete d r t)
+    rw (decl_no_state (spelled spelling d.decl) w, sym s) (declared-complete d r t)
 declaration_by spelling (Some name) d r s h w t =
     rw (h, sym s) (declared-complete d r t)
 

@@ -14,9 +14,7 @@ use Rattle.c_grammar.specs.DeclaratorSteps.{read_params, read_suffixes}
 use Rattle.c_grammar.specs.ExpressionSteps.{read_path, read_more_arguments, read_postfix_operators, read_chain, read_binary}
 use Rattle.c_grammar.specs.Reading.{read}
 use Rattle.metal_grammar.specs.Steps.{read_row, read_identifiers}
-use Rattle.metal_grammar.specs.Holes.{AnyExpr, AnyPointer, AnyArguments, AnyFnCall, Named, Basic, Tag, Pointer}
-use Rattle.metal_grammar.specs.Message.{Bytes, HoleText}
-use Rattle.metal_grammar.specs.Machine.{FromGlobal, FromObject, ToGlobal, ToObject, ToUnknown, Always, ByTruth, Base, Holds, EndOfPath}
+use Rattle.metal_machines.specs.Machine.{AnyExpr, AnyPointer, AnyArguments, AnyFnCall, Named, Basic, Tag, Pointer, Bytes, HoleText, FromGlobal, FromObject, ToGlobal, ToObject, ToUnknown, Always, ByTruth, Base, Holds, EndOfPath}
 use Rattle.metal_grammar.specs.Reading.{Accepted, read_machine}
 use Rattle.metal_grammar.proofs.Vocabulary.{spelling, a, any_arguments, any_expr, any_fn_call, any_pointer, b, bar, begun, both, brace, bracket, c, c_int, c_struct, cli, colon, comma, d, decl, digits_0, digits_1, dollar, dot, either, end_brace, end_bracket, end_of_path, end_paren, equals, err, f, false_word, free_checker, freed, g, irq, kfree, l, lock, lock_checker, locked, m, mc_identifier, mc_in_function, mc_is_const, mc_is_local, mc_name_is, negation, off, paren, s, semicolon, sm, star, start, state, sti, stop, text_10, text_11, text_12, text_13, text_14, text_15, text_2, text_7, text_8, text_9, to, true_word, trylock, unlock, v, x, y}
 
@@ -40,9 +38,9 @@ free_checker_machine : read_machine spelling (sm ∷ free_checker ∷ brace ∷ 
   globals = [];
   states = (46 ∷ []) ∷ [];
   rules =
-      (record { number = 1; source = FromGlobal 0; alternatives = (Base (Operation (Call (ident kfree) (more (Primary (Hole 0)) no_more))) ∷ []) ∷ []; dest = Always (ToObject 0 0); action = None })
-      ∷ (record { number = 2; source = FromObject 0 0; alternatives = (Base (Operation (Unary unary.Deref (Primary (Hole 0)))) ∷ []) ∷ []; dest = Always (ToUnknown 0); action = Some (Bytes (codes "using ") ∷ HoleText 0 ∷ Bytes (codes " after free!") ∷ []) })
-      ∷ (record { number = 3; source = FromObject 0 0; alternatives = (Base (Operation (Call (ident kfree) (more (Primary (Hole 0)) no_more))) ∷ []) ∷ []; dest = Always (ToUnknown 0); action = Some (Bytes (codes "double free of ") ∷ HoleText 0 ∷ Bytes (codes "!") ∷ []) })
+      (record { number = 1; position = 10; source = FromGlobal 0; alternatives = (Base (Operation (Call (ident kfree) (more (Primary (Hole 0)) no_more))) ∷ []) ∷ []; dest = Always (ToObject 0 0); action = None })
+      ∷ (record { number = 2; position = 25; source = FromObject 0 0; alternatives = (Base (Operation (Unary unary.Deref (Primary (Hole 0)))) ∷ []) ∷ []; dest = Always (ToUnknown 0); action = Some (Bytes (codes "using ") ∷ HoleText 0 ∷ Bytes (codes " after free!") ∷ []) })
+      ∷ (record { number = 3; position = 47; source = FromObject 0 0; alternatives = (Base (Operation (Call (ident kfree) (more (Primary (Hole 0)) no_more))) ∷ []) ∷ []; dest = Always (ToUnknown 0); action = Some (Bytes (codes "double free of ") ∷ HoleText 0 ∷ Bytes (codes "!") ∷ []) })
       ∷ [];
 })
 unfolding read_row read_identifiers read read_binary read_chain read_postfix_operators read_more_arguments read_path read_items read_suffixes read_params run_of after_run is_type type_words other_types storages inlines occurrences as_often is_among
@@ -64,12 +62,12 @@ lock_checker_machine : read_machine spelling (sm ∷ lock_checker ∷ brace ∷ 
   globals = [];
   states = (52 ∷ []) ∷ [];
   rules =
-      (record { number = 1; source = FromGlobal 0; alternatives = (Base (Operation (Call (ident trylock) (more (Primary (Hole 0)) no_more))) ∷ []) ∷ []; dest = ByTruth (ToObject 0 0) (ToUnknown 0); action = None })
-      ∷ (record { number = 2; source = FromGlobal 0; alternatives = (Base (Operation (Call (ident lock) (more (Primary (Hole 0)) no_more))) ∷ []) ∷ []; dest = Always (ToObject 0 0); action = None })
-      ∷ (record { number = 3; source = FromGlobal 0; alternatives = (Base (Operation (Call (ident unlock) (more (Primary (Hole 0)) no_more))) ∷ []) ∷ []; dest = Always (ToUnknown 0); action = Some (Bytes (codes "releasing unacquired lock ") ∷ HoleText 0 ∷ Bytes (codes "!") ∷ []) })
-      ∷ (record { number = 4; source = FromObject 0 0; alternatives = (Base (Operation (Call (ident lock) (more (Primary (Hole 0)) no_more))) ∷ []) ∷ []; dest = Always (ToUnknown 0); action = Some (Bytes (codes "double acquire of ") ∷ HoleText 0 ∷ Bytes (codes "!") ∷ []) })
-      ∷ (record { number = 5; source = FromObject 0 0; alternatives = (Base (Operation (Call (ident unlock) (more (Primary (Hole 0)) no_more))) ∷ []) ∷ []; dest = Always (ToUnknown 0); action = None })
-      ∷ (record { number = 6; source = FromObject 0 0; alternatives = (EndOfPath ∷ []) ∷ []; dest = Always (ToUnknown 0); action = Some (Bytes (codes "lock ") ∷ HoleText 0 ∷ Bytes (codes " not released!") ∷ []) })
+      (record { number = 1; position = 10; source = FromGlobal 0; alternatives = (Base (Operation (Call (ident trylock) (more (Primary (Hole 0)) no_more))) ∷ []) ∷ []; dest = ByTruth (ToObject 0 0) (ToUnknown 0); action = None })
+      ∷ (record { number = 2; position = 29; source = FromGlobal 0; alternatives = (Base (Operation (Call (ident lock) (more (Primary (Hole 0)) no_more))) ∷ []) ∷ []; dest = Always (ToObject 0 0); action = None })
+      ∷ (record { number = 3; position = 40; source = FromGlobal 0; alternatives = (Base (Operation (Call (ident unlock) (more (Primary (Hole 0)) no_more))) ∷ []) ∷ []; dest = Always (ToUnknown 0); action = Some (Bytes (codes "releasing unacquired lock ") ∷ HoleText 0 ∷ Bytes (codes "!") ∷ []) })
+      ∷ (record { number = 4; position = 68; source = FromObject 0 0; alternatives = (Base (Operation (Call (ident lock) (more (Primary (Hole 0)) no_more))) ∷ []) ∷ []; dest = Always (ToUnknown 0); action = Some (Bytes (codes "double acquire of ") ∷ HoleText 0 ∷ Bytes (codes "!") ∷ []) })
+      ∷ (record { number = 5; position = 92; source = FromObject 0 0; alternatives = (Base (Operation (Call (ident unlock) (more (Primary (Hole 0)) no_more))) ∷ []) ∷ []; dest = Always (ToUnknown 0); action = None })
+      ∷ (record { number = 6; position = 103; source = FromObject 0 0; alternatives = (EndOfPath ∷ []) ∷ []; dest = Always (ToUnknown 0); action = Some (Bytes (codes "lock ") ∷ HoleText 0 ∷ Bytes (codes " not released!") ∷ []) })
       ∷ [];
 })
 unfolding read_row read_identifiers read read_binary read_chain read_postfix_operators read_more_arguments read_path read_items read_suffixes read_params run_of after_run is_type type_words other_types storages inlines occurrences as_often is_among
@@ -84,9 +82,9 @@ states_of_machine : read_machine spelling (sm ∷ irq ∷ brace ∷ start ∷ co
   globals = 60 ∷ [];
   states = [];
   rules =
-      (record { number = 1; source = FromGlobal 0; alternatives = (Base (Operation (Call (ident cli) no_more)) ∷ []) ∷ []; dest = Always (ToGlobal 2); action = None })
-      ∷ (record { number = 2; source = FromGlobal 2; alternatives = (Base (Operation (Call (ident sti) no_more)) ∷ []) ∷ []; dest = Always (ToGlobal 0); action = None })
-      ∷ (record { number = 3; source = FromGlobal 2; alternatives = (EndOfPath ∷ []) ∷ []; dest = Always (ToGlobal 1); action = Some (Bytes (codes "interrupts left off") ∷ []) })
+      (record { number = 1; position = 5; source = FromGlobal 0; alternatives = (Base (Operation (Call (ident cli) no_more)) ∷ []) ∷ []; dest = Always (ToGlobal 2); action = None })
+      ∷ (record { number = 2; position = 15; source = FromGlobal 2; alternatives = (Base (Operation (Call (ident sti) no_more)) ∷ []) ∷ []; dest = Always (ToGlobal 0); action = None })
+      ∷ (record { number = 3; position = 23; source = FromGlobal 2; alternatives = (EndOfPath ∷ []) ∷ []; dest = Always (ToGlobal 1); action = Some (Bytes (codes "interrupts left off") ∷ []) })
       ∷ [];
 })
 unfolding read_row read_identifiers read read_binary read_chain read_postfix_operators read_more_arguments read_path read_items read_suffixes read_params run_of after_run is_type type_words other_types storages inlines occurrences as_often is_among
@@ -101,8 +99,8 @@ order_of_holes : read_machine spelling (sm ∷ m ∷ brace ∷ decl ∷ any_expr
   globals = [];
   states = (10 ∷ 11 ∷ []) ∷ [];
   rules =
-      (record { number = 1; source = FromGlobal 0; alternatives = (Base (Operation (Call (Primary (Hole 3)) (more (Primary (Hole 1)) (more (Primary (Paren (Primary (Hole 2)))) no_more)))) ∷ Base (Operation (Index (Primary (Hole 0)) (Primary (Hole 4)))) ∷ []) ∷ []; dest = Always (ToObject 0 0); action = None })
-      ∷ (record { number = 2; source = FromObject 0 1; alternatives = (Base (Operation (Call (ident f) (more (Operation (Cast int_pointer (Primary (Hole 0)))) no_more))) ∷ []) ∷ []; dest = Always (ToObject 0 0); action = None })
+      (record { number = 1; position = 28; source = FromGlobal 0; alternatives = (Base (Operation (Call (Primary (Hole 3)) (more (Primary (Hole 1)) (more (Primary (Paren (Primary (Hole 2)))) no_more)))) ∷ Base (Operation (Index (Primary (Hole 0)) (Primary (Hole 4)))) ∷ []) ∷ []; dest = Always (ToObject 0 0); action = None })
+      ∷ (record { number = 2; position = 54; source = FromObject 0 1; alternatives = (Base (Operation (Call (ident f) (more (Operation (Cast int_pointer (Primary (Hole 0)))) no_more))) ∷ []) ∷ []; dest = Always (ToObject 0 0); action = None })
       ∷ [];
 })
 unfolding read_row read_identifiers read read_binary read_chain read_postfix_operators read_more_arguments read_path read_items read_suffixes read_params run_of after_run is_type type_words other_types storages inlines occurrences as_often is_among
@@ -116,7 +114,7 @@ callouts : read_machine spelling (sm ∷ m ∷ brace ∷ state ∷ decl ∷ any_
   globals = [];
   states = (8 ∷ []) ∷ [];
   rules =
-      (record { number = 1; source = FromGlobal 0; alternatives = (Base (Operation (Call (ident f) (more (Primary (Hole 0)) no_more))) ∷ Holds (record { negated = true; row = 0; hole = 0; text = [] }) ∷ Holds (record { negated = false; row = 4; hole = 0; text = codes "a" }) ∷ []) ∷ (Holds (record { negated = false; row = 5; hole = 0; text = codes "b" }) ∷ Base (Primary (Hole 0)) ∷ Holds (record { negated = false; row = 6; hole = 0; text = [] }) ∷ Holds (record { negated = true; row = 7; hole = 0; text = [] }) ∷ []) ∷ []; dest = Always (ToObject 0 0); action = None })
+      (record { number = 1; position = 10; source = FromGlobal 0; alternatives = (Base (Operation (Call (ident f) (more (Primary (Hole 0)) no_more))) ∷ Holds (record { negated = true; row = 0; hole = 0; text = 0 }) ∷ Holds (record { negated = false; row = 4; hole = 0; text = 8 }) ∷ []) ∷ (Holds (record { negated = false; row = 5; hole = 0; text = 9 }) ∷ Base (Primary (Hole 0)) ∷ Holds (record { negated = false; row = 6; hole = 0; text = 0 }) ∷ Holds (record { negated = true; row = 7; hole = 0; text = 0 }) ∷ []) ∷ []; dest = Always (ToObject 0 0); action = None })
       ∷ [];
 })
 unfolding read_row read_identifiers read read_binary read_chain read_postfix_operators read_more_arguments read_path read_items read_suffixes read_params run_of after_run is_type type_words other_types storages inlines occurrences as_often is_among
@@ -131,7 +129,7 @@ excused_at_end : read_machine spelling (begun ++ v ∷ dot ∷ a ∷ colon ∷ b
   globals = [];
   states = (8 ∷ []) ∷ [] ∷ [];
   rules =
-      (record { number = 1; source = FromObject 0 0; alternatives = (Base (Operation (Call (ident f) (more (Primary (Hole 0)) no_more))) ∷ Holds (record { negated = false; row = 3; hole = 0; text = [] }) ∷ []) ∷ (EndOfPath ∷ []) ∷ []; dest = Always (ToUnknown 0); action = None })
+      (record { number = 1; position = 18; source = FromObject 0 0; alternatives = (Base (Operation (Call (ident f) (more (Primary (Hole 0)) no_more))) ∷ Holds (record { negated = false; row = 3; hole = 0; text = 0 }) ∷ []) ∷ (EndOfPath ∷ []) ∷ []; dest = Always (ToUnknown 0); action = None })
       ∷ [];
 })
 unfolding read_row read_identifiers read read_binary read_chain read_postfix_operators read_more_arguments read_path read_items read_suffixes read_params run_of after_run is_type type_words other_types storages inlines occurrences as_often is_among
@@ -146,9 +144,9 @@ without_pattern : read_machine spelling (sm ∷ m ∷ brace ∷ start ∷ colon 
   globals = 22 ∷ 5 ∷ [];
   states = [];
   rules =
-      (record { number = 1; source = FromGlobal 0; alternatives = (Holds (record { negated = false; row = 7; hole = 0; text = [] }) ∷ []) ∷ []; dest = Always (ToGlobal 2); action = None })
-      ∷ (record { number = 2; source = FromGlobal 2; alternatives = (EndOfPath ∷ EndOfPath ∷ []) ∷ []; dest = Always (ToGlobal 3); action = None })
-      ∷ (record { number = 3; source = FromGlobal 3; alternatives = (Base (Operation (Call (ident f) no_more)) ∷ []) ∷ []; dest = Always (ToGlobal 1); action = None })
+      (record { number = 1; position = 5; source = FromGlobal 0; alternatives = (Holds (record { negated = false; row = 7; hole = 0; text = 0 }) ∷ []) ∷ []; dest = Always (ToGlobal 2); action = None })
+      ∷ (record { number = 2; position = 14; source = FromGlobal 2; alternatives = (EndOfPath ∷ EndOfPath ∷ []) ∷ []; dest = Always (ToGlobal 3); action = None })
+      ∷ (record { number = 3; position = 26; source = FromGlobal 3; alternatives = (Base (Operation (Call (ident f) no_more)) ∷ []) ∷ []; dest = Always (ToGlobal 1); action = None })
       ∷ [];
 })
 unfolding read_row read_identifiers read read_binary read_chain read_postfix_operators read_more_arguments read_path read_items read_suffixes read_params run_of after_run is_type type_words other_types storages inlines occurrences as_often is_among
@@ -163,7 +161,7 @@ message : read_machine spelling (begun ++ start ∷ colon ∷ brace ∷ f ∷ pa
   globals = [];
   states = (8 ∷ []) ∷ [] ∷ [];
   rules =
-      (record { number = 1; source = FromGlobal 0; alternatives = (Base (Operation (Call (ident f) (more (Primary (Hole 0)) no_more))) ∷ []) ∷ []; dest = Always (ToObject 0 0); action = Some (Bytes (codes "100% of ") ∷ HoleText 0 ∷ Bytes (codes ", \"") ∷ HoleText 0 ∷ Bytes (codes "\" \\") ∷ []) })
+      (record { number = 1; position = 16; source = FromGlobal 0; alternatives = (Base (Operation (Call (ident f) (more (Primary (Hole 0)) no_more))) ∷ []) ∷ []; dest = Always (ToObject 0 0); action = Some (Bytes (codes "100% of ") ∷ HoleText 0 ∷ Bytes (codes ", \"") ∷ HoleText 0 ∷ Bytes (codes "\" \\") ∷ []) })
       ∷ [];
 })
 unfolding read_row read_identifiers read read_binary read_chain read_postfix_operators read_more_arguments read_path read_items read_suffixes read_params run_of after_run is_type type_words other_types storages inlines occurrences as_often is_among

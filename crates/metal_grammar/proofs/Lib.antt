@@ -4,6 +4,7 @@ pub mod ExamplesOfSyntax
 pub mod ExamplesOfOrder
 pub mod ExamplesOfMachines
 pub mod ExamplesOfLimits
+pub mod ExamplesOfPatterns
 pub mod Carried
 pub mod SoundParts
 pub mod SoundRules

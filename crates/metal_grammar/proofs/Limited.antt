@@ -3,12 +3,13 @@ use Rattle.std.proofs.Common.{◌≡◌, ℕ, ◌+◌, ◌≤◌, Bool, true, fa
 use Rattle.metal_grammar.specs.Words.{Spelling}
 use Rattle.metal_grammar.specs.Written.{Row, lone, row, members, StateName, WrittenRule, Content, Nothing, Declares, Rules, Clause}
 use Rattle.metal_grammar.specs.Phrases.{state_phrase, rule_phrase}
-use Rattle.metal_grammar.specs.Holes.{HoleType, DeclaredHole, hole_type, holes_as}
+use Rattle.metal_machines.specs.Machine.{HoleType}
+use Rattle.metal_machines.specs.Limits.{most_variables, most_holes, most_rules, AreNumbered, IsLimited}
+use Rattle.metal_grammar.specs.Holes.{DeclaredHole, hole_type, holes_as}
 use Rattle.metal_grammar.specs.Rules.{size, behind_head, behind_clause, holes_of_content, holes_of, count_of_rules, PlacedRule, rules_from, rules_of_content, placed_rules, rules_of}
 use Rattle.metal_grammar.specs.Faults.{count_of_holes, count_of_variables, passing}
-use Rattle.metal_grammar.specs.FirstFault.{Counted, Variables, Holes, AllRules, Fault, or_else, too_many, most_variables, most_holes, most_rules, fault_of}
+use Rattle.metal_grammar.specs.FirstFault.{Counted, Variables, Holes, AllRules, Fault, or_else, too_many, fault_of}
 use Rattle.metal_grammar.specs.Meaning.{in_order, Numbering, rule_of, numbering_of, machine_of}
-use Rattle.metal_grammar.specs.Limits.{AreNumbered, IsLimited}
 use Rattle.metal_grammar.specs.Theorems.{MachinesAreLimited}
 
 -- how many a text has in all

@@ -1,17 +1,12 @@
 -- The words, strings and signs of the examples, and how the names are spelled.
-use Rattle.std.specs.Prelude.{ℕ, zero, suc, true, false, List, [], ◌∷◌, codes}
+use Rattle.std.specs.Prelude.{true, false, List, [], ◌∷◌, codes}
 use Rattle.c_tree.specs.declared.keyword.Keyword.TheVariants as words
 use Rattle.c_tree.specs.declared.punctuator.Punctuator.TheVariants as marks
 use Rattle.c_tree.specs.Symbol.{Symbol, Word, Reserved, Sign, IntLiteral, StringLiteral}
 use Rattle.metal_grammar.specs.Words.{Spelling}
 
-abbrev nth : List (List ℕ) → ℕ → List ℕ
-nth [] n = []
-nth (s ∷ ss) zero = s
-nth (s ∷ ss) (suc n) = nth ss n
-
-abbrev spellings : List (List ℕ)
-spellings =
+abbrev pub spelling : Spelling
+spelling =
     codes "sm"
     ∷ codes "m"
     ∷ codes "start"
@@ -82,9 +77,6 @@ spellings =
     ∷ codes "\"100%% of %\""
     ∷ codes "\"s, \\\"%s\\\" \\\\\""
     ∷ []
-
-abbrev pub spelling : Spelling
-spelling name = nth spellings name
 
 abbrev pub sm : Symbol
 sm = Word 0

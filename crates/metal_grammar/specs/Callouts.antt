@@ -1,7 +1,7 @@
 -- The table of callouts: which row a written callout is.
-use Rattle.std.specs.Prelude.{ℕ, cond, List, [], codes, Option, None, Some}
+use Rattle.std.specs.Prelude.{ℕ, cond, codes, Option, None, Some}
 use Rattle.c_tree.specs.Symbol.{Symbol, IntLiteral}
-use Rattle.metal_grammar.specs.Words.{Spelling, is_spelled, contents_of}
+use Rattle.metal_grammar.specs.Words.{Spelling, is_spelled, name_spelled, contents_of}
 use Rattle.metal_grammar.specs.Written.{Name, Text, WrittenCallout, Digit, Asked}
 
 -- the rows that ask of a hole alone
@@ -38,8 +38,8 @@ abbrev pub hole_asked : WrittenCallout → Option ℕ
 hole_asked (Asked name (Name hole) text) = Some hole
 hole_asked _ = None
 
--- the text that it asks of
-abbrev pub text_asked : Spelling → WrittenCallout → List ℕ
-text_asked spelling (Asked name (Name hole) (Some text)) = contents_of spelling text
-text_asked spelling (Asked name (Text text) other) = contents_of spelling text
-text_asked spelling _ = []
+-- The text that it asks of, as a name: the bytes between the quotes. It is 0 where the callout has none.
+abbrev pub text_asked : Spelling → WrittenCallout → ℕ
+text_asked spelling (Asked name (Name hole) (Some text)) = name_spelled spelling (contents_of spelling text)
+text_asked spelling (Asked name (Text text) other) = name_spelled spelling (contents_of spelling text)
+text_asked spelling _ = 0

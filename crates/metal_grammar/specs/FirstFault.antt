@@ -1,5 +1,6 @@
 -- The order of the faults.
 use Rattle.std.specs.Prelude.{ℕ, cond, List, [], ◌∷◌, map, Option, None, Some}
+use Rattle.metal_machines.specs.Limits.{most_variables, most_holes, most_rules}
 use Rattle.metal_grammar.specs.Words.{Spelling}
 use Rattle.metal_grammar.specs.Written.{Clause}
 use Rattle.metal_grammar.specs.Holes.{DeclaredHole}
@@ -27,15 +28,6 @@ pub data Fault : Type 0 where
 abbrev pub or_else : Option Fault → Option Fault → Option Fault
 or_else None later = later
 or_else (Some fault) later = Some fault
-
-abbrev pub most_variables : ℕ
-most_variables = 8
-
-abbrev pub most_holes : ℕ
-most_holes = 16
-
-abbrev pub most_rules : ℕ
-most_rules = 1000
 
 abbrev pub too_many : Counted → Option ℕ → Option Fault
 too_many which None = None

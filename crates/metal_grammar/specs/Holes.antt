@@ -1,26 +1,11 @@
--- Holes: their types, the names that a text declares as holes, and where in an expression each may stand.
+-- The types of holes as they are written, the names that a text declares as holes, and where in an expression each may stand.
 use Rattle.std.specs.Prelude.{ℕ, zero, suc, Bool, true, false, cond, nat_eq, ◌&&◌, List, [], ◌∷◌, map, Option, None, Some}
-use Rattle.c_tree.specs.declared.keyword.Keyword.{Keyword}
-use Rattle.c_tree.specs.declared.operator.StructOrUnion.{StructOrUnion}
 use Rattle.c_tree.specs.Symbol.{Symbol, Word}
-use Rattle.c_tree.specs.Syntax.{Syntax, Primary, Operation, Part, PrimarySyntax, OperationSyntax, Ident, Paren, VaArg, Offsetof, Index, Call, Member, Arrow, Unary, Cast, Binary, Cond, Assign, IndexDesignator, Syntaxes, no_more, more}
+use Rattle.c_tree.specs.Syntax.{Syntax, Primary, Operation, Initializer, Part, PrimarySyntax, OperationSyntax, InitializerSyntax, Ident, Paren, VaArg, Offsetof, Index, Call, Member, Arrow, CompoundLit, Unary, Cast, Binary, Cond, Assign, Braces, Designated, IndexDesignator, Syntaxes, no_more, more}
+use Rattle.metal_machines.specs.Machine.{NamedType, Basic, Tag, Pointer, HoleType, AnyExpr, AnyScalar, AnyPointer, AnyArguments, AnyFnCall, Named}
 use Rattle.metal_grammar.specs.Words.{Spelling, is_spelled}
 use Rattle.metal_grammar.specs.Written.{members, WrittenType, KindOfHole, BasicType, TagType, Declaration}
 use Rattle.std.specs.Prelude.{codes, is_some}
-
--- a type of C that a hole may have: the words of a basic type, a tag, or a pointer
-pub data NamedType : Type 0 where
-  Basic : List Keyword → NamedType
-  Tag : StructOrUnion → ℕ → NamedType
-  Pointer : NamedType → NamedType
-
-pub data HoleType : Type 0 where
-  AnyExpr : HoleType
-  AnyScalar : HoleType
-  AnyPointer : HoleType
-  AnyArguments : HoleType
-  AnyFnCall : HoleType
-  Named : NamedType → HoleType
 
 abbrev pub pointers : ℕ → NamedType → NamedType
 pointers zero t = t
@@ -83,6 +68,7 @@ abbrev mutual
   pub are_placed : List DeclaredHole → Position → Syntax → Bool
   are_placed holes position (Primary k) = are_placed_in_primary holes position k
   are_placed holes position (Operation k) = are_placed_in_operation holes k
+  are_placed holes position (Initializer k) = are_placed_in_initializer holes k
   are_placed holes position _ = true
 
   pub are_placed_in_primary : List DeclaredHole → Position → PrimarySyntax → Bool
@@ -97,12 +83,22 @@ abbrev mutual
   are_placed_in_operation holes (Call callee arguments) = are_placed holes Callee callee && are_placed_in_arguments holes arguments
   are_placed_in_operation holes (Member operand member) = are_placed holes Operand operand
   are_placed_in_operation holes (Arrow operand member) = are_placed holes Operand operand
+  are_placed_in_operation holes (CompoundLit of braces) = are_placed holes Operand braces
   are_placed_in_operation holes (Unary op operand) = are_placed holes Operand operand
   are_placed_in_operation holes (Cast to operand) = are_placed holes Operand operand
   are_placed_in_operation holes (Binary op left right) = are_placed holes Operand left && are_placed holes Operand right
   are_placed_in_operation holes (Cond condition then otherwise) = are_placed holes Operand condition && are_placed holes Operand then && are_placed holes Operand otherwise
   are_placed_in_operation holes (Assign op left right) = are_placed holes Operand left && are_placed holes Operand right
   are_placed_in_operation holes _ = true
+
+  pub are_placed_in_initializer : List DeclaredHole → InitializerSyntax → Bool
+  are_placed_in_initializer holes (Braces elements comma) = are_placed_in_elements holes elements
+  are_placed_in_initializer holes (Designated designators initial) = are_placed_in_path holes designators && are_placed holes Operand initial
+  are_placed_in_initializer holes _ = true
+
+  pub are_placed_in_elements : List DeclaredHole → Syntaxes → Bool
+  are_placed_in_elements holes no_more = true
+  are_placed_in_elements holes (more e es) = are_placed holes Operand e && are_placed_in_elements holes es
 
   pub are_placed_in_arguments : List DeclaredHole → Syntaxes → Bool
   are_placed_in_arguments holes no_more = true

@@ -6,7 +6,6 @@ pub mod Patterns
 pub mod Clauses
 pub mod Grammar
 pub mod Message
-pub mod Machine
 pub mod Rules
 pub mod Callouts
 pub mod Faults
@@ -15,5 +14,4 @@ pub mod Meaning
 pub mod Definition
 pub mod Steps
 pub mod Reading
-pub mod Limits
 pub mod Theorems

@@ -4,9 +4,9 @@ use Rattle.metal_grammar.specs.Words.{Spelling, is_spelled}
 use Rattle.metal_grammar.specs.Written.{members, StateName, OfMachine, OfVariable, WrittenCallout, WrittenItem, Pattern, Callout, Dollars, Destination, To, Split, WrittenAction, Clause}
 use Rattle.metal_grammar.specs.Holes.{DeclaredHole}
 use Rattle.metal_grammar.specs.Patterns.{with_holes}
-use Rattle.metal_grammar.specs.Message.{Piece, message_with}
+use Rattle.metal_machines.specs.Machine.{Piece, Hole, Source, FromGlobal, FromObject, Target, ToGlobal, ToObject, ToUnknown, Dest, Always, ByTruth, Condition, Item, Base, Holds, EndOfPath, Rule, Machine}
+use Rattle.metal_grammar.specs.Message.{message_with}
 use Rattle.metal_grammar.specs.Callouts.{row_of, hole_asked, text_asked}
-use Rattle.metal_grammar.specs.Machine.{Hole, Source, FromGlobal, FromObject, Target, ToGlobal, ToObject, ToUnknown, Dest, Always, ByTruth, Condition, Item, Base, Holds, EndOfPath, Rule, Machine}
 use Rattle.metal_grammar.specs.Rules.{holes_of, PlacedRule, rules_of, targets_of}
 use Rattle.metal_grammar.specs.Faults.{is_stop}
 
@@ -99,6 +99,7 @@ action_of n (Some a) = message_with n.spelling a (map (λ argument. number_in n.
 abbrev pub rule_of : Numbering → PlacedRule → Rule
 rule_of n r = record {
   number = r.number;
+  position = r.position;
   source = source_of n r.source;
   alternatives = map (λ items. map (item_of n) (members items)) (members r.rule.alternatives);
   dest = dest_of n r.rule.destination;

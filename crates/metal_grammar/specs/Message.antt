@@ -1,11 +1,8 @@
 -- The message of an action: literal bytes, and holes whose text stands in its place.
 use Rattle.std.specs.Prelude.{ℕ, Bool, true, false, cond, not, nat_eq, ◌&&◌, ◌||◌, List, [], ◌∷◌, flat_map, Option, None, Some, option_map}
+use Rattle.metal_machines.specs.Machine.{Piece, Bytes, HoleText}
 use Rattle.metal_grammar.specs.Words.{Spelling, contents_of}
 use Rattle.metal_grammar.specs.Written.{members, WrittenAction}
-
-pub data Piece : Type 0 where
-  Bytes : List ℕ → Piece
-  HoleText : ℕ → Piece
 
 abbrev pub push : ℕ → Option (List ℕ) → Option (List ℕ)
 push b bytes = option_map (λ bs. b ∷ bs) bytes

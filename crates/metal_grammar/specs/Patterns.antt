@@ -2,7 +2,7 @@
 use Rattle.std.specs.Prelude.{ℕ, Bool, true, false, ◌&&◌, List, [], ◌∷◌, ◌++◌, Option, None, Some}
 use Rattle.c_tree.specs.declared.punctuator.Punctuator.TheVariants as marks
 use Rattle.c_tree.specs.Symbol.{Symbol, Word, Reserved}
-use Rattle.c_tree.specs.Syntax.{Syntax, Primary, Operation, Specifier, Declarator, Part, PrimarySyntax, OperationSyntax, Ident, Paren, VaArg, Offsetof, Hole, Index, Call, Member, Arrow, Unary, SizeofType, Cast, Binary, Cond, Assign, TypeName, Specs, StructTag, Unnamed, SpecWord, IndexDesignator, MaybeSyntax, absent, present, Syntaxes, no_more, more}
+use Rattle.c_tree.specs.Syntax.{Syntax, Primary, Operation, Initializer, Specifier, Declarator, Part, PrimarySyntax, OperationSyntax, InitializerSyntax, Ident, Paren, VaArg, Offsetof, Hole, Index, Call, Member, Arrow, CompoundLit, Unary, SizeofType, Cast, Binary, Cond, Assign, Braces, Designated, TypeName, Specs, StructTag, Unnamed, SpecWord, IndexDesignator, MaybeSyntax, absent, present, Syntaxes, no_more, more}
 use Rattle.c_grammar.specs.Symbols.{is_sign}
 use Rattle.c_grammar.specs.Specifiers.{is_type_word}
 
@@ -20,6 +20,7 @@ abbrev mutual
   pub with_holes : (ℕ → Option ℕ) → Syntax → Syntax
   with_holes number (Primary k) = Primary (primary_with_holes number k)
   with_holes number (Operation k) = Operation (operation_with_holes number k)
+  with_holes number (Initializer k) = Initializer (initializer_with_holes number k)
   with_holes number e = e
 
   pub primary_with_holes : (ℕ → Option ℕ) → PrimarySyntax → PrimarySyntax
@@ -34,12 +35,18 @@ abbrev mutual
   operation_with_holes number (Call callee arguments) = Call (with_holes number callee) (all_with_holes number arguments)
   operation_with_holes number (Member operand member) = Member (with_holes number operand) member
   operation_with_holes number (Arrow operand member) = Arrow (with_holes number operand) member
+  operation_with_holes number (CompoundLit of braces) = CompoundLit of (with_holes number braces)
   operation_with_holes number (Unary op operand) = Unary op (with_holes number operand)
   operation_with_holes number (Cast to operand) = Cast to (with_holes number operand)
   operation_with_holes number (Binary op left right) = Binary op (with_holes number left) (with_holes number right)
   operation_with_holes number (Cond condition then otherwise) = Cond (with_holes number condition) (with_holes number then) (with_holes number otherwise)
   operation_with_holes number (Assign op left right) = Assign op (with_holes number left) (with_holes number right)
   operation_with_holes number k = k
+
+  pub initializer_with_holes : (ℕ → Option ℕ) → InitializerSyntax → InitializerSyntax
+  initializer_with_holes number (Braces elements comma) = Braces (all_with_holes number elements) comma
+  initializer_with_holes number (Designated designators initial) = Designated (path_with_holes number designators) (with_holes number initial)
+  initializer_with_holes number k = k
 
   pub all_with_holes : (ℕ → Option ℕ) → Syntaxes → Syntaxes
   all_with_holes number no_more = no_more
@@ -62,6 +69,7 @@ abbrev mutual
   pub names_in : Syntax → List ℕ
   names_in (Primary k) = names_in_primary k
   names_in (Operation k) = names_in_operation k
+  names_in (Initializer k) = names_in_initializer k
   names_in _ = []
 
   pub names_in_primary : PrimarySyntax → List ℕ
@@ -76,12 +84,18 @@ abbrev mutual
   names_in_operation (Call callee arguments) = names_in callee ++ names_in_all arguments
   names_in_operation (Member operand member) = names_in operand
   names_in_operation (Arrow operand member) = names_in operand
+  names_in_operation (CompoundLit of braces) = names_in braces
   names_in_operation (Unary op operand) = names_in operand
   names_in_operation (Cast to operand) = names_in operand
   names_in_operation (Binary op left right) = names_in left ++ names_in right
   names_in_operation (Cond condition then otherwise) = names_in condition ++ names_in then ++ names_in otherwise
   names_in_operation (Assign op left right) = names_in left ++ names_in right
   names_in_operation _ = []
+
+  pub names_in_initializer : InitializerSyntax → List ℕ
+  names_in_initializer (Braces elements comma) = names_in_all elements
+  names_in_initializer (Designated designators initial) = names_in_path designators ++ names_in initial
+  names_in_initializer _ = []
 
   pub names_in_all : Syntaxes → List ℕ
   names_in_all no_more = []
@@ -123,6 +137,7 @@ abbrev mutual
   pub has_plain_types : Syntax → Bool
   has_plain_types (Primary k) = primary_has_plain_types k
   has_plain_types (Operation k) = operation_has_plain_types k
+  has_plain_types (Initializer k) = initializer_has_plain_types k
   has_plain_types _ = true
 
   pub primary_has_plain_types : PrimarySyntax → Bool
@@ -136,13 +151,18 @@ abbrev mutual
   operation_has_plain_types (Call callee arguments) = has_plain_types callee && all_have_plain_types arguments
   operation_has_plain_types (Member operand member) = has_plain_types operand
   operation_has_plain_types (Arrow operand member) = has_plain_types operand
+  operation_has_plain_types (CompoundLit of braces) = is_plain_type of && has_plain_types braces
   operation_has_plain_types (Unary op operand) = has_plain_types operand
   operation_has_plain_types (SizeofType of) = is_plain_type of
   operation_has_plain_types (Cast to operand) = is_plain_type to && has_plain_types operand
   operation_has_plain_types (Binary op left right) = has_plain_types left && has_plain_types right
   operation_has_plain_types (Cond condition then otherwise) = has_plain_types condition && has_plain_types then && has_plain_types otherwise
   operation_has_plain_types (Assign op left right) = has_plain_types left && has_plain_types right
-  operation_has_plain_types _ = true
+
+  pub initializer_has_plain_types : InitializerSyntax → Bool
+  initializer_has_plain_types (Braces elements comma) = all_have_plain_types elements
+  initializer_has_plain_types (Designated designators initial) = path_has_plain_types designators && has_plain_types initial
+  initializer_has_plain_types _ = true
 
   pub all_have_plain_types : Syntaxes → Bool
   all_have_plain_types no_more = true

@@ -4,10 +4,10 @@ use Rattle.c_tree.specs.Symbol.{Symbol}
 use Rattle.metal_grammar.specs.Words.{Spelling}
 use Rattle.metal_grammar.specs.Written.{Clause}
 use Rattle.metal_grammar.specs.Grammar.{nothing_before, IsText, IsSyntaxFault, text_tokens, AreWellFormed}
-use Rattle.metal_grammar.specs.Machine.{Machine}
+use Rattle.metal_machines.specs.Machine.{Machine}
+use Rattle.metal_machines.specs.Limits.{IsLimited}
 use Rattle.metal_grammar.specs.FirstFault.{Fault}
 use Rattle.metal_grammar.specs.Definition.{IsMachine, IsFirstFault}
-use Rattle.metal_grammar.specs.Limits.{IsLimited}
 use Rattle.metal_grammar.specs.Reading.{AllRead, Unread, read_text, Accepted, Refused, read_machine}
 
 -- what is read of all clauses is exactly the text that they are

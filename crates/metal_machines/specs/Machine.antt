@@ -1,9 +1,23 @@
--- What a text says: a machine with one global state, and for each of its variables states of the objects that the variable
+-- What a checker says: a machine with one global state, and for each of its variables states of the objects that the variable
 -- takes. Holes, states and rules have numbers. The state variables are the first holes.
 use Rattle.std.specs.Prelude.{ℕ, Bool, List, Option}
+use Rattle.c_tree.specs.declared.keyword.Keyword.{Keyword}
+use Rattle.c_tree.specs.declared.operator.StructOrUnion.{StructOrUnion}
 use Rattle.c_tree.specs.Syntax.{Syntax}
-use Rattle.metal_grammar.specs.Holes.{HoleType}
-use Rattle.metal_grammar.specs.Message.{Piece}
+
+-- a type of C that a hole may have: the words of a basic type, a tag, or a pointer
+pub data NamedType : Type 0 where
+  Basic : List Keyword → NamedType
+  Tag : StructOrUnion → ℕ → NamedType
+  Pointer : NamedType → NamedType
+
+pub data HoleType : Type 0 where
+  AnyExpr : HoleType
+  AnyScalar : HoleType
+  AnyPointer : HoleType
+  AnyArguments : HoleType
+  AnyFnCall : HoleType
+  Named : NamedType → HoleType
 
 pub record Hole : Type 0 where
   pub name : ℕ
@@ -24,21 +38,29 @@ pub data Dest : Type 0 where
   Always : Target → Dest
   ByTruth : Target → Target → Dest
 
--- The rows of callouts are `mc_is_const`, `mc_is_global`, `mc_is_param`, `mc_is_local`, `mc_name_is`, `mc_in_function`, `0` and
--- `1`, from 0 on. The hole is 0 where the row has none, and the text has no bytes.
+-- A callout. The rows are `mc_is_const`, `mc_is_global`, `mc_is_param`, `mc_is_local`, `mc_name_is`, `mc_in_function`, `0` and
+-- `1`, from 0 on. The hole is 0 where the row has none. The text is the number of a name, 0 where the row has none.
 pub record Condition : Type 0 where
   pub negated : Bool
   pub row : ℕ
   pub hole : ℕ
-  pub text : List ℕ
+  pub text : ℕ
 
+-- A base pattern, a callout, or `$end_of_path$`, which asks nothing of a subject.
 pub data Item : Type 0 where
   Base : Syntax → Item
   Holds : Condition → Item
   EndOfPath : Item
 
+-- a piece of a message: bytes as they stand, or the text of what a hole took
+pub data Piece : Type 0 where
+  Bytes : List ℕ → Piece
+  HoleText : ℕ → Piece
+
+-- The position is that of the rule's first symbol in the text.
 pub record Rule : Type 0 where
   pub number : ℕ
+  pub position : ℕ
   pub source : Source
   pub alternatives : List (List Item)
   pub dest : Dest

@@ -1,7 +1,15 @@
--- What is true of the size of every machine.
+-- The limits of machines, and what is true of the size of every one.
 use Rattle.std.specs.Prelude.{◌≡◌, ◌≤◌, ℕ, ◌+◌, List, [], ◌∷◌, length}
-use Rattle.metal_grammar.specs.Machine.{Rule, Machine}
-use Rattle.metal_grammar.specs.FirstFault.{most_variables, most_holes, most_rules}
+use Rattle.metal_machines.specs.Machine.{Rule, Machine}
+
+abbrev pub most_variables : ℕ
+most_variables = 8
+
+abbrev pub most_holes : ℕ
+most_holes = 16
+
+abbrev pub most_rules : ℕ
+most_rules = 1000
 
 -- the rules have these numbers, one after the other
 abbrev pub AreNumbered : ℕ → List Rule → Type 0

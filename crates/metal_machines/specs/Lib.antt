@@ -1,0 +1,4 @@
+pub mod Machine
+pub mod Limits
+pub mod Rules
+pub mod Theorems
