@@ -1,9 +1,10 @@
 -- Small trees for the examples. A tree stands at its first token; the numbers of nodes play no part in traces.
-use Rattle.std.specs.Prelude.{ℕ, ◌==◌, Bool, true, false, List, [], ◌∷◌, Option, None, Some}
+use Rattle.std.specs.Prelude.{ℕ, ◌+◌, ◌==◌, Bool, true, false, List, [], ◌∷◌, Option, None, Some}
 use Rattle.c_tree.specs.declared.operator.AssignOp.TheVariants as assign
 use Rattle.c_tree.specs.declared.operator.BinaryOp.{BinaryOp}
 use Rattle.c_tree.specs.declared.operator.UnaryOp.{UnaryOp}
 use Rattle.c_tree.specs.declared.place.Place.{Place}
+use Rattle.c_tree.specs.declared.punctuator.Punctuator.TheVariants as signs
 use Rattle.c_tree.specs.declared.token.Token.{Token}
 use Rattle.c_tree.specs.declared.token.TokenKind.{TokenKind}
 use Rattle.c_tree.specs.declared.token.TokenKind.TheVariants as kinds
@@ -136,6 +137,10 @@ return n e = node n (at n) (Jump (Return e))
 -- a declarator that is a name alone
 abbrev pub declarator : ℕ → ℕ → Node
 declarator name n = node n (at n) (Declarator (Named [] (word name n) no_more))
+
+-- `*name = e`, at the star
+abbrev pub pointer_init : ℕ → ℕ → Node → Node
+pointer_init name n e = node n (at n) (Initializer (Init (ident name (n + 1)) (node n (at n) (Declarator (Named (token (kinds.Punct signs.Star) 99 n ∷ []) (word name (n + 1)) no_more))) e))
 
 abbrev pub init : ℕ → ℕ → Node → Node
 init name n e = node n (at n) (Initializer (Init (ident name n) (declarator name n) e))

@@ -3,10 +3,11 @@ use Rattle.std.proofs.Common.{◌≡◌, ℕ, Bool, true, false, List, [], ◌�
 use Rattle.c_tree.specs.declared.operator.BinaryOp.TheVariants as binary
 use Rattle.c_tree.specs.declared.operator.UnaryOp.TheVariants as unary
 use Rattle.c_tree.specs.Node.{Node, absent, present, no_more}
-use Rattle.c_paths.specs.Events.{Item, Variable, evaluated, declared, branched, exited, called}
+use Rattle.c_paths.specs.EventPlaces.{event_place}
+use Rattle.c_paths.specs.Events.{Item, Variable, Evaluated, Tree, DerefOf, evaluated, declared, branched, exited, called}
 use Rattle.c_paths.specs.Traces.{Definition}
 use Rattle.c_paths.specs.Listing.{longest_traces, finishes_within}
-use Rattle.c_paths.proofs.ExampleTrees.{at, ident, number, call, unary_at, binary_at, block, stmt, nothing, if_then, if_else, switch, case_of, default, label, while, do_while, for_loop, for_declared, goto, break, continue, return, declarator, init, braces, declaration, outside, inside, function, end}
+use Rattle.c_paths.proofs.ExampleTrees.{at, ident, number, call, unary_at, binary_at, block, stmt, nothing, if_then, if_else, switch, case_of, default, label, while, do_while, for_loop, for_declared, goto, break, continue, return, declarator, init, pointer_init, arrow, braces, declaration, outside, inside, function, end}
 
 -- the calls `g()` and `h()`, and what they give
 abbrev pub g : ℕ → Node
@@ -206,6 +207,22 @@ braced_traces = refl
 
 braced_finishes : finishes_within outside braced 20 ≡ true
 braced_finishes = refl
+
+-- { int *x = a; }: the initializer stands at the declared name
+abbrev pointed : Definition
+pointed = function (declaration 2 (pointer_init 7 3 (ident 0 6) ∷ []) ∷ [])
+
+pointed_traces : longest_traces outside pointed 20 ≡
+    (declared (variable 7 4) ∷ evaluated (ident 0 6) ∷ evaluated (pointer_init 7 3 (ident 0 6)) ∷ ends)
+    ∷ []
+pointed_traces = refl
+
+pointed_place : event_place (Evaluated (Tree (pointer_init 7 3 (ident 0 6)))) ≡ at 4
+pointed_place = refl
+
+-- p->x: the `*p` stands where the whole does
+arrow_place : event_place (Evaluated (DerefOf (ident 6 1))) ≡ event_place (Evaluated (Tree (arrow 1 (ident 6 1) 7)))
+arrow_place = refl
 
 -- { if (a) return b; g(); return; h(); }
 abbrev returned : Definition

@@ -1,5 +1,6 @@
 pub mod Membership
 pub mod Events
+pub mod EventPlaces
 pub mod Words
 pub mod Forms
 pub mod Evaluation
