@@ -1,10 +1,12 @@
 -- Functions with all of their longest traces. The names are 0 a, 1 b, 2 c, 3 g, 4 h, 5 n, 6 p, 7 x, 8 y, 9 z.
-use Rattle.std.proofs.Common.{◌≡◌, ℕ, Bool, true, false, List, [], ◌∷◌, ◌++◌, refl}
+use Rattle.std.proofs.Common.{◌≡◌, ℕ, Bool, true, false, List, [], ◌∷◌, ◌++◌, inl, inr, refl}
 use Rattle.c_tree.specs.declared.operator.BinaryOp.TheVariants as binary
 use Rattle.c_tree.specs.declared.operator.UnaryOp.TheVariants as unary
 use Rattle.c_tree.specs.Node.{Node, absent, present, no_more}
 use Rattle.c_paths.specs.EventPlaces.{event_place}
 use Rattle.c_paths.specs.Events.{Item, Variable, Evaluated, Tree, DerefOf, evaluated, declared, branched, exited, called}
+use Rattle.c_paths.specs.Occurrences.{InFlow}
+use Rattle.c_paths.specs.TreeFlow.{flow_of}
 use Rattle.c_paths.specs.Traces.{Definition}
 use Rattle.c_paths.specs.Listing.{longest_traces, finishes_within}
 use Rattle.c_paths.proofs.ExampleTrees.{at, ident, number, call, unary_at, binary_at, block, stmt, nothing, if_then, if_else, switch, case_of, default, label, while, do_while, for_loop, for_declared, goto, break, continue, return, declarator, init, pointer_init, arrow, braces, declaration, outside, inside, function, end}
@@ -338,3 +340,24 @@ continued_in_a_switch_traces : longest_traces outside continued_in_a_switch 6 �
     ∷ (goes 5 5 false ++ ends)
     ∷ []
 continued_in_a_switch_traces = refl
+
+-- { return; h(); }: the call stands in the text, although no trace comes there
+abbrev unreached : Definition
+unreached = function (return 2 absent ∷ stmt (h 4) ∷ [])
+
+unreached_traces : longest_traces inside unreached 20 ≡ (exited (at 0) (at 2) ∷ []) ∷ []
+unreached_traces = refl
+
+stands_in_the_text : InFlow (called (h 4)) (flow_of inside (at 0) unreached.body)
+stands_in_the_text = inr (inl (inl (inr (inr (inr (inl refl))))))
+
+-- { sizeof g(); }: there is no call in it
+abbrev unevaluated : Definition
+unevaluated = function (stmt (unary_at 2 unary.Sizeof (g 3)) ∷ [])
+
+no_call : InFlow (called (g 3)) (flow_of inside (at 0) unevaluated.body) → ⊥
+no_call (inl (inl (inl (t, e)))) = cc
+no_call (inl (inl (inr (inl e)))) = cc
+no_call (inl (inl (inr (inr x)))) = absurd x
+no_call (inl (inr x)) = absurd x
+no_call (inr x) = absurd x

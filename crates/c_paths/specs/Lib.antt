@@ -8,6 +8,7 @@ pub mod Facts
 pub mod TreeForms
 pub mod Flow
 pub mod TreeFlow
+pub mod Occurrences
 pub mod Steps
 pub mod Traces
 pub mod Listing
