@@ -6,7 +6,7 @@ use Rattle.c_tree.specs.Node.{Node, no_more}
 use Rattle.c_paths.specs.Events.{evaluated, dereferenced, branched, called}
 use Rattle.c_paths.specs.TreeForms.{form_of}
 use Rattle.c_paths.specs.Listing.{words_of}
-use Rattle.c_paths.proofs.ExampleTrees.{ident, number, paren, call, unary_at, binary_at, conditional, assigned, arrow, cast_at, nodes, outside, inside}
+use Rattle.c_paths.proofs.ExampleTrees.{ident, number, paren, call, unary_at, binary_at, conditional, assigned, arrow, cast_at, sizeof_type, va_arg, offset_of, at_index, at_member, braces, designated, compound, nodes, outside, inside}
 
 abbrev a : Node
 a = ident 0 1
@@ -118,3 +118,67 @@ choice_fails : words_of (form_of outside (conditional 1 a b c)) (Some false) ≡
     ∷ (evaluated a ∷ branched a false ∷ evaluated c ∷ branched c false ∷ [])
     ∷ []
 choice_fails = refl
+
+-- a || b, for its value
+abbrev disjunction : Node
+disjunction = binary_at 1 binary.LogOr a b
+
+disjunction_value : words_of (form_of outside disjunction) None ≡
+    (evaluated a ∷ branched a true ∷ evaluated disjunction ∷ [])
+    ∷ (evaluated a ∷ branched a false ∷ evaluated b ∷ branched b false ∷ evaluated disjunction ∷ [])
+    ∷ (evaluated a ∷ branched a false ∷ evaluated b ∷ branched b true ∷ evaluated disjunction ∷ [])
+    ∷ []
+disjunction_value = refl
+
+-- !(a == 0) && (b, c) fails: the first operand of `&&` is a condition wherever it stands
+mixed_fails : words_of (form_of outside (binary_at 0 binary.LogAnd (unary_at 0 unary.Not (paren 1 (binary_at 1 binary.Equal a (number 0 3)))) (paren 4 (binary_at 5 binary.Comma b c)))) (Some false) ≡
+    (evaluated a ∷ branched a false ∷ [])
+    ∷ (evaluated a ∷ branched a true ∷ evaluated b ∷ evaluated c ∷ branched c false ∷ [])
+    ∷ []
+mixed_fails = refl
+
+-- (a = b) is a condition like any other, and so is a cast of one with operators of its own
+abbrev stored : Node
+stored = assigned 1 a b
+
+assignment_fails : words_of (form_of outside (paren 0 stored)) (Some false) ≡
+    (evaluated a ∷ evaluated b ∷ evaluated stored ∷ branched stored false ∷ []) ∷ []
+assignment_fails = refl
+
+abbrev converted : Node
+converted = cast_at 0 (paren 3 (unary_at 4 unary.Not b))
+
+cast_holds : words_of (form_of outside converted) (Some true) ≡
+    (evaluated b ∷ evaluated (unary_at 4 unary.Not b) ∷ evaluated converted ∷ branched converted true ∷ []) ∷ []
+cast_holds = refl
+
+-- p++, and sizeof(T) with nothing below it
+counted_up : words_of (form_of outside (unary_at 6 unary.PostInc (ident 6 6))) None ≡
+    (evaluated (ident 6 6) ∷ evaluated (unary_at 6 unary.PostInc (ident 6 6)) ∷ []) ∷ []
+counted_up = refl
+
+size_of_type : words_of (form_of outside (sizeof_type 1)) None ≡ (evaluated (sizeof_type 1) ∷ []) ∷ []
+size_of_type = refl
+
+-- __builtin_offsetof(T, x[a]) evaluates no index
+offset : words_of (form_of outside (offset_of 1 7 (at_index 2 a ∷ []))) None ≡ (evaluated (offset_of 1 7 (at_index 2 a ∷ [])) ∷ []) ∷ []
+offset = refl
+
+-- __builtin_va_arg(p, T)
+variable_argument : words_of (form_of outside (va_arg 1 (ident 6 2))) None ≡ (evaluated (ident 6 2) ∷ evaluated (va_arg 1 (ident 6 2)) ∷ []) ∷ []
+variable_argument = refl
+
+-- (g)(): parentheses round the callee vanish
+abbrev through_parentheses : Node
+through_parentheses = call 0 (paren 0 (ident 3 1)) no_more
+
+calls_through_parentheses : words_of (form_of inside through_parentheses) None ≡
+    (evaluated (ident 3 1) ∷ evaluated through_parentheses ∷ called through_parentheses ∷ []) ∷ []
+calls_through_parentheses = refl
+
+-- (T){ [c] = a, .x = { b } }: the elements in order, without the indices of designators
+abbrev literal : Node
+literal = compound 0 (braces 2 (designated 3 (at_index 3 c ∷ []) a ∷ designated 4 (at_member 4 7 ∷ []) (braces 5 (b ∷ [])) ∷ []))
+
+literal_value : words_of (form_of outside literal) None ≡ (evaluated a ∷ evaluated b ∷ evaluated literal ∷ []) ∷ []
+literal_value = refl

@@ -1,14 +1,15 @@
 -- Small trees for the examples. A tree stands at its first token; the numbers of nodes play no part in traces.
-use Rattle.std.specs.Prelude.{ℕ, ◌==◌, Bool, true, false, List, [], ◌∷◌, Option, None, Some}
+use Rattle.std.specs.Prelude.{ℕ, ◌+◌, ◌==◌, Bool, true, false, List, [], ◌∷◌, Option, None, Some}
 use Rattle.c_tree.specs.declared.operator.AssignOp.TheVariants as assign
 use Rattle.c_tree.specs.declared.operator.BinaryOp.{BinaryOp}
 use Rattle.c_tree.specs.declared.operator.UnaryOp.{UnaryOp}
 use Rattle.c_tree.specs.declared.place.Place.{Place}
+use Rattle.c_tree.specs.declared.punctuator.Punctuator.TheVariants as signs
 use Rattle.c_tree.specs.declared.token.Token.{Token}
 use Rattle.c_tree.specs.declared.token.TokenKind.{TokenKind}
 use Rattle.c_tree.specs.declared.token.TokenKind.TheVariants as kinds
 use Rattle.c_tree.specs.declared.token.Mark.TheVariants as marks
-use Rattle.c_tree.specs.Node.{Node, node, Primary, Operation, Initializer, Specifier, Declarator, Outer, Statement, Iteration, Jump, Ident, Constant, Paren, Call, Arrow, Unary, Cast, Binary, Cond, Assign, Init, Braces, TypeName, Specs, Named, Declaration, Block, ExprStmt, If, Switch, Case, Default, Label, While, Do, For, ForDeclaration, Goto, Continue, Break, Return, MaybeNode, absent, present, Nodes, no_more, more}
+use Rattle.c_tree.specs.Node.{Node, node, Primary, Operation, Initializer, Specifier, Declarator, Part, Outer, Statement, Iteration, Jump, Ident, Constant, Paren, VaArg, Offsetof, Call, Arrow, CompoundLit, Unary, SizeofType, Cast, Binary, Cond, Assign, Init, Braces, Designated, MemberDesignator, IndexDesignator, TypeName, Specs, Named, Declaration, Block, ExprStmt, If, Switch, Case, Default, Label, While, Do, For, ForDeclaration, Goto, Continue, Break, Return, MaybeNode, absent, present, Nodes, no_more, more}
 use Rattle.c_paths.specs.Events.{Item, Variable, exited}
 use Rattle.c_paths.specs.Facts.{Facts}
 use Rattle.c_paths.specs.Traces.{Definition}
@@ -52,13 +53,33 @@ assigned n x y = node n (at n) (Operation (Assign assign.Plain x y))
 abbrev pub arrow : ℕ → Node → ℕ → Node
 arrow n x member = node n (at n) (Operation (Arrow x (word member n)))
 
--- a cast to some type, which plays no part
+-- some type, which plays no part
+abbrev pub type_name : ℕ → Node
+type_name n = node n (at n) (Specifier (TypeName (node n (at n) (Specifier (Specs no_more))) absent))
+
 abbrev pub cast_at : ℕ → Node → Node
-cast_at n e = node n (at n) (Operation (Cast (node n (at n) (Specifier (TypeName (node n (at n) (Specifier (Specs no_more))) absent))) e))
+cast_at n e = node n (at n) (Operation (Cast (type_name n) e))
+
+abbrev pub sizeof_type : ℕ → Node
+sizeof_type n = node n (at n) (Operation (SizeofType (type_name n)))
+
+abbrev pub va_arg : ℕ → Node → Node
+va_arg n e = node n (at n) (Primary (VaArg e (type_name n)))
 
 abbrev pub nodes : List Node → Nodes
 nodes [] = no_more
 nodes (e ∷ es) = more e (nodes es)
+
+-- `[index]`, in a designator or in `__builtin_offsetof`
+abbrev pub at_index : ℕ → Node → Node
+at_index n e = node n (at n) (Part (IndexDesignator e))
+
+-- `.member`, likewise
+abbrev pub at_member : ℕ → ℕ → Node
+at_member n member = node n (at n) (Part (MemberDesignator (word member n)))
+
+abbrev pub offset_of : ℕ → ℕ → List Node → Node
+offset_of n member path = node n (at n) (Primary (Offsetof (type_name n) (word member n) (nodes path)))
 
 abbrev pub block : ℕ → List Node → Node
 block n items = node n (at n) (Statement (Block (nodes items)))
@@ -117,11 +138,21 @@ return n e = node n (at n) (Jump (Return e))
 abbrev pub declarator : ℕ → ℕ → Node
 declarator name n = node n (at n) (Declarator (Named [] (word name n) no_more))
 
+-- `*name = e`, at the star
+abbrev pub pointer_init : ℕ → ℕ → Node → Node
+pointer_init name n e = node n (at n) (Initializer (Init (ident name (n + 1)) (node n (at n) (Declarator (Named (token (kinds.Punct signs.Star) 99 n ∷ []) (word name (n + 1)) no_more))) e))
+
 abbrev pub init : ℕ → ℕ → Node → Node
 init name n e = node n (at n) (Initializer (Init (ident name n) (declarator name n) e))
 
 abbrev pub braces : ℕ → List Node → Node
 braces n es = node n (at n) (Initializer (Braces (nodes es) false))
+
+abbrev pub designated : ℕ → List Node → Node → Node
+designated n designators e = node n (at n) (Initializer (Designated (nodes designators) e))
+
+abbrev pub compound : ℕ → Node → Node
+compound n e = node n (at n) (Operation (CompoundLit (type_name n) e))
 
 abbrev pub declaration : ℕ → List Node → Node
 declaration n ds = node n (at n) (Outer (Declaration (node n (at n) (Specifier (Specs no_more))) (nodes ds)))

@@ -1,12 +1,15 @@
 -- Functions with all of their longest traces. The names are 0 a, 1 b, 2 c, 3 g, 4 h, 5 n, 6 p, 7 x, 8 y, 9 z.
-use Rattle.std.proofs.Common.{◌≡◌, ℕ, Bool, true, false, List, [], ◌∷◌, ◌++◌, refl}
+use Rattle.std.proofs.Common.{◌≡◌, ℕ, Bool, true, false, List, [], ◌∷◌, ◌++◌, inl, inr, refl}
 use Rattle.c_tree.specs.declared.operator.BinaryOp.TheVariants as binary
 use Rattle.c_tree.specs.declared.operator.UnaryOp.TheVariants as unary
 use Rattle.c_tree.specs.Node.{Node, absent, present, no_more}
-use Rattle.c_paths.specs.Events.{Item, Variable, evaluated, declared, branched, exited, called}
+use Rattle.c_paths.specs.EventPlaces.{event_place}
+use Rattle.c_paths.specs.Events.{Item, Variable, Evaluated, Tree, DerefOf, evaluated, declared, branched, exited, called}
+use Rattle.c_paths.specs.Occurrences.{InFlow}
+use Rattle.c_paths.specs.TreeFlow.{flow_of}
 use Rattle.c_paths.specs.Traces.{Definition}
 use Rattle.c_paths.specs.Listing.{longest_traces, finishes_within}
-use Rattle.c_paths.proofs.ExampleTrees.{at, ident, number, call, unary_at, binary_at, block, stmt, nothing, if_then, if_else, switch, case_of, default, label, while, do_while, for_loop, for_declared, goto, break, continue, return, declarator, init, braces, declaration, outside, inside, function, end}
+use Rattle.c_paths.proofs.ExampleTrees.{at, ident, number, call, unary_at, binary_at, block, stmt, nothing, if_then, if_else, switch, case_of, default, label, while, do_while, for_loop, for_declared, goto, break, continue, return, declarator, init, pointer_init, arrow, braces, declaration, outside, inside, function, end}
 
 -- the calls `g()` and `h()`, and what they give
 abbrev pub g : ℕ → Node
@@ -207,6 +210,22 @@ braced_traces = refl
 braced_finishes : finishes_within outside braced 20 ≡ true
 braced_finishes = refl
 
+-- { int *x = a; }: the initializer stands at the declared name
+abbrev pointed : Definition
+pointed = function (declaration 2 (pointer_init 7 3 (ident 0 6) ∷ []) ∷ [])
+
+pointed_traces : longest_traces outside pointed 20 ≡
+    (declared (variable 7 4) ∷ evaluated (ident 0 6) ∷ evaluated (pointer_init 7 3 (ident 0 6)) ∷ ends)
+    ∷ []
+pointed_traces = refl
+
+pointed_place : event_place (Evaluated (Tree (pointer_init 7 3 (ident 0 6)))) ≡ at 4
+pointed_place = refl
+
+-- p->x: the `*p` stands where the whole does
+arrow_place : event_place (Evaluated (DerefOf (ident 6 1))) ≡ event_place (Evaluated (Tree (arrow 1 (ident 6 1) 7)))
+arrow_place = refl
+
 -- { if (a) return b; g(); return; h(); }
 abbrev returned : Definition
 returned = function (if_then 2 (ident 0 4) (return 6 (present (ident 1 7))) ∷ stmt (g 9) ∷ return 13 absent ∷ stmt (h 15) ∷ [])
@@ -242,3 +261,103 @@ declared_in_a_head_traces : longest_traces outside declared_in_a_head 6 ≡
     ∷ (declared (variable 7 5) ∷ evaluated (ident 0 7) ∷ evaluated (init 7 5 (ident 0 7)) ∷ goes 7 9 false ++ ends)
     ∷ []
 declared_in_a_head_traces = refl
+
+-- { switch (n) { case 1: switch (a) { case 2: g(); default: ; } h(); } }: the inner labels are those of the inner switch
+abbrev nested_switches : Definition
+nested_switches = function (switch 2 (ident 5 4) (block 6 (case_of 7 (number 1 8) (switch 10 (ident 0 12) (block 14 (case_of 15 (number 2 16) (stmt (g 18)) ∷ default 22 (nothing 24) ∷ []))) ∷ stmt (h 26) ∷ [])) ∷ [])
+
+nested_switches_traces : longest_traces outside nested_switches 20 ≡
+    (evaluated (ident 5 4) ∷ evaluated (ident 0 12) ∷ runs_g 18 ++ runs_h 26 ++ ends)
+    ∷ (evaluated (ident 5 4) ∷ evaluated (ident 0 12) ∷ runs_h 26 ++ ends)
+    ∷ (evaluated (ident 5 4) ∷ ends)
+    ∷ []
+nested_switches_traces = refl
+
+nested_switches_finishes : finishes_within outside nested_switches 20 ≡ true
+nested_switches_finishes = refl
+
+-- { switch (n) if (a) { g(); case 1: h(); } else default: b; }: a label may stand in either branch
+abbrev case_in_a_branch : Definition
+case_in_a_branch = function (switch 2 (ident 5 4) (if_else 6 (ident 0 8) (block 10 (stmt (g 11) ∷ case_of 15 (number 1 16) (stmt (h 18)) ∷ [])) (default 23 (stmt (ident 1 25)))) ∷ [])
+
+case_in_a_branch_traces : longest_traces outside case_in_a_branch 20 ≡
+    (evaluated (ident 5 4) ∷ runs_h 18 ++ ends)
+    ∷ (evaluated (ident 5 4) ∷ evaluated (ident 1 25) ∷ ends)
+    ∷ []
+case_in_a_branch_traces = refl
+
+case_in_a_branch_finishes : finishes_within outside case_in_a_branch 20 ≡ true
+case_in_a_branch_finishes = refl
+
+-- { switch (n) g(); h(); }: without labels it only goes on behind
+abbrev no_cases : Definition
+no_cases = function (switch 2 (ident 5 4) (stmt (g 6)) ∷ stmt (h 10) ∷ [])
+
+no_cases_traces : longest_traces outside no_cases 20 ≡ (evaluated (ident 5 4) ∷ runs_h 10 ++ ends) ∷ []
+no_cases_traces = refl
+
+no_cases_finishes : finishes_within outside no_cases 20 ≡ true
+no_cases_finishes = refl
+
+-- { goto x; if (a) { x: g(); } else h(); }: behind the branch the whole `if` is over
+abbrev into_a_branch : Definition
+into_a_branch = function (goto 2 7 ∷ if_else 5 (ident 0 7) (block 9 (label 10 7 (stmt (g 12)) ∷ [])) (stmt (h 18)) ∷ [])
+
+into_a_branch_traces : longest_traces outside into_a_branch 20 ≡ (runs_g 12 ++ ends) ∷ []
+into_a_branch_traces = refl
+
+into_a_branch_finishes : finishes_within outside into_a_branch 20 ≡ true
+into_a_branch_finishes = refl
+
+-- { goto x; { int y; x: y; } }: a jump passes the declaration by
+abbrev past_a_declaration : Definition
+past_a_declaration = function (goto 2 7 ∷ block 5 (declaration 6 (declarator 8 7 ∷ []) ∷ label 9 7 (stmt (ident 8 11)) ∷ []) ∷ [])
+
+past_a_declaration_traces : longest_traces outside past_a_declaration 20 ≡ (evaluated (ident 8 11) ∷ ends) ∷ []
+past_a_declaration_traces = refl
+
+past_a_declaration_finishes : finishes_within outside past_a_declaration 20 ≡ true
+past_a_declaration_finishes = refl
+
+-- { do { if (c) continue; if (b) break; g(); } while (n); }: `continue` leads to the condition
+abbrev left_and_continued : Definition
+left_and_continued = function (do_while 2 (block 3 (if_then 4 (ident 2 6) (continue 8) ∷ if_then 10 (ident 1 12) (break 14) ∷ stmt (g 16) ∷ [])) (ident 5 23) ∷ [])
+
+left_and_continued_traces : longest_traces outside left_and_continued 8 ≡
+    (goes 2 6 true ++ goes 5 23 true)
+    ∷ (goes 2 6 true ++ goes 5 23 false ++ ends)
+    ∷ (goes 2 6 false ++ goes 1 12 true ++ ends)
+    ∷ (goes 2 6 false ++ goes 1 12 false ++ runs_g 16)
+    ∷ []
+left_and_continued_traces = refl
+
+-- { for (; n; b) switch (a) default: continue; }: a `continue` leaves the switch round it
+abbrev continued_in_a_switch : Definition
+continued_in_a_switch = function (for_loop 2 absent (present (ident 5 5)) (present (ident 1 7)) (switch 9 (ident 0 11) (default 13 (continue 15))) ∷ [])
+
+continued_in_a_switch_traces : longest_traces outside continued_in_a_switch 6 ≡
+    (goes 5 5 true ++ evaluated (ident 0 11) ∷ evaluated (ident 1 7) ∷ [])
+    ∷ (goes 5 5 false ++ ends)
+    ∷ []
+continued_in_a_switch_traces = refl
+
+-- { return; h(); }: the call stands in the text, although no trace comes there
+abbrev unreached : Definition
+unreached = function (return 2 absent ∷ stmt (h 4) ∷ [])
+
+unreached_traces : longest_traces inside unreached 20 ≡ (exited (at 0) (at 2) ∷ []) ∷ []
+unreached_traces = refl
+
+stands_in_the_text : InFlow (called (h 4)) (flow_of inside (at 0) unreached.body)
+stands_in_the_text = inr (inl (inl (inr (inr (inr (inl refl))))))
+
+-- { sizeof g(); }: there is no call in it
+abbrev unevaluated : Definition
+unevaluated = function (stmt (unary_at 2 unary.Sizeof (g 3)) ∷ [])
+
+no_call : InFlow (called (g 3)) (flow_of inside (at 0) unevaluated.body) → ⊥
+no_call (inl (inl (inl (t, e)))) = cc
+no_call (inl (inl (inr (inl e)))) = cc
+no_call (inl (inl (inr (inr x)))) = absurd x
+no_call (inl (inr x)) = absurd x
+no_call (inr x) = absurd x

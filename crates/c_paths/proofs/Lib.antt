@@ -17,3 +17,4 @@ pub mod StepBodies
 pub mod GraphBodies
 pub mod ExampleGraphs
 pub mod JoinedBlocks
+pub mod BuiltTexts

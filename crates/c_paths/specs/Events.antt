@@ -11,7 +11,7 @@ pub data Subject : Type 0 where
   Tree : Node → Subject
   DerefOf : Node → Subject
 
--- a variable of a block with automatic storage (ISO 9899:1990, 6.1.2.4), by its declared name
+-- a variable of a block with automatic storage (ISO 9899:1990, 6.1.2.4), by its declared name; a parameter is none
 pub record Variable : Type 0 where
   pub place : Place
   pub name : ℕ
@@ -23,7 +23,7 @@ pub data Event : Type 0 where
   Declared : Variable → Event
   -- a condition has come out as this truth
   Branched : Node → Bool → Event
-  -- the function that is defined at the first place ends: at a `return`, or at the closing brace of its body
+  -- the function whose name is defined at the first place ends: at a `return`, or at the closing brace of its body
   Exited : Place → Place → Event
 
 -- an event, or the mark of a call whose callee has a body

@@ -4,8 +4,9 @@ use Rattle.c_tree.specs.Node.{Node}
 use Rattle.c_paths.specs.Events.{Variable}
 
 pub record Facts : Type 0 where
-  -- whether the callee of this call is the name of a function with a body
+  -- whether the callee of this call, without parentheses, is the name of a function with a body, in its own file or with
+  -- external linkage in another
   pub has_body : Node → Bool
-  -- the variable that this declarator declares, if it has automatic storage; none for a `static` or an `extern` variable, a
-  -- function, or the name of a type
+  -- the variable that this declarator of a declaration declares, if it has automatic storage; none for a `static` or an
+  -- `extern` variable, a function, or the name of a type
   pub variable_of : Node → Option Variable

@@ -1,5 +1,6 @@
 pub mod Membership
 pub mod Events
+pub mod EventPlaces
 pub mod Words
 pub mod Forms
 pub mod Evaluation
@@ -7,6 +8,7 @@ pub mod Facts
 pub mod TreeForms
 pub mod Flow
 pub mod TreeFlow
+pub mod Occurrences
 pub mod Steps
 pub mod Traces
 pub mod Listing

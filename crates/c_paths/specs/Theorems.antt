@@ -1,8 +1,10 @@
 -- The theorems of this crate as statements, which contracts can name.
-use Rattle.std.specs.Prelude.{◌≡◌, ◌↔◌, ℕ, true, List, [], ◌∷◌, ◌++◌, slice_set}
-use Rattle.c_paths.specs.Events.{Event, Item}
+use Rattle.std.specs.Prelude.{◌≡◌, ◌↔◌, ◌⊎◌, ℕ, true, List, [], ◌∷◌, ◌++◌, slice_set}
+use Rattle.c_paths.specs.Events.{Event, Item, exited}
 use Rattle.c_paths.specs.Facts.{Facts}
 use Rattle.c_paths.specs.Flow.{Flow}
+use Rattle.c_paths.specs.TreeFlow.{flow_of}
+use Rattle.c_paths.specs.Occurrences.{InFlow, InGraph}
 use Rattle.c_paths.specs.Traces.{BodyTrace, Definition, Trace}
 use Rattle.c_paths.specs.Listing.{longest_traces, finishes_within, Begins}
 use Rattle.c_paths.specs.Graphs.{Block, Ending, ToAny, GraphTrace}
@@ -33,6 +35,11 @@ BuiltGraphsHaveTheTraces = (F : Facts) (d : Definition) (l : List Item)
 -- it names only its own blocks, and each exit has a block of its own
 abbrev pub BuiltGraphsAreSound : Type 0
 BuiltGraphsAreSound = (F : Facts) (d : Definition) → IsSoundGraph (graph_of F d).blocks (graph_of F d).entry
+
+-- what stands in it stands in the function, or is the exit at its closing brace
+abbrev pub BuiltGraphsStandInTheText : Type 0
+BuiltGraphsStandInTheText = (F : Facts) (d : Definition) (i : Item) → InGraph i (graph_of F d).blocks
+    → InFlow i (flow_of F d.place d.body) ⊎ (i ≡ exited d.place d.close)
 
 -- a block that leads to one other may have that block's events and end as its own
 abbrev pub JoinedBlocksKeepTheTraces : Type 0

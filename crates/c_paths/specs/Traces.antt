@@ -24,7 +24,7 @@ BodyTrace body end l = TraceFrom body (Close end ∷ []) (Run body ∷ Close end
 
 -- a function with a body
 pub record Definition : Type 0 where
-  -- of its first token
+  -- of its name, where it is defined
   pub place : Place
   pub body : Node
   -- of the closing brace of the body

@@ -4,6 +4,7 @@
 ghost use Rattle.c_paths.specs.Theorems.{
   BuiltGraphsAreSound,
   BuiltGraphsHaveTheTraces,
+  BuiltGraphsStandInTheText,
   FinishedListsAreAll,
   GraphsHaveTheTraces,
   JoinedBlocksKeepTheTraces,
@@ -33,6 +34,11 @@ pub fn built_graphs_have_the_traces()
 /// The graph that the plain builder makes names only its own blocks, and each exit has a block of its own.
 pub fn built_graphs_are_sound()
     ensures { BuiltGraphsAreSound }
+{}
+
+/// What stands in the graph that the plain builder makes stands in the function's text.
+pub fn built_graphs_stand_in_the_text()
+    ensures { BuiltGraphsStandInTheText }
 {}
 
 /// A block that leads to one other may have that block's events and end as its own.
