@@ -1,0 +1,4 @@
+//! Types the trees of a C unit.
+#![tactic(auto)]
+
+mod name_stack;
