@@ -1,1 +1,3 @@
-mod Positions
+mod LastPositions
+mod Latest
+mod Filed

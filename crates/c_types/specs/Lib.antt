@@ -1,1 +1,6 @@
-pub mod NameStack
+pub mod NumberStack
+pub mod Entries
+pub mod Positions
+pub mod Members
+pub mod Views
+pub mod Scopes

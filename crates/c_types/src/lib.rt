@@ -1,4 +1,12 @@
 //! Types the trees of a C unit.
 #![tactic(auto)]
 
-mod name_stack;
+mod entries;
+mod items;
+mod members;
+mod names;
+mod number_stack;
+mod positions;
+mod scopes;
+mod structs;
+mod tags;

@@ -3,14 +3,14 @@ use Rattle.std.proofs.Common.{◌≡◌, ℕ, zero, suc, ◌+◌, ◌-◌, ◌<�
 use Rattle.std.proofs.lemmas.List.{map-append, length-map}
 use Rattle.std.specs.Option.{option_map}
 use Rattle.c_typing.specs.Options.{or_else}
-use Rattle.c_types.specs.declared.name_stack.Link.{Link}
-use Rattle.c_types.specs.NameStack.{last_position, names_of, IsIndexed}
+use Rattle.c_types.specs.declared.number_stack.Link.{Link}
+use Rattle.c_types.specs.NumberStack.{last_position, numbers_of, IsIndexed}
 
 behind : (b : Bool) (j : ℕ) (o x : Option ℕ) → or_else (option_map suc (cond b (Some j) o)) x ≡ cond b (Some (suc j)) (or_else (option_map suc o) x)
 behind true j o x = refl
 behind false j o x = refl
 
--- the last position behind one more name
+-- the last position behind one more number
 pub position-push : (n : ℕ) (ks : List ℕ) (k : ℕ) → last_position n (ks ++ (k ∷ [])) ≡ cond (nat_eq k n) (Some (length ks)) (last_position n ks)
 unfolding last_position
 position-push n [] k = refl
@@ -18,11 +18,11 @@ position-push n (x ∷ xs) k =
     ap (λ o. or_else (option_map suc o) (cond (nat_eq x n) (Some 0) None)) (position-push n xs k)
     ∙ behind (nat_eq k n) (length xs) (last_position n xs) (cond (nat_eq x n) (Some 0) None)
 
-names-push : (ls : List Link) (l : Link) → names_of (ls ++ (l ∷ [])) ≡ names_of ls ++ (l.name ∷ [])
-names-push ls l = map-append (λ k. k.name) ls (l ∷ [])
+numbers-push : (ls : List Link) (l : Link) → numbers_of (ls ++ (l ∷ [])) ≡ numbers_of ls ++ (l.number ∷ [])
+numbers-push ls l = map-append (λ k. k.number) ls (l ∷ [])
 
-names-length : (ls : List Link) → length (names_of ls) ≡ length ls
-names-length ls = length-map ls (λ k. k.name)
+numbers-length : (ls : List Link) → length (numbers_of ls) ≡ length ls
+numbers-length ls = length-map ls (λ k. k.number)
 
 pub none-last : (n : ℕ) → last_position n [] ≡ None
 unfolding last_position
@@ -39,37 +39,37 @@ parted (x ∷ ls) l k (b ∷ before) after e =
     let h : x ≡ b = cc in
     elim (parted ls l k before after t) [ inl r ↦ inl (r.0, let q = r.1 in cc) | inr r ↦ inr (let q = r.0 in cc, r.1) ]
 
--- the stack with one more name on top
-pub indexed-push : (old new : ℕ → Option ℕ) (ls : List Link) (l : Link) (at : ℕ) → IsIndexed old ls → l.before ≡ old l.name → at ≡ length ls
-    → ((q : ℕ) → new q ≡ cond (nat_eq l.name q) (Some at) (old q)) → IsIndexed new (ls ++ (l ∷ []))
+-- the stack with one more number on top
+pub indexed-push : (old new : ℕ → Option ℕ) (ls : List Link) (l : Link) (at : ℕ) → IsIndexed old ls → l.before ≡ old l.number → at ≡ length ls
+    → ((q : ℕ) → new q ≡ cond (nat_eq l.number q) (Some at) (old q)) → IsIndexed new (ls ++ (l ∷ []))
 indexed-push old new ls l at h b e w = record {
   last = λ q.
-      w q ∙ ap (cond (nat_eq l.name q) (Some at)) (h.last q)
-      ∙ ap (λ j. cond (nat_eq l.name q) (Some j) (last_position q (names_of ls))) (e ∙ sym (names-length ls))
-      ∙ sym (position-push q (names_of ls) l.name) ∙ sym (ap (last_position q) (names-push ls l));
-  linked = λ k before after q. elim (parted ls l k before after q) [ inl r ↦ h.linked k before r.0 r.1 | inr r ↦ (let x = r.0 in let y = r.1 in let z = b ∙ h.last l.name in cc) ];
+      w q ∙ ap (cond (nat_eq l.number q) (Some at)) (h.last q)
+      ∙ ap (λ j. cond (nat_eq l.number q) (Some j) (last_position q (numbers_of ls))) (e ∙ sym (numbers-length ls))
+      ∙ sym (position-push q (numbers_of ls) l.number) ∙ sym (ap (last_position q) (numbers-push ls l));
+  linked = λ k before after q. elim (parted ls l k before after q) [ inl r ↦ h.linked k before r.0 r.1 | inr r ↦ (let x = r.0 in let y = r.1 in let z = b ∙ h.last l.number in cc) ];
 }
 
--- the stack without the name on top
+-- the stack without the number on top
 pub indexed-pop : (old new : ℕ → Option ℕ) (ls : List Link) (l : Link) → IsIndexed old (ls ++ (l ∷ []))
-    → ((q : ℕ) → new q ≡ cond (nat_eq l.name q) l.before (old q)) → IsIndexed new ls
+    → ((q : ℕ) → new q ≡ cond (nat_eq l.number q) l.before (old q)) → IsIndexed new ls
 indexed-pop old new ls l h w = record {
-  last = λ q. w q ∙ by (nat_eq l.name q) q refl;
+  last = λ q. w q ∙ by (nat_eq l.number q) q refl;
   linked = λ k before after e. h.linked k before (after ++ (l ∷ [])) (ap (λ x. x ++ (l ∷ [])) e ∙ append_assoc before (k ∷ after) (l ∷ []));
 }
   where
-    by : (b : Bool) (q : ℕ) → nat_eq l.name q ≡ b → cond b l.before (old q) ≡ last_position q (names_of ls)
-    by true q e = let same : l.name ≡ q = grind (arith, e) in h.linked l ls [] refl ∙ ap (λ m. last_position m (names_of ls)) same
-    by false q e = h.last q ∙ ap (last_position q) (names-push ls l) ∙ position-push q (names_of ls) l.name ∙ ap (λ b. cond b (Some (length (names_of ls))) (last_position q (names_of ls))) e
+    by : (b : Bool) (q : ℕ) → nat_eq l.number q ≡ b → cond b l.before (old q) ≡ last_position q (numbers_of ls)
+    by true q e = let same : l.number ≡ q = grind (arith, e) in h.linked l ls [] refl ∙ ap (λ m. last_position m (numbers_of ls)) same
+    by false q e = h.last q ∙ ap (last_position q) (numbers-push ls l) ∙ position-push q (numbers_of ls) l.number ∙ ap (λ b. cond b (Some (length (numbers_of ls))) (last_position q (numbers_of ls))) e
 
--- the name on top stands in the table
-pub indexed-top : (table : ℕ → Option ℕ) (ls : List Link) (l : Link) → IsIndexed table (ls ++ (l ∷ [])) → table l.name ≡ Some (length ls)
+-- the number on top stands in the table
+pub indexed-top : (table : ℕ → Option ℕ) (ls : List Link) (l : Link) → IsIndexed table (ls ++ (l ∷ [])) → table l.number ≡ Some (length ls)
 indexed-top table ls l h =
-    let same : nat_eq l.name l.name ≡ true = grind arith in
-    h.last l.name ∙ ap (last_position l.name) (names-push ls l) ∙ position-push l.name (names_of ls) l.name
-    ∙ ap (λ b. cond b (Some (length (names_of ls))) (last_position l.name (names_of ls))) same ∙ ap Some (names-length ls)
+    let same : nat_eq l.number l.number ≡ true = grind arith in
+    h.last l.number ∙ ap (last_position l.number) (numbers-push ls l) ∙ position-push l.number (numbers_of ls) l.number
+    ∙ ap (λ b. cond b (Some (length (numbers_of ls))) (last_position l.number (numbers_of ls))) same ∙ ap Some (numbers-length ls)
 
--- no names
+-- no numbers
 pub indexed-none : (table : ℕ → Option ℕ) (ls : List Link) → ls ≡ [] → ((q : ℕ) → table q ≡ None) → IsIndexed table ls
 indexed-none table ls e h = rw e (record { last = λ q. h q ∙ sym (none-last q); linked = λ k before after e. absurd (by k before after e) })
   where

@@ -1,9 +1,9 @@
 use Rattle.std.proofs.Common.{nat_eq, subst, sym, List, Option, IsSome, ℕ, refl}
 use Rattle.indexmap.specs.IndexMap.{get}
-use Rattle.c_types.specs.declared.name_stack.Link.{Link}
-use Rattle.c_types.specs.NameStack.{IsIndexed}
-use Rattle.c_types.proofs.Positions.{indexed-pop, indexed-top}
-use Rattle.c_types.proofs.name_stack.NameStack.pop.Goals as goal
+use Rattle.c_types.specs.declared.number_stack.Link.{Link}
+use Rattle.c_types.specs.NumberStack.{IsIndexed}
+use Rattle.c_types.proofs.LastPositions.{indexed-pop, indexed-top}
+use Rattle.c_types.proofs.number_stack.NumberStack.pop.Goals as goal
 
 pub put_back-requires : goal.put_back-requires
 put_back-requires c =
