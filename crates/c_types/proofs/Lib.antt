@@ -1,3 +1,4 @@
 mod LastPositions
 mod Latest
 mod Filed
+mod Seen

@@ -4,3 +4,5 @@ pub mod Positions
 pub mod Members
 pub mod Views
 pub mod Scopes
+pub mod Faults
+pub mod Mentions

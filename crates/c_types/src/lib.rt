@@ -2,8 +2,10 @@
 #![tactic(auto)]
 
 mod entries;
+mod faults;
 mod items;
 mod members;
+mod mentions;
 mod names;
 mod number_stack;
 mod positions;
