@@ -2,3 +2,4 @@ mod LastPositions
 mod Latest
 mod Filed
 mod Seen
+mod Steps

@@ -1,5 +1,5 @@
 -- What the program answers, against what is defined.
-use Rattle.std.specs.Prelude.{◌≡◌, Option, None, Some, Result, Ok, Err, Unit}
+use Rattle.std.specs.Prelude.{◌≡◌, Option, None, Some, Result, Ok, Err}
 use Rattle.c_typing.specs.Faults.{Fault}
 use Rattle.c_typing.specs.Faults as fault
 use Rattle.c_typing.specs.Types.{CType}

@@ -6,3 +6,4 @@ pub mod Views
 pub mod Scopes
 pub mod Faults
 pub mod Mentions
+pub mod Storage

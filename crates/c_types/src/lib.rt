@@ -1,6 +1,8 @@
 //! Types the trees of a C unit.
 #![tactic(auto)]
 
+mod declarators;
+mod declared;
 mod entries;
 mod faults;
 mod items;
@@ -10,5 +12,6 @@ mod names;
 mod number_stack;
 mod positions;
 mod scopes;
+mod storage;
 mod structs;
 mod tags;

@@ -103,7 +103,8 @@ impl<'a> Scopes<'a> {
     pub fn given_to(&self, owner: u32, number: u32) -> Result<Vec<MemberEntry<'a>>, AllocError>
         ensures { IfOk result (λ found. map member_entry found.items ≡ given_to owner number (scopes_of self.now).members) }
     {
-        self.members.given_to(owner, number)
+        let found = self.members.given_to(owner, number)?;
+        Ok(found)
     }
 
     /// Whether a structure or union is complete.
