@@ -36,7 +36,7 @@ fn is_storage(word: Keyword) -> bool
 }
 
 /// Whether it is a word of basic types (6.5.2).
-fn is_type_word(word: Keyword) -> bool
+pub fn is_type_word(word: Keyword) -> bool
     ensures { result ≡ is_type_word word }
 {
     match word {

@@ -3,3 +3,5 @@ mod Latest
 mod Filed
 mod Seen
 mod Steps
+mod Bare
+mod Marks

@@ -4,6 +4,7 @@ ghost use Rattle.std.specs.Prelude.{◌≡◌, IfOk};
 ghost use Rattle.c_tree.specs.Views.{node_of, nodes_of, maybe_token, option_node, declarator_shape};
 ghost use Rattle.c_typing.specs.Declarators.{is_star, starred, suffix, suffixed, around, around_shape, around_maybe, name_of, name_of_shape, is_bare, is_bare_shape};
 ghost use Rattle.c_unit.specs.Types.{ctype_of};
+ghost use Rattle.c_types.specs.Declarators.{no_tokens, no_nodes};
 
 use c_tree::{Arena, Declarator, Kind, Part, Punctuator, Token, TokenKind, Tree, Trees};
 use c_unit::Ty;
@@ -44,6 +45,7 @@ fn suffix<'a>(arena: &'a Arena, tree: &Tree, ty: Ty<'a>) -> Result<Ty<'a>, Alloc
 }
 
 /// Arrays and functions, the one beside the name outermost (6.5.4.2, 6.5.4.3).
+#[tactic(auto, using(crate::proofs::Steps::steps))]
 fn suffixed<'a>(arena: &'a Arena, suffixes: &Trees, ty: Ty<'a>) -> Result<Ty<'a>, AllocError>
     ensures { IfOk result (λ t. ctype_of t ≡ suffixed (nodes_of suffixes.now) (ctype_of ty.entry)) }
 {
@@ -102,5 +104,43 @@ pub fn name_of<'a>(declarator: &Tree<'a>) -> Option<&'a Token>
             Declarator::Unnamed { .. } => None,
         },
         _ => None,
+    }
+}
+
+/// Whether there are no pointers.
+fn no_tokens(pointers: &[Token]) -> bool
+    ensures { result ≡ no_tokens pointers.now }
+{
+    match pointers {
+        [] => true,
+        _ => false,
+    }
+}
+
+/// Whether there are no suffixes.
+#[tactic(auto, using(crate::proofs::Steps::steps))]
+fn no_nodes(suffixes: &Trees) -> bool
+    ensures { result ≡ no_nodes (nodes_of suffixes.now) }
+{
+    match suffixes.all {
+        [] => true,
+        _ => false,
+    }
+}
+
+/// Whether a declarator is a name alone, maybe in parentheses.
+#[tactic(auto, using(crate::proofs::Bare::bare))]
+pub fn is_bare(declarator: &Tree) -> bool
+    ensures { result ≡ is_bare (node_of declarator.now) }
+{
+    match &declarator.kind {
+        Kind::Declarator(kind) => match kind {
+            Declarator::Named { pointers, suffixes, .. } => no_tokens(pointers) && no_nodes(suffixes),
+            Declarator::Nested { pointers, inner, suffixes } => {
+                no_tokens(pointers) && no_nodes(suffixes) && is_bare(inner)
+            }
+            Declarator::Unnamed { .. } => false,
+        },
+        _ => false,
     }
 }

@@ -12,6 +12,7 @@ mod names;
 mod number_stack;
 mod positions;
 mod scopes;
+mod specified;
 mod storage;
 mod structs;
 mod tags;

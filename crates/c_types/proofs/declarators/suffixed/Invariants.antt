@@ -1,4 +1,4 @@
-use Rattle.std.proofs.Common.{◌≡◌, ◌×◌, ◌≤◌, drop, length}
+use Rattle.std.proofs.Common.{◌≡◌, ◌≤◌, drop, length}
 use Rattle.c_tree.specs.Views.{nodes_in}
 use Rattle.c_typing.specs.Declarators.{suffixed}
 use Rattle.c_unit.specs.Types.{ctype_of}
