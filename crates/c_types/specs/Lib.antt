@@ -7,5 +7,5 @@ pub mod Scopes
 pub mod Faults
 pub mod Mentions
 pub mod Storage
-pub mod Specified
 pub mod Declarators
+pub mod Roles

@@ -60,26 +60,35 @@ fn suffixed<'a>(arena: &'a Arena, suffixes: &Trees, ty: Ty<'a>) -> Result<Ty<'a>
 }
 
 /// The type that a declarator gives its name, from the type of its specifiers outward.
+#[cycle(around)]
 pub fn around<'a>(arena: &'a Arena, declarator: &Tree, ty: Ty<'a>) -> Result<Ty<'a>, AllocError>
     ensures { IfOk result (λ t. ctype_of t ≡ around (node_of declarator.now) (ctype_of ty.entry)) }
 {
     match &declarator.kind {
-        Kind::Declarator(kind) => match kind {
-            Declarator::Named { pointers, suffixes, .. } => {
-                let starred = starred(arena, pointers, ty)?;
-                suffixed(arena, suffixes, starred)
-            }
-            Declarator::Nested { pointers, inner, suffixes } => {
-                let starred = starred(arena, pointers, ty)?;
-                let outer = suffixed(arena, suffixes, starred)?;
-                around(arena, inner, outer)
-            }
-            Declarator::Unnamed { pointers, suffixes } => {
-                let starred = starred(arena, pointers, ty)?;
-                suffixed(arena, suffixes, starred)
-            }
-        },
+        Kind::Declarator(kind) => around_shape(arena, kind, ty),
         _ => Ok(ty),
+    }
+}
+
+/// The same, of what a declarator is.
+#[cycle(around)]
+pub fn around_shape<'a>(arena: &'a Arena, kind: &Declarator, ty: Ty<'a>) -> Result<Ty<'a>, AllocError>
+    ensures { IfOk result (λ t. ctype_of t ≡ around_shape (declarator_shape kind.now) (ctype_of ty.entry)) }
+{
+    match kind {
+        Declarator::Named { pointers, suffixes, .. } => {
+            let starred = starred(arena, pointers, ty)?;
+            suffixed(arena, suffixes, starred)
+        }
+        Declarator::Nested { pointers, inner, suffixes } => {
+            let starred = starred(arena, pointers, ty)?;
+            let outer = suffixed(arena, suffixes, starred)?;
+            around(arena, inner, outer)
+        }
+        Declarator::Unnamed { pointers, suffixes } => {
+            let starred = starred(arena, pointers, ty)?;
+            suffixed(arena, suffixes, starred)
+        }
     }
 }
 
@@ -94,16 +103,25 @@ pub fn around_maybe<'a>(arena: &'a Arena, declarator: Option<&Tree>, ty: Ty<'a>)
 }
 
 /// The name that a declarator declares, if it isn't abstract.
+#[cycle(name)]
 pub fn name_of<'a>(declarator: &Tree<'a>) -> Option<&'a Token>
     ensures { maybe_token result ≡ name_of (node_of declarator.now) }
 {
     match &declarator.kind {
-        Kind::Declarator(kind) => match kind {
-            Declarator::Named { name, .. } => Some(name),
-            Declarator::Nested { inner, .. } => name_of(inner),
-            Declarator::Unnamed { .. } => None,
-        },
+        Kind::Declarator(kind) => name_of_shape(kind),
         _ => None,
+    }
+}
+
+/// The same, of what a declarator is.
+#[cycle(name)]
+pub fn name_of_shape<'a>(kind: &Declarator<'a>) -> Option<&'a Token>
+    ensures { maybe_token result ≡ name_of_shape (declarator_shape kind.now) }
+{
+    match kind {
+        Declarator::Named { name, .. } => Some(name),
+        Declarator::Nested { inner, .. } => name_of(inner),
+        Declarator::Unnamed { .. } => None,
     }
 }
 
@@ -118,14 +136,11 @@ fn no_tokens(pointers: &[Token]) -> bool
 }
 
 /// Whether there are no suffixes.
-#[tactic(auto, using(crate::proofs::Steps::steps))]
+#[tactic(auto, using(crate::proofs::Bare::counted))]
 fn no_nodes(suffixes: &Trees) -> bool
     ensures { result ≡ no_nodes (nodes_of suffixes.now) }
 {
-    match suffixes.all {
-        [] => true,
-        _ => false,
-    }
+    suffixes.all.is_empty()
 }
 
 /// Whether a declarator is a name alone, maybe in parentheses.

@@ -1,6 +1,7 @@
 //! Types the trees of a C unit.
 #![tactic(auto)]
 
+mod checks;
 mod declarators;
 mod declared;
 mod entries;
@@ -10,9 +11,10 @@ mod members;
 mod mentions;
 mod names;
 mod number_stack;
+mod operands;
 mod positions;
+mod roles;
 mod scopes;
-mod specified;
 mod storage;
 mod structs;
 mod tags;
