@@ -1,5 +1,5 @@
 -- A name alone has no pointers and no suffixes; and what the number of nodes says.
-use Rattle.std.proofs.Common.{◌≡◌, ℕ, Bool, true, false, cond, nat_eq, ◌&&◌, List, [], ◌∷◌, length, refl, ap, sym, arith}
+use Rattle.std.proofs.Common.{◌≡◌, false, cond, nat_eq, ◌&&◌, List, [], ◌∷◌, length, refl, ap, sym, arith}
 use Rattle.c_tree.proofs.Rows.{nodes_out}
 use Rattle.c_tree.specs.declared.tree.Tree.{Tree}
 use Rattle.c_tree.specs.Views.{nodes_in}

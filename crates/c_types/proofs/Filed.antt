@@ -1,5 +1,5 @@
 -- Members are found by the table of first positions and by the lists of positions.
-use Rattle.std.proofs.Common.{◌≡◌, ℕ, zero, suc, ◌+◌, List, [], ◌∷◌, ◌++◌, length, map, Option, None, Some, cond, nat_eq, Bool, true, false, ap, refl, ◌∙◌, sym, subst, slice_get, arith}
+use Rattle.std.proofs.Common.{◌≡◌, ℕ, suc, List, [], ◌∷◌, ◌++◌, length, map, Option, None, Some, cond, nat_eq, Bool, true, false, ap, refl, ◌∙◌, sym, subst, slice_get, arith}
 use Rattle.std.proofs.lemmas.Bool.Decides.{nat_tests}
 use Rattle.std.specs.Option.{option_map}
 use Rattle.c_typing.specs.Options.{or_else}

@@ -1,5 +1,5 @@
 -- Last positions in a list that grows and shrinks at its end.
-use Rattle.std.proofs.Common.{◌≡◌, ℕ, zero, suc, ◌+◌, ◌-◌, ◌<◌, ◌≤◌, List, [], ◌∷◌, ◌++◌, length, map, Option, None, Some, cond, nat_eq, Bool, true, false, ap, refl, ◌∙◌, sym, arith, append_assoc, ◌⊎◌, inl, inr}
+use Rattle.std.proofs.Common.{◌≡◌, ℕ, suc, List, [], ◌∷◌, ◌++◌, length, Option, None, Some, cond, nat_eq, Bool, true, false, ap, refl, ◌∙◌, sym, arith, append_assoc, ◌⊎◌, inl, inr}
 use Rattle.std.proofs.lemmas.List.{map-append, length-map}
 use Rattle.std.specs.Option.{option_map}
 use Rattle.c_typing.specs.Options.{or_else}

@@ -1,5 +1,5 @@
 -- The latest entry of a name stands at the last position of it.
-use Rattle.std.proofs.Common.{◌≡◌, ℕ, zero, suc, List, [], ◌∷◌, map, Option, None, Some, cond, nat_eq, Bool, true, false, ap, refl, ◌∙◌, sym, subst, slice_get}
+use Rattle.std.proofs.Common.{◌≡◌, ℕ, suc, List, [], ◌∷◌, map, Option, None, Some, cond, nat_eq, Bool, true, false, ap, refl, ◌∙◌, sym, subst, slice_get}
 use Rattle.std.specs.Option.{option_map}
 use Rattle.c_typing.specs.Options.{or_else}
 use Rattle.c_types.specs.NumberStack.{last_position}

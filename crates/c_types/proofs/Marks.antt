@@ -1,6 +1,6 @@
 -- The way back to a mark is the end of the scope that began there.
-use Rattle.std.proofs.Common.{◌≡◌, ◌∙◌, ap, refl, length, take, drop}
-use Rattle.std.proofs.Math.Seq.{take-append_seam, drop-append_seam}
+use Rattle.std.proofs.Common.{◌≡◌, ◌∙◌, ap, refl, length, take}
+use Rattle.std.proofs.Math.Seq.{take-append_seam}
 use Rattle.c_typing.specs.Scopes.{Scopes, leave, leave_formals}
 use Rattle.c_typing.specs.Stays.{Begins}
 use Rattle.c_types.specs.declared.scopes.Mark.{Mark}

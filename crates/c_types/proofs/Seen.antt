@@ -1,15 +1,15 @@
 -- What is found among the program's entries is what is found among those that they are.
-use Rattle.std.proofs.Common.{◌≡◌, ℕ, suc, List, [], ◌∷◌, ◌++◌, map, take, drop, Option, None, Some, cond, nat_eq, ◌&&◌, ◌||◌, Bool, true, false, ap, refl, ◌∙◌, sym, arith}
+use Rattle.std.proofs.Common.{◌≡◌, ℕ, suc, List, [], ◌∷◌, map, Option, None, Some, cond, nat_eq, ◌&&◌, ◌||◌, Bool, true, false, ap, refl, ◌∙◌, arith}
 use Rattle.std.specs.Option.{option_map, is_some}
 use Rattle.std.proofs.lemmas.Bool.Decides.{nat_tests}
 use Rattle.c_typing.specs.Moves.{given_to}
 use Rattle.c_typing.specs.Options.{or_else}
-use Rattle.c_typing.specs.Scopes.{Entry, Tag, Member, latest, latest_tag, member_of, is_among}
+use Rattle.c_typing.specs.Scopes.{Member, latest, latest_tag, member_of, is_among}
 use Rattle.c_types.specs.declared.members.MemberEntry.{MemberEntry}
 use Rattle.c_types.specs.declared.names.NameEntry.{NameEntry}
 use Rattle.c_types.specs.declared.tags.TagEntry.{TagEntry}
 use Rattle.c_types.specs.Entries.{latest_by}
-use Rattle.c_types.specs.Members.{same_key, key_of, first_named, given, given_by}
+use Rattle.c_types.specs.Members.{first_named, given, given_by}
 use Rattle.c_types.specs.NumberStack.{last_position}
 use Rattle.c_types.specs.Views.{name_entry, tag_entry, member_entry}
 

@@ -23,7 +23,11 @@ use c_unit::Ty;
 use std::alloc::{AllocError, Global};
 
 /// The type of a name that is declared, unless it may not be declared here.
-pub fn check_name<'a>(scopes: &Scopes<'a>, place: Place, entry: NameEntry<'a>) -> Result<Ty<'a>, TypeFault>
+pub fn check_name<'a>(
+    scopes: &Scopes<'a>,
+    place: Place,
+    entry: NameEntry<'a>,
+) -> Result<Ty<'a>, TypeFault>
     ensures { Gives result (name_row (scopes_of scopes.now) place (name_entry entry.entry)) }
 {
     if clashes(scopes, entry) {
@@ -89,7 +93,9 @@ pub fn declares<'a>(
     ensures { IfOk result (λ found. option_map name_entry found ≡ declares (scopes_of scopes.now) (role_of role.entry) (declarator_shape kind.now)) }
 {
     match role {
-        Role::Declares { storage, ty } | Role::Defines { storage, ty } => match name_of_shape(kind) {
+        Role::Declares { storage, ty } | Role::Defines { storage, ty } => match name_of_shape(
+            kind,
+        ) {
             None => Ok(None),
             Some(name) => {
                 let ty = around_shape(arena, kind, ty)?;

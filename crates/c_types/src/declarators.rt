@@ -72,15 +72,27 @@ pub fn around<'a>(arena: &'a Arena, declarator: &Tree, ty: Ty<'a>) -> Result<Ty<
 
 /// The same, of what a declarator is.
 #[cycle(around)]
-pub fn around_shape<'a>(arena: &'a Arena, kind: &Declarator, ty: Ty<'a>) -> Result<Ty<'a>, AllocError>
+pub fn around_shape<'a>(
+    arena: &'a Arena,
+    kind: &Declarator,
+    ty: Ty<'a>,
+) -> Result<Ty<'a>, AllocError>
     ensures { IfOk result (λ t. ctype_of t ≡ around_shape (declarator_shape kind.now) (ctype_of ty.entry)) }
 {
     match kind {
-        Declarator::Named { pointers, suffixes, .. } => {
+        Declarator::Named {
+            pointers,
+            suffixes,
+            ..
+        } => {
             let starred = starred(arena, pointers, ty)?;
             suffixed(arena, suffixes, starred)
         }
-        Declarator::Nested { pointers, inner, suffixes } => {
+        Declarator::Nested {
+            pointers,
+            inner,
+            suffixes,
+        } => {
             let starred = starred(arena, pointers, ty)?;
             let outer = suffixed(arena, suffixes, starred)?;
             around(arena, inner, outer)
@@ -93,7 +105,11 @@ pub fn around_shape<'a>(arena: &'a Arena, kind: &Declarator, ty: Ty<'a>) -> Resu
 }
 
 /// The type around a declarator that may be missing.
-pub fn around_maybe<'a>(arena: &'a Arena, declarator: Option<&Tree>, ty: Ty<'a>) -> Result<Ty<'a>, AllocError>
+pub fn around_maybe<'a>(
+    arena: &'a Arena,
+    declarator: Option<&Tree>,
+    ty: Ty<'a>,
+) -> Result<Ty<'a>, AllocError>
     ensures { IfOk result (λ t. ctype_of t ≡ around_maybe (option_node declarator.entry) (ctype_of ty.entry)) }
 {
     match declarator {
@@ -150,10 +166,16 @@ pub fn is_bare(declarator: &Tree) -> bool
 {
     match &declarator.kind {
         Kind::Declarator(kind) => match kind {
-            Declarator::Named { pointers, suffixes, .. } => no_tokens(pointers) && no_nodes(suffixes),
-            Declarator::Nested { pointers, inner, suffixes } => {
-                no_tokens(pointers) && no_nodes(suffixes) && is_bare(inner)
-            }
+            Declarator::Named {
+                pointers,
+                suffixes,
+                ..
+            } => no_tokens(pointers) && no_nodes(suffixes),
+            Declarator::Nested {
+                pointers,
+                inner,
+                suffixes,
+            } => { no_tokens(pointers) && no_nodes(suffixes) && is_bare(inner) }
             Declarator::Unnamed { .. } => false,
         },
         _ => false,

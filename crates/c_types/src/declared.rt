@@ -48,9 +48,16 @@ fn variable<'a>(scopes: &Scopes<'a>, storage: Storage, ty: Ty<'a>, name: &Token)
         Storage::Extern => Some(linked(scopes, name.name)),
         Storage::Static => {
             if at_file(scopes) {
-                Some(Var::FileStatic { file, name: name.name })
+                Some(Var::FileStatic {
+                    file,
+                    name: name.name,
+                })
             } else {
-                Some(Var::LocalStatic { file, token, name: name.name })
+                Some(Var::LocalStatic {
+                    file,
+                    token,
+                    name: name.name,
+                })
             }
         }
         Storage::Unmarked => {
@@ -59,7 +66,11 @@ fn variable<'a>(scopes: &Scopes<'a>, storage: Storage, ty: Ty<'a>, name: &Token)
             } else if ty.is_function() {
                 Some(linked(scopes, name.name))
             } else {
-                Some(Var::Local { file, token, name: name.name })
+                Some(Var::Local {
+                    file,
+                    token,
+                    name: name.name,
+                })
             }
         }
     }
@@ -84,7 +95,12 @@ fn is_extern(storage: Storage) -> bool
 }
 
 /// What a declaration or a definition puts in force.
-pub fn declared<'a>(scopes: &Scopes<'a>, storage: Storage, ty: Ty<'a>, name: &Token) -> NameEntry<'a>
+pub fn declared<'a>(
+    scopes: &Scopes<'a>,
+    storage: Storage,
+    ty: Ty<'a>,
+    name: &Token,
+) -> NameEntry<'a>
     ensures { name_entry result ≡ declared (scopes_of scopes.now) (storage_seen storage) (ctype_of ty.entry) name.now }
 {
     NameEntry {
@@ -98,7 +114,12 @@ pub fn declared<'a>(scopes: &Scopes<'a>, storage: Storage, ty: Ty<'a>, name: &To
 }
 
 /// What a parameter puts in force.
-pub fn formal<'a>(arena: &'a Arena, scopes: &Scopes<'a>, ty: Ty<'a>, name: &Token) -> Result<NameEntry<'a>, AllocError>
+pub fn formal<'a>(
+    arena: &'a Arena,
+    scopes: &Scopes<'a>,
+    ty: Ty<'a>,
+    name: &Token,
+) -> Result<NameEntry<'a>, AllocError>
     ensures { IfOk result (λ k. name_entry k ≡ formal (scopes_of scopes.now) (ctype_of ty.entry) name.now) }
 {
     let ty = ty.adjusted(arena)?;

@@ -41,7 +41,12 @@ pub(crate) struct Members<'a> {
 }
 
 // Keeps the position of an owner's member of a name, unless there is one already.
-fn note_first(first: &mut IndexMap<(u32, u32), usize>, owner: u32, name: u32, position: usize) -> Result<(), AllocError>
+fn note_first(
+    first: &mut IndexMap<(u32, u32), usize>,
+    owner: u32,
+    name: u32,
+    position: usize,
+) -> Result<(), AllocError>
     ensures noted { IfOk result (λ _. (k : ℕ × ℕ) → get same_key first.new k ≡ or_else (get same_key first.old k) (cond (same_key (owner, name) k) (Some position) None)) }
     ensures room { 0 < spare first.old → IsOk result }
 {

@@ -153,7 +153,12 @@ fn a_tag(scopes: &Scopes, how: Mention, sort: Sort, name: u32, number: u32) -> T
 }
 
 /// Declares what a mention of a tag declares: nothing where a visible tag is meant, unless it gives that a body.
-pub fn declare_tag(scopes: &mut Scopes, how: Mention, sort: Sort, name: u32) -> Result<(), AllocError>
+pub fn declare_tag(
+    scopes: &mut Scopes,
+    how: Mention,
+    sort: Sort,
+    name: u32,
+) -> Result<(), AllocError>
     ensures { IfOk result (λ _. scopes_of scopes.new ≡ mentioned (scopes_of scopes.old) (mention_of how) (tag_sort sort) name) }
 {
     match meant(scopes, how, sort, name) {

@@ -28,7 +28,12 @@ fn is_function_name(kind: TokenKind) -> bool
 }
 
 /// The type of a name that isn't in scope: a callee is a function giving `int` (6.3.2.2).
-fn undeclared<'a>(arena: &'a Arena, role: Role<'a>, place: Place, name: &Token) -> Result<Ty<'a>, TypeFault>
+fn undeclared<'a>(
+    arena: &'a Arena,
+    role: Role<'a>,
+    place: Place,
+    name: &Token,
+) -> Result<Ty<'a>, TypeFault>
     ensures { Gives result (undeclared (role_of role.entry) place name.now) }
 {
     if is_function_name(name.kind) {
@@ -128,7 +133,12 @@ fn is_operation_lvalue(scopes: &Scopes, kind: &Operation) -> bool
 }
 
 /// A member of the structure or union of this number, where that is complete (6.3.2.3).
-fn member_in<'a>(scopes: &Scopes<'a>, place: Place, name: &Token, number: u32) -> Result<Ty<'a>, TypeFault>
+fn member_in<'a>(
+    scopes: &Scopes<'a>,
+    place: Place,
+    name: &Token,
+    number: u32,
+) -> Result<Ty<'a>, TypeFault>
     ensures { Gives result (member_in (scopes_of scopes.now) place name.now number) }
 {
     if !scopes.is_complete(number) {
@@ -144,7 +154,12 @@ fn member_in<'a>(scopes: &Scopes<'a>, place: Place, name: &Token, number: u32) -
 }
 
 /// The type of `x.name`, where this is the type of `x`.
-pub fn member<'a>(scopes: &Scopes<'a>, place: Place, name: &Token, ty: Ty<'a>) -> Result<Ty<'a>, TypeFault>
+pub fn member<'a>(
+    scopes: &Scopes<'a>,
+    place: Place,
+    name: &Token,
+    ty: Ty<'a>,
+) -> Result<Ty<'a>, TypeFault>
     ensures { Gives result (member (scopes_of scopes.now) place name.now (ctype_of ty.entry)) }
 {
     match ty {

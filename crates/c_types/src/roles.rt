@@ -72,7 +72,11 @@ impl<'a> Role<'a> {
     pub fn of_item(self, items: &Trees) -> Role<'a>
         ensures { role_of result ≡ item_role (role_of self.entry) (nodes_of items.now) }
     {
-        if items.all.len() == 1 { self } else { Role::Plain }
+        if items.all.len() == 1 {
+            self
+        } else {
+            Role::Plain
+        }
     }
 
     /// How a tag in this role is mentioned.

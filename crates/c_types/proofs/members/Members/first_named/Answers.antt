@@ -1,6 +1,5 @@
 use Rattle.std.proofs.Common.{◌≡◌, ◌∙◌, ap, sym, List, Some, None, slice_get}
-use Rattle.std.specs.Option.{option_copied}
-use Rattle.c_types.specs.Members.{first_named, first_position}
+use Rattle.c_types.specs.Members.{first_position}
 use Rattle.c_types.specs.declared.members.MemberEntry.{MemberEntry}
 use Rattle.c_types.proofs.Filed.{first-none, first-some}
 use Rattle.c_types.proofs.members.Members.first_named.Goals as goal
