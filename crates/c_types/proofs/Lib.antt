@@ -1,0 +1,7 @@
+mod LastPositions
+mod Latest
+mod Filed
+mod Seen
+mod Steps
+mod Bare
+mod Marks

@@ -1,0 +1,11 @@
+pub mod NumberStack
+pub mod Entries
+pub mod Positions
+pub mod Members
+pub mod Views
+pub mod Scopes
+pub mod Faults
+pub mod Mentions
+pub mod Storage
+pub mod Declarators
+pub mod Roles

@@ -1,0 +1,20 @@
+//! Types the trees of a C unit.
+#![tactic(auto)]
+
+mod checks;
+mod declarators;
+mod declared;
+mod entries;
+mod faults;
+mod items;
+mod members;
+mod mentions;
+mod names;
+mod number_stack;
+mod operands;
+mod positions;
+mod roles;
+mod scopes;
+mod storage;
+mod structs;
+mod tags;
