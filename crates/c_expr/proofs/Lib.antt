@@ -6,3 +6,4 @@ pub mod Runs
 pub mod SpecifierWords
 pub mod ListSteps
 pub mod Steps
+pub mod Standing

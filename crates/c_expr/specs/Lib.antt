@@ -7,3 +7,4 @@ pub mod Gives
 pub mod Postfixes
 pub mod Forms
 pub mod ParamLists
+pub mod Standing

@@ -4,6 +4,7 @@ ghost use Rattle.std.specs.Prelude.{◌≡◌, ◌+◌, ◌-◌, ◌*◌, ◌<�
 ghost use Rattle.c_tree.specs.Symbol.{symbols_of};
 ghost use Rattle.c_grammar.specs.Nonterminal.{Expression, NameOfType, DeclaratorIn, Parameter};
 ghost use Rattle.c_grammar.specs.Reading.{read};
+ghost use Rattle.c_expr.specs.Standing.{Over};
 ghost use Rattle.c_expr.specs.Gives.{Gives, AsBefore, left, done, Spends};
 ghost use Rattle.c_expr.specs.Forms.{form_of};
 
@@ -24,6 +25,7 @@ pub fn expression_in_front<'a>(
 ) -> Result<Read<'a>, ExprFault>
     requires ids { next.old + 16 * length tokens.now < 2 ^ 32 }
     ensures found { Gives result (read room (Expression level) names.old.now (symbols_of tokens.now)) }
+    ensures stands { Over result next.old next.new tokens.now }
     ensures names { AsBefore names.new names.old }
     ensures ids { Spends next.old next.new (length tokens.now) (left result) }
 {
@@ -40,6 +42,7 @@ pub fn type_name_in_front<'a>(
 ) -> Result<Read<'a>, ExprFault>
     requires ids { next.old + 16 * length tokens.now < 2 ^ 32 }
     ensures found { Gives result (read room NameOfType names.old.now (symbols_of tokens.now)) }
+    ensures stands { Over result next.old next.new tokens.now }
     ensures names { AsBefore names.new names.old }
     ensures ids { Spends next.old next.new (length tokens.now) (left result) }
 {
@@ -56,6 +59,7 @@ pub fn param_in_front<'a>(
 ) -> Result<Read<'a>, ExprFault>
     requires ids { next.old + 16 * length tokens.now < 2 ^ 32 }
     ensures found { Gives result (read room Parameter names.old.now (symbols_of tokens.now)) }
+    ensures stands { Over result next.old next.new tokens.now }
     ensures names { AsBefore names.new names.old }
     ensures ids { Spends next.old next.new (length tokens.now) (left result) }
 {
@@ -73,6 +77,7 @@ pub fn declarator_in_front<'a>(
 ) -> Result<Read<'a>, ExprFault>
     requires ids { next.old + 16 * length tokens.now < 2 ^ 32 }
     ensures found { Gives result (read room (DeclaratorIn (form_of form)) names.old.now (symbols_of tokens.now)) }
+    ensures stands { Over result next.old next.new tokens.now }
     ensures names { AsBefore names.new names.old }
     ensures ids { Spends next.old next.new (length tokens.now) (left result) }
 {

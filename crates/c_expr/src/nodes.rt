@@ -5,7 +5,9 @@ ghost use Rattle.c_tree.specs.Symbol.{symbols_of};
 ghost use Rattle.c_tree.specs.Height.{height_of};
 ghost use Rattle.c_tree.specs.Forget.{view, view_all, list_view};
 ghost use Rattle.c_grammar.specs.Found.{made};
+ghost use Rattle.c_tree.specs.Views.{shape_of};
 ghost use Rattle.c_expr.specs.Gives.{Gives, kind_view, left, Spends};
+ghost use Rattle.c_expr.specs.Standing.{Makes};
 ghost use Rattle.c_expr.specs.declared.fault.ExprFault.TheVariants.{NoMemory};
 
 use crate::fault::ExprFault;
@@ -62,6 +64,7 @@ pub(crate) fn node<'a>(
     requires ids { next.old + 1 < 2 ^ 32 }
     ensures found { Gives result (made room (kind_view kind.entry) (symbols_of rest.now)) }
     ensures ids { (next.old ≤ next.new) × (next.new ≤ next.old + 1) × (left result ≤ length rest.now) }
+    ensures node { Makes result next.old next.new first (shape_of kind.entry) rest.now }
 {
     if room <= highest {
         return Err(ExprFault::NoTree);

@@ -9,6 +9,7 @@ ghost use Rattle.c_grammar.specs.Symbols.{begins, is_string, run_of, after_run};
 ghost use Rattle.c_grammar.specs.ExpressionSteps as steps;
 ghost use Rattle.c_grammar.specs.Found.{made};
 ghost use Rattle.c_grammar.specs.Reading.{read};
+ghost use Rattle.c_expr.specs.Standing.{Over};
 ghost use Rattle.c_expr.specs.Gives.{Gives, GivesList, AsBefore, left, left_by_list, Spends};
 
 use crate::fault::ExprFault;
@@ -223,6 +224,7 @@ fn read_paren<'a>(
     requires positive { 0 < room }
     requires ids { next.old + 16 * length tokens.now < 2 ^ 32 }
     ensures found { Gives result (steps.read_paren (read (room - 1)) room names.old.now (symbols_of tokens.now)) }
+    ensures stands { Over result next.old next.new tokens.now }
     ensures names { AsBefore names.new names.old }
     ensures ids { Spends next.old next.new (length tokens.now) (left result) }
 {

@@ -2,9 +2,10 @@
 
 ghost use Rattle.std.specs.Prelude.{◌≡◌, ◌+◌, length, IfSome};
 ghost use Rattle.std.specs.Option.{option_map};
-ghost use Rattle.c_tree.specs.Symbol.{symbol_of, symbols_of};
+ghost use Rattle.c_tree.specs.Symbol.{Sign, Reserved, symbol_of, symbols_of};
 ghost use Rattle.c_grammar.specs.Symbols.{is_sign, is_keyword, is_word, is_string, after_sign, after_keyword, take_symbol, run_of, after_run};
 ghost use Rattle.c_expr.specs.Runs.{stays};
+ghost use Rattle.c_expr.specs.Standing.{Passes, IsFirst};
 
 use c_tree::{Keyword, Place, Punctuator, Token, TokenKind};
 
@@ -31,6 +32,7 @@ pub(crate) fn is_keyword(word: Keyword, token: &Token) -> bool
 /// What follows this punctuator, if it stands in front.
 pub(crate) fn after_sign<'a>(sign: Punctuator, tokens: &'a [Token]) -> Option<&'a [Token]>
     ensures found { option_map (λ rest. symbols_of rest.now) result ≡ after_sign sign (symbols_of tokens.now) }
+    ensures passes { IfSome result (λ rest. Passes (Sign sign) tokens.now rest.now) }
     ensures shorter { IfSome result (λ rest. length rest.now + 1 ≡ length tokens.now) }
 {
     match tokens {
@@ -46,6 +48,7 @@ pub(crate) fn after_sign<'a>(sign: Punctuator, tokens: &'a [Token]) -> Option<&'
 /// What follows this keyword, if it stands in front.
 pub(crate) fn after_keyword<'a>(word: Keyword, tokens: &'a [Token]) -> Option<&'a [Token]>
     ensures found { option_map (λ rest. symbols_of rest.now) result ≡ after_keyword word (symbols_of tokens.now) }
+    ensures passes { IfSome result (λ rest. Passes (Reserved word) tokens.now rest.now) }
     ensures shorter { IfSome result (λ rest. length rest.now + 1 ≡ length tokens.now) }
 {
     match tokens {
@@ -114,7 +117,9 @@ pub(crate) fn split_run<'a>(run: Run, tokens: &'a [Token]) -> (&'a [Token], &'a 
 }
 
 /// The place of the first of these tokens.
-pub(crate) fn place_of(tokens: &[Token]) -> Place {
+pub(crate) fn place_of(tokens: &[Token]) -> Place
+    ensures { IsFirst result tokens.now }
+{
     match tokens {
         [] => Place { file: 0, token: 0 },
         [front, ..] => front.place,
