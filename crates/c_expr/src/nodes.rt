@@ -7,7 +7,7 @@ ghost use Rattle.c_tree.specs.Forget.{view, view_all, list_view};
 ghost use Rattle.c_grammar.specs.Found.{made};
 ghost use Rattle.c_tree.specs.Views.{shape_of};
 ghost use Rattle.c_expr.specs.Gives.{Gives, kind_view, left, Spends};
-ghost use Rattle.c_expr.specs.Standing.{Makes};
+ghost use Rattle.c_expr.specs.Standing.{IsMade, Makes};
 ghost use Rattle.c_expr.specs.declared.fault.ExprFault.TheVariants.{NoMemory};
 
 use crate::fault::ExprFault;
@@ -92,6 +92,7 @@ pub(crate) fn part<'a>(
     ensures height { result.height ≡ height }
     ensures rest { result.rest.now ≡ rest.now }
     ensures ids { next.new ≡ next.old + 1 }
+    ensures node { IsMade result next.old next.new first (shape_of kind.entry) rest.now }
 {
     let id = *next;
     *next += 1;

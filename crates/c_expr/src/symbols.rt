@@ -5,7 +5,7 @@ ghost use Rattle.std.specs.Option.{option_map};
 ghost use Rattle.c_tree.specs.Symbol.{Sign, Reserved, symbol_of, symbols_of};
 ghost use Rattle.c_grammar.specs.Symbols.{is_sign, is_keyword, is_word, is_string, after_sign, after_keyword, take_symbol, run_of, after_run};
 ghost use Rattle.c_expr.specs.Runs.{stays};
-ghost use Rattle.c_expr.specs.Standing.{Passes, IsFirst};
+ghost use Rattle.c_expr.specs.Standing.{Passes, Keeps, KeepsAll, IsFirst};
 
 use c_tree::{Keyword, Place, Punctuator, Token, TokenKind};
 
@@ -64,6 +64,7 @@ pub(crate) fn after_keyword<'a>(word: Keyword, tokens: &'a [Token]) -> Option<&'
 /// The word in front that is no keyword, and what follows it.
 pub(crate) fn take_word<'a>(tokens: &'a [Token]) -> Option<(&'a Token, &'a [Token])>
     ensures found { option_map (λ found. (symbol_of found.0.now, symbols_of found.1.now)) result ≡ take_symbol is_word (symbols_of tokens.now) }
+    ensures kept { IfSome result (λ found. Keeps found.0.now tokens.now found.1.now) }
     ensures shorter { IfSome result (λ found. length found.1.now + 1 ≡ length tokens.now) }
 {
     match tokens {
@@ -108,6 +109,7 @@ pub(crate) fn split_run<'a>(run: Run, tokens: &'a [Token]) -> (&'a [Token], &'a 
     ensures run { symbols_of result.0.now ≡ run_of (stays run) (symbols_of tokens.now) }
     ensures rest { symbols_of result.1.now ≡ after_run (stays run) (symbols_of tokens.now) }
     ensures length { length result.0.now + length result.1.now ≡ length tokens.now }
+    ensures kept { KeepsAll result.0.now tokens.now result.1.now }
 {
     let mut count = 0;
     while count < tokens.len() && stays(run, &tokens[count]) {
