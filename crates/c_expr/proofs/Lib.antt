@@ -4,3 +4,5 @@ pub mod Items
 pub mod Lists
 pub mod Runs
 pub mod SpecifierWords
+pub mod ListSteps
+pub mod Steps

@@ -4,3 +4,6 @@ pub mod Runs
 pub mod Lines
 pub mod SpecifierPlaces
 pub mod Gives
+pub mod Postfixes
+pub mod Forms
+pub mod ParamLists

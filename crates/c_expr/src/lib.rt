@@ -1,22 +1,32 @@
-//! Reads C's expressions.
+//! Reads C's expressions, type names, specifiers and declarators.
 #![tactic(auto)]
 
 mod basic_types;
+mod declarators;
+mod expressions;
 mod fault;
 mod nodes;
 mod operators;
+mod params;
+mod postfix;
+mod primary;
 mod specifier_words;
 mod specifiers;
 mod symbols;
 #[cfg(test)]
 mod tests;
 mod type_names;
+mod types;
 
+pub use declarators::{Form, declarator_in_front};
+pub use expressions::expression_in_front;
 pub use fault::ExprFault;
 pub use nodes::Read;
 pub use operators::{
     ASSIGNMENT_LEVEL, CAST_LEVEL, COMMA_LEVEL, CONDITIONAL_LEVEL, POSTFIX_LEVEL, UNARY_LEVEL,
 };
+pub use params::{declare_param, declared_name, param_in_front};
 pub use specifier_words::{SpecifierPlace, begins_specifiers};
 pub use specifiers::specifiers_in_front;
 pub use type_names::TypeNames;
+pub use types::type_name_in_front;
