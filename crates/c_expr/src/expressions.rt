@@ -13,16 +13,13 @@ ghost use Rattle.c_grammar.specs.Reading.{read};
 ghost use Rattle.c_expr.specs.Gives.{Gives, AsBefore, left, Spends};
 
 use crate::fault::ExprFault;
+use crate::inner::{expression_in_front, type_name_in_front};
 use crate::nodes::{Read, keep, node};
-use crate::operators::{
-    ASSIGNMENT_LEVEL, CAST_LEVEL, COMMA_LEVEL, CONDITIONAL_LEVEL, UNARY_LEVEL, grade, operand_level,
-    take_assign, take_binary, take_prefix,
-};
+use crate::operators::{ASSIGNMENT_LEVEL, CAST_LEVEL, COMMA_LEVEL, CONDITIONAL_LEVEL, UNARY_LEVEL, grade, operand_level, take_assign, take_binary, take_prefix};
 use crate::postfix::read_postfix;
 use crate::specifier_words::begins_specifiers;
 use crate::symbols::{after_keyword, after_sign, place_of};
 use crate::type_names::TypeNames;
-use crate::types::type_name_in_front;
 use c_tree::{Arena, AssignOp, BinaryOp, Keyword, Kind, Operation, Place, Punctuator, Token, UnaryOp};
 
 /// What follows a parenthesis behind which a type name begins.
@@ -157,7 +154,6 @@ fn conditional_of<'a>(
 }
 
 /// The rest of `sizeof unary` or `sizeof (type name)` (6.3.3.4); `first` is the place of `sizeof`.
-#[cycle(read)]
 fn read_sizeof<'a>(
     arena: &'a Arena,
     first: Place,
@@ -187,7 +183,6 @@ fn read_sizeof<'a>(
 }
 
 /// A unary expression (6.3.3).
-#[cycle(read)]
 fn read_unary<'a>(
     arena: &'a Arena,
     tokens: &'a [Token],
@@ -213,7 +208,6 @@ fn read_unary<'a>(
 }
 
 /// A cast, or a unary expression (6.3.4).
-#[cycle(read)]
 fn read_cast<'a>(
     arena: &'a Arena,
     tokens: &'a [Token],
@@ -240,7 +234,6 @@ fn read_cast<'a>(
 
 /// The operators of one level behind the left operand, each with its right one.
 #[tactic(auto, using(crate::proofs::Steps::chains))]
-#[cycle(read)]
 fn read_chain<'a>(
     arena: &'a Arena,
     level: u32,
@@ -272,7 +265,6 @@ fn read_chain<'a>(
 
 /// Casts, and the binary operators of so many levels above them (6.3.5 to 6.3.14).
 #[tactic(auto, using(crate::proofs::Steps::levels))]
-#[cycle(read)]
 fn read_binary<'a>(
     arena: &'a Arena,
     levels: u32,
@@ -296,7 +288,6 @@ fn read_binary<'a>(
 }
 
 /// A conditional expression (6.3.15).
-#[cycle(read)]
 fn read_conditional<'a>(
     arena: &'a Arena,
     tokens: &'a [Token],
@@ -323,7 +314,6 @@ fn read_conditional<'a>(
 }
 
 /// A conditional expression, or an assignment to a unary one (6.3.16).
-#[cycle(read)]
 fn read_assignment<'a>(
     arena: &'a Arena,
     tokens: &'a [Token],
@@ -349,7 +339,6 @@ fn read_assignment<'a>(
 }
 
 /// Assignments with commas between (6.3.17).
-#[cycle(read)]
 fn read_commas<'a>(
     arena: &'a Arena,
     tokens: &'a [Token],
@@ -369,8 +358,7 @@ fn read_commas<'a>(
 
 /// The expression of this level in front.
 #[tactic(auto, using(crate::proofs::Steps::reads))]
-#[cycle(read)]
-pub fn expression_in_front<'a>(
+pub fn expression_at_front<'a>(
     arena: &'a Arena,
     level: u32,
     tokens: &'a [Token],

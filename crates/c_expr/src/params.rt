@@ -14,8 +14,9 @@ ghost use Rattle.c_grammar.specs.Reading.{read};
 ghost use Rattle.c_expr.specs.Gives.{Gives, AsBefore, left, Spends};
 ghost use Rattle.c_expr.specs.ParamLists.{GivesParams, left_by_params};
 
-use crate::declarators::{Form, begins_declarator, declarator_in_front};
+use crate::declarators::{Form, begins_declarator};
 use crate::fault::ExprFault;
+use crate::inner::{declarator_in_front, param_in_front};
 use crate::nodes::{Read, keep, list_of, node, part};
 use crate::specifier_words::SpecifierPlace;
 use crate::specifiers::specifiers_in_front;
@@ -136,8 +137,7 @@ fn declared_of<'a>(
 
 /// The parameter in front.
 #[tactic(auto, using(crate::proofs::Steps::reads))]
-#[cycle(read)]
-pub fn param_in_front<'a>(
+pub fn param_at_front<'a>(
     arena: &'a Arena,
     tokens: &'a [Token],
     names: &mut TypeNames,
@@ -162,7 +162,6 @@ pub fn param_in_front<'a>(
 
 /// Parameters up to the parenthesis, at least one. They stay in force.
 #[tactic(auto, using(crate::proofs::ListSteps::params))]
-#[cycle(read)]
 fn read_params<'a>(
     arena: &'a Arena,
     tokens: &'a [Token],
@@ -214,7 +213,6 @@ fn read_params<'a>(
 }
 
 /// What follows the parenthesis of parameters, of which `first` is the place. They are in force up to its end.
-#[cycle(read)]
 pub(crate) fn read_param_list<'a>(
     arena: &'a Arena,
     first: Place,

@@ -10,8 +10,9 @@ ghost use Rattle.c_grammar.specs.Found.{made};
 ghost use Rattle.c_grammar.specs.Reading.{read};
 ghost use Rattle.c_expr.specs.Gives.{Gives, AsBefore, left, Spends};
 
-use crate::declarators::{Form, begins_declarator, declarator_in_front};
+use crate::declarators::{Form, begins_declarator};
 use crate::fault::ExprFault;
+use crate::inner::declarator_in_front;
 use crate::nodes::{Read, keep, node};
 use crate::specifier_words::SpecifierPlace;
 use crate::specifiers::specifiers_in_front;
@@ -61,8 +62,7 @@ fn declared_of<'a>(
 
 /// The type name in front.
 #[tactic(auto, using(crate::proofs::Steps::reads))]
-#[cycle(read)]
-pub fn type_name_in_front<'a>(
+pub fn type_name_at_front<'a>(
     arena: &'a Arena,
     tokens: &'a [Token],
     names: &mut TypeNames,

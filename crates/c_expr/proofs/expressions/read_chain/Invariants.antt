@@ -1,0 +1,23 @@
+use Rattle.std.proofs.Common.{◌≡◌, ◌+◌, ◌-◌, ◌*◌, ◌≤◌, Some, length}
+use Rattle.c_tree.specs.Symbol.{symbols_of}
+use Rattle.c_tree.specs.Height.{height_of, height_in}
+use Rattle.c_tree.specs.Forget.{view, view_all}
+use Rattle.c_grammar.specs.Reading.{read}
+use Rattle.c_grammar.specs.ExpressionSteps.{read_postfix_operators, read_postfix, read_more_arguments, read_path, read_chain, read_binary}
+use Rattle.c_grammar.specs.DeclaratorSteps.{read_suffixes, read_params}
+use Rattle.c_expr.specs.Gives.{ending_with, count_in}
+use Rattle.c_expr.specs.ParamLists.{params_after}
+use Rattle.c_expr.proofs.expressions.read_chain.Given as goal
+
+abbrev pub invariant-loop-op : goal.invariant-loop-op
+invariant-loop-op l = record {
+  found : read_chain (read (l.room - 1)) l.room l.fn.names.now l.level l.fuel (view l.before.tree) (symbols_of l.before.rest.now) ≡ read_chain (read (l.room - 1)) l.room l.fn.names.now l.level l.room (view l.fn.first.tree) (symbols_of l.fn.first.rest.now);
+  height : l.before.height ≡ height_of (view l.before.tree);
+  now : l.names.now ≡ l.fn.names.now;
+  saved : l.names.saved ≡ l.fn.names.saved;
+  rises : l.fn.next ≤ l.next;
+  spent : l.next + 16 * length l.before.rest.now ≤ l.fn.next + 16 * length l.fn.first.rest.now;
+}
+
+abbrev pub decreases-loop-op : goal.decreases-loop-op
+decreases-loop-op l = l.fuel

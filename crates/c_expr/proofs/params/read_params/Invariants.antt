@@ -1,0 +1,22 @@
+use Rattle.std.proofs.Common.{◌≡◌, ◌+◌, ◌-◌, ◌*◌, ◌≤◌, Some, length}
+use Rattle.c_tree.specs.Symbol.{symbols_of}
+use Rattle.c_tree.specs.Height.{height_of, height_in}
+use Rattle.c_tree.specs.Forget.{view, view_all}
+use Rattle.c_grammar.specs.Reading.{read}
+use Rattle.c_grammar.specs.ExpressionSteps.{read_postfix_operators, read_postfix, read_more_arguments, read_path, read_chain, read_binary}
+use Rattle.c_grammar.specs.DeclaratorSteps.{read_suffixes, read_params}
+use Rattle.c_expr.specs.Gives.{ending_with, count_in}
+use Rattle.c_expr.specs.ParamLists.{params_after}
+use Rattle.c_expr.proofs.params.read_params.Given as goal
+
+abbrev pub invariant-loop-fuel : goal.invariant-loop-fuel
+invariant-loop-fuel l = record {
+  found : params_after l.all.items (read_params (read (l.room - 1)) l.names.now l.fuel (symbols_of l.rest)) ≡ read_params (read (l.room - 1)) l.fn.names.now (length (symbols_of l.fn.tokens)) (symbols_of l.fn.tokens);
+  height : l.highest ≡ height_in (view_all l.all.items);
+  saved : l.names.saved ≡ l.fn.names.saved;
+  rises : l.fn.next ≤ l.next;
+  spent : l.next + 16 * length l.rest ≤ l.fn.next + 16 * length l.fn.tokens;
+}
+
+abbrev pub decreases-loop-fuel : goal.decreases-loop-fuel
+decreases-loop-fuel l = l.fuel
