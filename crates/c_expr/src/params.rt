@@ -22,7 +22,10 @@ use crate::specifier_words::SpecifierPlace;
 use crate::specifiers::specifiers_in_front;
 use crate::symbols::{after_keyword, after_sign};
 use crate::type_names::TypeNames;
-use c_tree::{Arena, Declarator, Keyword, Kind, Part, Place, Punctuator, Specifier, Token, TokenKind, Tree, Trees};
+use c_tree::{
+    Arena, Declarator, Keyword, Kind, Part, Place, Punctuator, Specifier, Token, TokenKind, Tree,
+    Trees,
+};
 use std::alloc::AllocError;
 
 /// Parameters that were read, with their parenthesis.
@@ -152,7 +155,14 @@ pub fn param_at_front<'a>(
     if room == 0 {
         return Err(ExprFault::NoTree);
     }
-    let specs = specifiers_in_front(arena, SpecifierPlace::InParam, tokens, names, room - 1, next)?;
+    let specs = specifiers_in_front(
+        arena,
+        SpecifierPlace::InParam,
+        tokens,
+        names,
+        room - 1,
+        next,
+    )?;
     if !begins_declarator(Form::Either, specs.rest) {
         return plain_of(arena, specs, room, next);
     }
