@@ -19,6 +19,11 @@ abbrev pub left_by_params : Result ReadParams ExprFault → ℕ
 left_by_params (Ok r) = length r.rest.now
 left_by_params (Err e) = 0
 
+-- 1 where parameters are read
+abbrev pub done_by_params : Result ReadParams ExprFault → ℕ
+done_by_params (Ok r) = 1
+done_by_params (Err e) = 0
+
 -- what is found, behind these
 abbrev pub params_after : List Tree → Option (Syntaxes × Bool × List Symbol) → Option (Syntaxes × Bool × List Symbol)
 params_after all None = None

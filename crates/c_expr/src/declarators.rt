@@ -16,7 +16,7 @@ ghost use Rattle.c_expr.specs.Gives.{Gives, GivesList, AsBefore, left, left_by_l
 ghost use Rattle.c_expr.specs.Forms.{form_of};
 
 use crate::fault::ExprFault;
-use crate::inner::{expression_in_front, declarator_in_front};
+use crate::inner::{declarator_in_front, expression_in_front};
 use crate::nodes::{Read, ReadList, keep, list_of, node, part};
 use crate::operators::ASSIGNMENT_LEVEL;
 use crate::params::read_param_list;
@@ -124,11 +124,7 @@ fn begins_params(names: &TypeNames, tokens: &[Token]) -> bool
 }
 
 /// What follows a parenthesis that begins no parameters.
-fn after_nesting<'a>(
-    form: Form,
-    names: &TypeNames,
-    tokens: &'a [Token],
-) -> Option<&'a [Token]>
+fn after_nesting<'a>(form: Form, names: &TypeNames, tokens: &'a [Token]) -> Option<&'a [Token]>
     ensures found { option_map (λ rest. symbols_of rest.now) result ≡ steps.after_nesting (form_of form) names.now.now (symbols_of tokens.now) }
     ensures shorter { IfSome result (λ rest. length rest.now + 1 ≡ length tokens.now) }
 {
@@ -392,5 +388,14 @@ pub fn declarator_at_front<'a>(
         return Err(ExprFault::NoTree);
     }
     let (pointers, rest) = split_pointers(tokens);
-    read_direct(arena, form, place_of(tokens), pointers, rest, names, room, next)
+    read_direct(
+        arena,
+        form,
+        place_of(tokens),
+        pointers,
+        rest,
+        names,
+        room,
+        next,
+    )
 }

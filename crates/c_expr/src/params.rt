@@ -12,7 +12,7 @@ ghost use Rattle.c_grammar.specs.Nonterminal.{Parameter};
 ghost use Rattle.c_grammar.specs.Found.{made};
 ghost use Rattle.c_grammar.specs.Reading.{read};
 ghost use Rattle.c_expr.specs.Gives.{Gives, AsBefore, left, Spends};
-ghost use Rattle.c_expr.specs.ParamLists.{GivesParams, left_by_params};
+ghost use Rattle.c_expr.specs.ParamLists.{GivesParams, left_by_params, done_by_params};
 
 use crate::declarators::{Form, begins_declarator};
 use crate::fault::ExprFault;
@@ -22,7 +22,10 @@ use crate::specifier_words::SpecifierPlace;
 use crate::specifiers::specifiers_in_front;
 use crate::symbols::{after_keyword, after_sign};
 use crate::type_names::TypeNames;
-use c_tree::{Arena, Declarator, Keyword, Kind, Part, Place, Punctuator, Specifier, Token, TokenKind, Tree, Trees};
+use c_tree::{
+    Arena, Declarator, Keyword, Kind, Part, Place, Punctuator, Specifier, Token, TokenKind, Tree,
+    Trees,
+};
 use std::alloc::AllocError;
 
 /// Parameters that were read, with their parenthesis.
@@ -152,7 +155,14 @@ pub fn param_at_front<'a>(
     if room == 0 {
         return Err(ExprFault::NoTree);
     }
-    let specs = specifiers_in_front(arena, SpecifierPlace::InParam, tokens, names, room - 1, next)?;
+    let specs = specifiers_in_front(
+        arena,
+        SpecifierPlace::InParam,
+        tokens,
+        names,
+        room - 1,
+        next,
+    )?;
     if !begins_declarator(Form::Either, specs.rest) {
         return plain_of(arena, specs, room, next);
     }
@@ -173,7 +183,7 @@ fn read_params<'a>(
     requires ids { next.old + 16 * length tokens.now < 2 ^ 32 }
     ensures found { GivesParams result (steps.read_params (read (room - 1)) names.old.now (length (symbols_of tokens.now)) (symbols_of tokens.now)) }
     ensures saved { names.new.saved ≡ names.old.saved }
-    ensures ids { Spends next.old next.new (length tokens.now) (left_by_params result) }
+    ensures ids { (next.old ≤ next.new) × (next.new + 16 * left_by_params result + 16 * done_by_params result ≤ next.old + 16 * length tokens.now) }
 {
     let mut all = Vec::new(arena);
     let mut highest = 0;

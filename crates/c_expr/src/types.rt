@@ -77,7 +77,14 @@ pub fn type_name_at_front<'a>(
     if room == 0 {
         return Err(ExprFault::NoTree);
     }
-    let specs = specifiers_in_front(arena, SpecifierPlace::InTypeName, tokens, names, room - 1, next)?;
+    let specs = specifiers_in_front(
+        arena,
+        SpecifierPlace::InTypeName,
+        tokens,
+        names,
+        room - 1,
+        next,
+    )?;
     if !begins_declarator(Form::Abstract, specs.rest) {
         return plain_of(arena, specs, room, next);
     }

@@ -1,10 +1,8 @@
-use Rattle.std.proofs.Common.{◌≡◌, ◌+◌, ◌-◌, ◌<◌, ◌∙◌, sym, arith}
+use Rattle.std.proofs.Common.{◌-◌, ◌<◌, ◌∙◌, sym, arith}
 use Rattle.c_tree.specs.Symbol.{symbols_of}
-use Rattle.c_tree.specs.Forget.{view}
 use Rattle.c_grammar.specs.Reading.{read}
-use Rattle.c_expr.proofs.Items.{height_pushed, count_pushed}
-use Rattle.c_expr.proofs.ListSteps.{arguments-next, path-next, suffixes-next, params-next}
-use Rattle.c_expr.proofs.Steps.{read_binary-fails}
+use Rattle.c_expr.proofs.Items.{height_pushed}
+use Rattle.c_expr.proofs.ListSteps.{params-next}
 use Rattle.c_expr.proofs.params.read_params.Goals as goal
 
 pub loop-fuel-preserved : goal.loop-fuel-preserved
@@ -13,7 +11,7 @@ loop-fuel-preserved c =
     let item = c.in_ok-param.param in
     let highest = height_pushed c.loop-fuel.all.items c.push.new.self.items item.tree c.in_ok-push.ensures.items in
     record {
-      found = params-next (read (c.args.room - 1)) c.loop-fuel.names.now c.param_in_front.new.names.now c.declare_param.new.names.now c.loop-fuel.fuel (symbols_of c.loop-fuel.rest.now) (symbols_of item.rest.now) (symbols_of c.in-Some.after.now) c.loop-fuel.all.items c.push.new.self.items item.tree _ positive c.in_ok-param.ensures.found.0 (sym c.in-Some.ensures.found) (sym c.in_default.ensures.found) c.in_ok-param.ensures.names.0 c.in_ok-declare_param.ensures.now c.in_ok-push.ensures.items c.loop-fuel.invariant.found;
+      found = params-next (read (c.args.room - 1)) c.loop-fuel.names.now c.param_in_front.new.names.now c.declare_param.new.names.now c.loop-fuel.fuel (symbols_of c.loop-fuel.rest.now) (symbols_of item.rest.now) (symbols_of c.in-Some.after.now) c.loop-fuel.all.items c.push.new.self.items item.tree _ positive c.in_ok-param.ensures.found.0 (sym c.in-Some.ensures.found) (sym c.in_default-after_sign-2.ensures.found) c.in_ok-param.ensures.names.0 c.in_ok-declare_param.ensures.now c.in_ok-push.ensures.items c.loop-fuel.invariant.found;
       height = omega (arith, c.in_ok-param.ensures.found.1, highest);
       saved = c.in_ok-declare_param.ensures.saved ∙ c.in_ok-param.ensures.names.1 ∙ c.loop-fuel.invariant.saved;
       rises = omega (arith, c.in_ok-param.ensures.ids.0, c.loop-fuel.invariant.rises);
