@@ -1,8 +1,8 @@
 //! Reads declarators (ISO 9899:1990, 6.5.4) and abstract ones (6.5.5).
 
-ghost use Rattle.std.specs.Prelude.{◌≡◌, ◌+◌, ◌-◌, ◌*◌, ◌<◌, ◌≤◌, ◌^◌, false, length, IfSome};
+ghost use Rattle.std.specs.Prelude.{◌≡◌, ◌+◌, ◌-◌, ◌*◌, ◌<◌, ◌≤◌, ◌^◌, List, false, length, IfSome};
 ghost use Rattle.std.specs.Option.{option_map};
-ghost use Rattle.c_tree.specs.Symbol.{symbol_of, symbols_of};
+ghost use Rattle.c_tree.specs.Symbol.{Sign, symbol_of, symbols_of};
 ghost use Rattle.c_tree.specs.Syntax as kinds;
 ghost use Rattle.c_tree.specs.Height.{height_of, height_in};
 ghost use Rattle.c_tree.specs.Forget.{view, list_view};
@@ -12,6 +12,11 @@ ghost use Rattle.c_grammar.specs.DeclaratorSteps as steps;
 ghost use Rattle.c_grammar.specs.Nonterminal.{may_name, may_omit, DeclaratorIn};
 ghost use Rattle.c_grammar.specs.Found.{made};
 ghost use Rattle.c_grammar.specs.Reading.{read};
+ghost use Rattle.c_tree.specs.declared.punctuator.Punctuator.TheVariants as marks;
+ghost use Rattle.c_tree.specs.declared.token.Token.{Token};
+ghost use Rattle.c_tree.specs.Node as nodes;
+ghost use Rattle.c_tree.specs.Views.{node_of, nodes_of};
+ghost use Rattle.c_expr.specs.Standing.{Makes, Over, OverRow, Passes, Keeps, KeepsAll, IsFirst};
 ghost use Rattle.c_expr.specs.Gives.{Gives, GivesList, AsBefore, left, left_by_list, count_of, done, count_in, Spends};
 ghost use Rattle.c_expr.specs.Forms.{form_of};
 
@@ -93,6 +98,7 @@ pub(crate) fn begins_declarator(form: Form, tokens: &[Token]) -> bool
 fn split_pointers<'a>(tokens: &'a [Token]) -> (&'a [Token], &'a [Token])
     ensures pointers { symbols_of result.0.now ≡ steps.pointers_of (symbols_of tokens.now) }
     ensures rest { symbols_of result.1.now ≡ steps.after_pointers (symbols_of tokens.now) }
+    ensures kept { KeepsAll result.0.now tokens.now result.1.now }
     ensures length { length result.0.now + length result.1.now ≡ length tokens.now }
 {
     match after_sign(Punctuator::Star, tokens) {
@@ -104,6 +110,7 @@ fn split_pointers<'a>(tokens: &'a [Token]) -> (&'a [Token], &'a [Token])
 /// The name that a declarator of this form has in front, and what follows it.
 fn take_name<'a>(form: Form, tokens: &'a [Token]) -> Option<(&'a Token, &'a [Token])>
     ensures found { option_map (λ found. (symbol_of found.0.now, symbols_of found.1.now)) result ≡ steps.take_name (form_of form) (symbols_of tokens.now) }
+    ensures kept { IfSome result (λ found. Keeps found.0.now tokens.now found.1.now) }
     ensures shorter { IfSome result (λ found. length found.1.now + 1 ≡ length tokens.now) }
 {
     if may_name(form) {
@@ -126,6 +133,7 @@ fn begins_params(names: &TypeNames, tokens: &[Token]) -> bool
 /// What follows a parenthesis that begins no parameters.
 fn after_nesting<'a>(form: Form, names: &TypeNames, tokens: &'a [Token]) -> Option<&'a [Token]>
     ensures found { option_map (λ rest. symbols_of rest.now) result ≡ steps.after_nesting (form_of form) names.now.now (symbols_of tokens.now) }
+    ensures passes { IfSome result (λ rest. Passes (Sign marks.OpenParen) tokens.now rest.now) }
     ensures shorter { IfSome result (λ rest. length rest.now + 1 ≡ length tokens.now) }
 {
     let inside = after_sign(Punctuator::OpenParen, tokens)?;
@@ -157,6 +165,7 @@ fn read_bound<'a>(
     requires positive { 0 < room }
     requires ids { next.old + 16 * length tokens.now < 2 ^ 32 }
     ensures found { Gives result (steps.read_bound (read (room - 1)) names.old.now (symbols_of words.now) (symbols_of tokens.now)) }
+    ensures stands { (ts us : List Token) → IsFirst first ts → Passes (Sign marks.OpenBracket) ts us → KeepsAll words.now us tokens.now → Over result next.old next.new ts }
     ensures names { AsBefore names.new names.old }
     ensures ids { Spends next.old next.new (length tokens.now) (left result) }
 {
@@ -186,6 +195,7 @@ fn read_suffix<'a>(
     requires positive { 0 < room }
     requires ids { next.old + 16 * length tokens.now < 2 ^ 32 }
     ensures found { Gives result (steps.read_suffix (read (room - 1)) names.old.now (symbols_of tokens.now)) }
+    ensures stands { Over result next.old next.new tokens.now }
     ensures names { AsBefore names.new names.old }
     ensures ids { (next.old ≤ next.new) × (next.new + 16 * left result + 16 * done result ≤ next.old + 16 * length tokens.now) }
 {
@@ -212,6 +222,7 @@ fn read_suffixes<'a>(
     requires positive { 0 < room }
     requires ids { next.old + 16 * length tokens.now < 2 ^ 32 }
     ensures found { GivesList result (steps.read_suffixes (read (room - 1)) names.old.now (length (symbols_of tokens.now)) (symbols_of tokens.now)) }
+    ensures stands { OverRow result next.old next.new tokens.now }
     ensures names { AsBefore names.new names.old }
     ensures ids { (next.old ≤ next.new) × (next.new + 16 * left_by_list result + 16 * count_of result ≤ next.old + 16 * length tokens.now) }
 {
@@ -250,6 +261,7 @@ fn read_named<'a>(
     requires positive { 0 < room }
     requires ids { next.old + 16 * length tokens.now + 1 < 2 ^ 32 }
     ensures found { Gives result (steps.read_named (read (room - 1)) room names.old.now (symbols_of pointers.now) (symbol_of name.now) (symbols_of tokens.now)) }
+    ensures stands { (ts us : List Token) → IsFirst first ts → KeepsAll pointers.now ts us → Keeps name.now us tokens.now → Over result next.old next.new ts }
     ensures names { AsBefore names.new names.old }
     ensures ids { (next.old ≤ next.new) × (next.new + 16 * left result ≤ next.old + 16 * length tokens.now + 1) }
 {
@@ -276,6 +288,7 @@ fn nested_of<'a>(
     requires suffixes { suffixes.height ≡ height_in (list_view suffixes.trees) }
     requires ids { next.old + 1 < 2 ^ 32 }
     ensures found { Gives result (made room (kinds.Declarator (kinds.Nested (symbols_of pointers.now) (view inner.entry.tree) (list_view suffixes.entry.trees))) (symbols_of suffixes.entry.rest.now)) }
+    ensures node { Makes result next.old next.new first (nodes.Declarator (nodes.Nested pointers.now (node_of inner.entry.tree) (nodes_of suffixes.entry.trees))) suffixes.entry.rest.now }
     ensures ids { (next.old ≤ next.new) × (next.new ≤ next.old + 1) × (left result ≤ length suffixes.entry.rest.now) }
 {
     let highest = inner.height.max(suffixes.height);
@@ -301,6 +314,7 @@ fn read_nested<'a>(
     requires positive { 0 < room }
     requires ids { next.old + 16 * length tokens.now < 2 ^ 32 }
     ensures found { Gives result (steps.read_nested (read (room - 1)) room (form_of form) names.old.now (symbols_of pointers.now) (symbols_of tokens.now)) }
+    ensures stands { (ts us : List Token) → IsFirst first ts → KeepsAll pointers.now ts us → Passes (Sign marks.OpenParen) us tokens.now → Over result next.old next.new ts }
     ensures names { AsBefore names.new names.old }
     ensures ids { Spends next.old next.new (length tokens.now) (left result) }
 {
@@ -326,6 +340,7 @@ fn read_unnamed<'a>(
     requires positive { 0 < room }
     requires ids { next.old + 16 * length tokens.now + 16 * length pointers.now < 2 ^ 32 }
     ensures found { Gives result (steps.read_unnamed (read (room - 1)) room (form_of form) names.old.now (symbols_of pointers.now) (symbols_of tokens.now)) }
+    ensures stands { (ts : List Token) → IsFirst first ts → KeepsAll pointers.now ts tokens.now → Over result next.old next.new ts }
     ensures names { AsBefore names.new names.old }
     ensures ids { (next.old ≤ next.new) × (next.new + 16 * left result ≤ next.old + 16 * length tokens.now + 16 * length pointers.now) }
 {
@@ -357,6 +372,7 @@ fn read_direct<'a>(
     requires positive { 0 < room }
     requires ids { next.old + 16 * length tokens.now + 16 * length pointers.now < 2 ^ 32 }
     ensures found { Gives result (steps.read_direct (read (room - 1)) room (form_of form) names.old.now (symbols_of pointers.now) (symbols_of tokens.now)) }
+    ensures stands { (ts : List Token) → IsFirst first ts → KeepsAll pointers.now ts tokens.now → Over result next.old next.new ts }
     ensures names { AsBefore names.new names.old }
     ensures ids { (next.old ≤ next.new) × (next.new + 16 * left result ≤ next.old + 16 * length tokens.now + 16 * length pointers.now) }
 {
@@ -381,6 +397,7 @@ pub fn declarator_at_front<'a>(
 ) -> Result<Read<'a>, ExprFault>
     requires ids { next.old + 16 * length tokens.now < 2 ^ 32 }
     ensures found { Gives result (read room (DeclaratorIn (form_of form)) names.old.now (symbols_of tokens.now)) }
+    ensures stands { Over result next.old next.new tokens.now }
     ensures names { AsBefore names.new names.old }
     ensures ids { Spends next.old next.new (length tokens.now) (left result) }
 {

@@ -1,8 +1,8 @@
 //! Reads parameters (ISO 9899:1990, 6.5.4.3). Each is in force behind its declarator, up to the end of its list.
 
-ghost use Rattle.std.specs.Prelude.{◌≡◌, ◌+◌, ◌-◌, ◌*◌, ◌<◌, ◌≤◌, ◌^◌, length, IfOk, IfSome, MatchResult};
+ghost use Rattle.std.specs.Prelude.{◌≡◌, ◌+◌, ◌-◌, ◌*◌, ◌<◌, ◌≤◌, ◌^◌, List, length, IfOk, IfSome, MatchResult};
 ghost use Rattle.std.specs.Option.{option_map};
-ghost use Rattle.c_tree.specs.Symbol.{symbols_of};
+ghost use Rattle.c_tree.specs.Symbol.{Sign, Reserved, symbols_of};
 ghost use Rattle.c_tree.specs.Syntax as kinds;
 ghost use Rattle.c_tree.specs.Height.{height_of};
 ghost use Rattle.c_tree.specs.Forget.{view, declarator_view};
@@ -11,6 +11,12 @@ ghost use Rattle.c_grammar.specs.DeclaratorSteps as steps;
 ghost use Rattle.c_grammar.specs.Nonterminal.{Parameter};
 ghost use Rattle.c_grammar.specs.Found.{made};
 ghost use Rattle.c_grammar.specs.Reading.{read};
+ghost use Rattle.c_tree.specs.declared.keyword.Keyword.TheVariants as words;
+ghost use Rattle.c_tree.specs.declared.punctuator.Punctuator.TheVariants as marks;
+ghost use Rattle.c_tree.specs.declared.token.Token.{Token};
+ghost use Rattle.c_tree.specs.Node as nodes;
+ghost use Rattle.c_tree.specs.Views.{node_of};
+ghost use Rattle.c_expr.specs.Standing.{Makes, Over, OverParams, Passes, IsFirst};
 ghost use Rattle.c_expr.specs.Gives.{Gives, AsBefore, left, Spends};
 ghost use Rattle.c_expr.specs.ParamLists.{GivesParams, left_by_params, done_by_params};
 
@@ -91,6 +97,7 @@ pub fn declare_param(names: &mut TypeNames, param: &Tree) -> Result<(), AllocErr
 /// What follows `void` and a parenthesis.
 fn after_void<'a>(tokens: &'a [Token]) -> Option<&'a [Token]>
     ensures found { option_map (λ rest. symbols_of rest.now) result ≡ steps.after_void (symbols_of tokens.now) }
+    ensures passes { IfSome result (λ rest. (behind : List Token) × Passes (Reserved words.Void) tokens.now behind × Passes (Sign marks.CloseParen) behind rest.now) }
     ensures shorter { IfSome result (λ rest. length rest.now + 2 ≡ length tokens.now) }
 {
     let rest = after_keyword(Keyword::Void, tokens)?;
@@ -107,6 +114,7 @@ fn plain_of<'a>(
     requires height { specs.height ≡ height_of (view specs.tree) }
     requires ids { next.old + 1 < 2 ^ 32 }
     ensures found { Gives result (made room (kinds.Specifier (kinds.Param (view specs.entry.tree) kinds.absent)) (symbols_of specs.entry.rest.now)) }
+    ensures node { Makes result next.old next.new specs.entry.tree.first (nodes.Specifier (nodes.Param (node_of specs.entry.tree) nodes.absent)) specs.entry.rest.now }
     ensures ids { (next.old ≤ next.new) × (next.new ≤ next.old + 1) × (left result ≤ length specs.entry.rest.now) }
 {
     let kind = Kind::Specifier(Specifier::Param {
@@ -128,6 +136,7 @@ fn declared_of<'a>(
     requires declarator { declarator.height ≡ height_of (view declarator.tree) }
     requires ids { next.old + 1 < 2 ^ 32 }
     ensures found { Gives result (made room (kinds.Specifier (kinds.Param (view specs.entry.tree) (kinds.present (view declarator.entry.tree)))) (symbols_of declarator.entry.rest.now)) }
+    ensures node { Makes result next.old next.new specs.entry.tree.first (nodes.Specifier (nodes.Param (node_of specs.entry.tree) (nodes.present (node_of declarator.entry.tree)))) declarator.entry.rest.now }
     ensures ids { (next.old ≤ next.new) × (next.new ≤ next.old + 1) × (left result ≤ length declarator.entry.rest.now) }
 {
     let highest = specs.height.max(declarator.height);
@@ -149,6 +158,7 @@ pub fn param_at_front<'a>(
 ) -> Result<Read<'a>, ExprFault>
     requires ids { next.old + 16 * length tokens.now < 2 ^ 32 }
     ensures found { Gives result (read room Parameter names.old.now (symbols_of tokens.now)) }
+    ensures stands { Over result next.old next.new tokens.now }
     ensures names { AsBefore names.new names.old }
     ensures ids { Spends next.old next.new (length tokens.now) (left result) }
 {
@@ -182,6 +192,7 @@ fn read_params<'a>(
     requires positive { 0 < room }
     requires ids { next.old + 16 * length tokens.now < 2 ^ 32 }
     ensures found { GivesParams result (steps.read_params (read (room - 1)) names.old.now (length (symbols_of tokens.now)) (symbols_of tokens.now)) }
+    ensures stands { OverParams result next.old next.new tokens.now }
     ensures saved { names.new.saved ≡ names.old.saved }
     ensures ids { (next.old ≤ next.new) × (next.new + 16 * left_by_params result + 16 * done_by_params result ≤ next.old + 16 * length tokens.now) }
 {
@@ -234,6 +245,7 @@ pub(crate) fn read_param_list<'a>(
     requires positive { 0 < room }
     requires ids { next.old + 16 * length tokens.now < 2 ^ 32 }
     ensures found { Gives result (steps.read_param_list (read (room - 1)) names.old.now (symbols_of tokens.now)) }
+    ensures stands { (ts : List Token) → IsFirst first ts → Passes (Sign marks.OpenParen) ts tokens.now → Over result next.old next.new ts }
     ensures names { AsBefore names.new names.old }
     ensures ids { Spends next.old next.new (length tokens.now) (left result) }
 {

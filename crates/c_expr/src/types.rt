@@ -8,6 +8,9 @@ ghost use Rattle.c_tree.specs.Forget.{view};
 ghost use Rattle.c_grammar.specs.Nonterminal.{NameOfType};
 ghost use Rattle.c_grammar.specs.Found.{made};
 ghost use Rattle.c_grammar.specs.Reading.{read};
+ghost use Rattle.c_tree.specs.Node as nodes;
+ghost use Rattle.c_tree.specs.Views.{node_of};
+ghost use Rattle.c_expr.specs.Standing.{Makes, Over};
 ghost use Rattle.c_expr.specs.Gives.{Gives, AsBefore, left, Spends};
 
 use crate::declarators::{Form, begins_declarator};
@@ -29,6 +32,7 @@ fn plain_of<'a>(
     requires height { specs.height ≡ height_of (view specs.tree) }
     requires ids { next.old + 1 < 2 ^ 32 }
     ensures found { Gives result (made room (kinds.Specifier (kinds.TypeName (view specs.entry.tree) kinds.absent)) (symbols_of specs.entry.rest.now)) }
+    ensures node { Makes result next.old next.new specs.entry.tree.first (nodes.Specifier (nodes.TypeName (node_of specs.entry.tree) nodes.absent)) specs.entry.rest.now }
     ensures ids { (next.old ≤ next.new) × (next.new ≤ next.old + 1) × (left result ≤ length specs.entry.rest.now) }
 {
     let kind = Kind::Specifier(Specifier::TypeName {
@@ -50,6 +54,7 @@ fn declared_of<'a>(
     requires declarator { declarator.height ≡ height_of (view declarator.tree) }
     requires ids { next.old + 1 < 2 ^ 32 }
     ensures found { Gives result (made room (kinds.Specifier (kinds.TypeName (view specs.entry.tree) (kinds.present (view declarator.entry.tree)))) (symbols_of declarator.entry.rest.now)) }
+    ensures node { Makes result next.old next.new specs.entry.tree.first (nodes.Specifier (nodes.TypeName (node_of specs.entry.tree) (nodes.present (node_of declarator.entry.tree)))) declarator.entry.rest.now }
     ensures ids { (next.old ≤ next.new) × (next.new ≤ next.old + 1) × (left result ≤ length declarator.entry.rest.now) }
 {
     let highest = specs.height.max(declarator.height);
@@ -71,6 +76,7 @@ pub fn type_name_at_front<'a>(
 ) -> Result<Read<'a>, ExprFault>
     requires ids { next.old + 16 * length tokens.now < 2 ^ 32 }
     ensures found { Gives result (read room NameOfType names.old.now (symbols_of tokens.now)) }
+    ensures stands { Over result next.old next.new tokens.now }
     ensures names { AsBefore names.new names.old }
     ensures ids { Spends next.old next.new (length tokens.now) (left result) }
 {
