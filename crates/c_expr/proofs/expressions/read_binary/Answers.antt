@@ -1,4 +1,4 @@
-use Rattle.std.proofs.Common.{◌≡◌, ℕ, ◌+◌, ◌-◌, ◌<◌, List, Option, None, Some, Result, Ok, Err, IsErrAnd, ap, ◌∙◌, sym}
+use Rattle.std.proofs.Common.{◌≡◌, ℕ, ◌+◌, ◌-◌, ◌<◌, List, None, Some, Result, Ok, Err, IsErrAnd, ap, ◌∙◌, sym}
 use Rattle.c_tree.specs.Symbol.{Symbol, symbols_of}
 use Rattle.c_tree.specs.Syntax.{Syntax}
 use Rattle.c_tree.specs.Forget.{view}
