@@ -15,12 +15,17 @@ ghost use Rattle.c_expr.specs.Gives.{Gives, AsBefore, left, Spends};
 use crate::fault::ExprFault;
 use crate::inner::{expression_in_front, type_name_in_front};
 use crate::nodes::{Read, keep, node};
-use crate::operators::{ASSIGNMENT_LEVEL, CAST_LEVEL, COMMA_LEVEL, CONDITIONAL_LEVEL, UNARY_LEVEL, grade, operand_level, take_assign, take_binary, take_prefix};
+use crate::operators::{
+    ASSIGNMENT_LEVEL, CAST_LEVEL, COMMA_LEVEL, CONDITIONAL_LEVEL, UNARY_LEVEL, grade,
+    operand_level, take_assign, take_binary, take_prefix,
+};
 use crate::postfix::read_postfix;
 use crate::specifier_words::begins_specifiers;
 use crate::symbols::{after_keyword, after_sign, place_of};
 use crate::type_names::TypeNames;
-use c_tree::{Arena, AssignOp, BinaryOp, Keyword, Kind, Operation, Place, Punctuator, Token, UnaryOp};
+use c_tree::{
+    Arena, AssignOp, BinaryOp, Keyword, Kind, Operation, Place, Punctuator, Token, UnaryOp,
+};
 
 /// What follows a parenthesis behind which a type name begins.
 fn after_type_paren<'a>(names: &TypeNames, tokens: &'a [Token]) -> Option<&'a [Token]>
@@ -150,7 +155,14 @@ fn conditional_of<'a>(
         then: keep(arena, then.tree)?,
         otherwise: keep(arena, otherwise.tree)?,
     });
-    node(kind, condition.tree.first, highest, otherwise.rest, room, next)
+    node(
+        kind,
+        condition.tree.first,
+        highest,
+        otherwise.rest,
+        room,
+        next,
+    )
 }
 
 /// The rest of `sizeof unary` or `sizeof (type name)` (6.3.3.4); `first` is the place of `sizeof`.
@@ -170,7 +182,15 @@ fn read_sizeof<'a>(
 {
     let Some(inside) = after_type_paren(names, tokens) else {
         let operand = expression_in_front(arena, UNARY_LEVEL, tokens, names, room - 1, next)?;
-        return unary_of(arena, UnaryOp::Sizeof, first, operand, operand.rest, room, next);
+        return unary_of(
+            arena,
+            UnaryOp::Sizeof,
+            first,
+            operand,
+            operand.rest,
+            room,
+            next,
+        );
     };
     let of = type_name_in_front(arena, inside, names, room - 1, next)?;
     let Some(rest) = after_sign(Punctuator::CloseParen, of.rest) else {

@@ -33,7 +33,14 @@ fn read_strings<'a>(
     ensures ids { Spends next.old next.new (length tokens.now) (left result) }
 {
     let (literals, rest) = split_run(Run::Strings, tokens);
-    node(Kind::Primary(Primary::StrConst { literals }), first, 0, rest, room, next)
+    node(
+        Kind::Primary(Primary::StrConst { literals }),
+        first,
+        0,
+        rest,
+        room,
+        next,
+    )
 }
 
 /// `__builtin_va_arg` of these.
@@ -104,7 +111,13 @@ fn read_designator<'a>(
         let Some((member, rest)) = take_word(rest) else {
             return Err(ExprFault::NoTree);
         };
-        return Ok(part(Kind::Part(Part::MemberDesignator { member }), first, 0, rest, next));
+        return Ok(part(
+            Kind::Part(Part::MemberDesignator { member }),
+            first,
+            0,
+            rest,
+            next,
+        ));
     }
     let Some(inside) = after_sign(Punctuator::OpenBracket, tokens) else {
         return Err(ExprFault::NoTree);
@@ -265,7 +278,14 @@ pub(crate) fn read_primary<'a>(
                     if names.is_type(front.name) {
                         return Err(ExprFault::NoTree);
                     }
-                    node(Kind::Primary(Primary::Ident { name: front }), first, 0, rest, room, next)
+                    node(
+                        Kind::Primary(Primary::Ident { name: front }),
+                        first,
+                        0,
+                        rest,
+                        room,
+                        next,
+                    )
                 }
                 TokenKind::Int { .. } | TokenKind::Float(_) | TokenKind::Char { .. } => {
                     let kind = Kind::Primary(Primary::Constant { token: front });

@@ -1,12 +1,9 @@
-use Rattle.std.proofs.Common.{◌≡◌, ◌+◌, ◌-◌, ◌*◌, ◌≤◌, Some, length}
+use Rattle.std.proofs.Common.{◌≡◌, ◌+◌, ◌-◌, ◌*◌, ◌≤◌, length}
 use Rattle.c_tree.specs.Symbol.{symbols_of}
-use Rattle.c_tree.specs.Height.{height_of, height_in}
-use Rattle.c_tree.specs.Forget.{view, view_all}
+use Rattle.c_tree.specs.Height.{height_of}
+use Rattle.c_tree.specs.Forget.{view}
 use Rattle.c_grammar.specs.Reading.{read}
-use Rattle.c_grammar.specs.ExpressionSteps.{read_postfix_operators, read_postfix, read_more_arguments, read_path, read_chain, read_binary}
-use Rattle.c_grammar.specs.DeclaratorSteps.{read_suffixes, read_params}
-use Rattle.c_expr.specs.Gives.{ending_with, count_in}
-use Rattle.c_expr.specs.ParamLists.{params_after}
+use Rattle.c_grammar.specs.ExpressionSteps.{read_chain}
 use Rattle.c_expr.proofs.expressions.read_chain.Given as goal
 
 abbrev pub invariant-loop-op : goal.invariant-loop-op

@@ -1,10 +1,8 @@
-use Rattle.std.proofs.Common.{◌≡◌, ◌+◌, ◌-◌, ◌<◌, ◌∙◌, sym, arith}
+use Rattle.std.proofs.Common.{◌-◌, ◌<◌, ◌∙◌, sym, arith}
 use Rattle.c_tree.specs.Symbol.{symbols_of}
-use Rattle.c_tree.specs.Forget.{view}
 use Rattle.c_grammar.specs.Reading.{read}
-use Rattle.c_expr.proofs.Items.{height_pushed, count_pushed}
-use Rattle.c_expr.proofs.ListSteps.{arguments-next, path-next, suffixes-next, params-next}
-use Rattle.c_expr.proofs.Steps.{read_binary-fails}
+use Rattle.c_expr.proofs.Items.{height_pushed}
+use Rattle.c_expr.proofs.ListSteps.{arguments-next}
 use Rattle.c_expr.proofs.postfix.read_more_arguments.Goals as goal
 
 pub loop-fuel-preserved : goal.loop-fuel-preserved
