@@ -1,8 +1,8 @@
 //! Reads expressions from their operators inward (ISO 9899:1990, 6.3.3 to 6.3.17).
 
-ghost use Rattle.std.specs.Prelude.{◌≡◌, ◌+◌, ◌-◌, ◌*◌, ◌<◌, ◌≤◌, ◌^◌, length, IfSome};
+ghost use Rattle.std.specs.Prelude.{◌≡◌, ◌+◌, ◌-◌, ◌*◌, ◌<◌, ◌≤◌, ◌^◌, List, length, IfSome};
 ghost use Rattle.std.specs.Option.{option_map};
-ghost use Rattle.c_tree.specs.Symbol.{symbols_of};
+ghost use Rattle.c_tree.specs.Symbol.{Sign, Reserved, symbols_of};
 ghost use Rattle.c_tree.specs.Syntax as kinds;
 ghost use Rattle.c_tree.specs.Height.{height_of};
 ghost use Rattle.c_tree.specs.Forget.{view};
@@ -10,6 +10,12 @@ ghost use Rattle.c_grammar.specs.ExpressionSteps as steps;
 ghost use Rattle.c_grammar.specs.Nonterminal.{Expression};
 ghost use Rattle.c_grammar.specs.Found.{made};
 ghost use Rattle.c_grammar.specs.Reading.{read};
+ghost use Rattle.c_tree.specs.declared.keyword.Keyword.TheVariants as words;
+ghost use Rattle.c_tree.specs.declared.punctuator.Punctuator.TheVariants as marks;
+ghost use Rattle.c_tree.specs.declared.token.Token.{Token};
+ghost use Rattle.c_tree.specs.Node as nodes;
+ghost use Rattle.c_tree.specs.Views.{node_of};
+ghost use Rattle.c_expr.specs.Standing.{Makes, Over, OverBehind, Passes, IsFirst};
 ghost use Rattle.c_expr.specs.Gives.{Gives, AsBefore, left, Spends};
 
 use crate::fault::ExprFault;
@@ -30,6 +36,7 @@ use c_tree::{
 /// What follows a parenthesis behind which a type name begins.
 fn after_type_paren<'a>(names: &TypeNames, tokens: &'a [Token]) -> Option<&'a [Token]>
     ensures found { option_map (λ rest. symbols_of rest.now) result ≡ steps.after_type_paren names.now.now (symbols_of tokens.now) }
+    ensures passes { IfSome result (λ rest. Passes (Sign marks.OpenParen) tokens.now rest.now) }
     ensures shorter { IfSome result (λ rest. length rest.now + 1 ≡ length tokens.now) }
 {
     let inside = after_sign(Punctuator::OpenParen, tokens)?;
@@ -53,6 +60,7 @@ pub(crate) fn unary_of<'a>(
     requires height { operand.height ≡ height_of (view operand.tree) }
     requires ids { next.old + 1 < 2 ^ 32 }
     ensures found { Gives result (made room (kinds.Operation (kinds.Unary op (view operand.entry.tree))) (symbols_of rest.now)) }
+    ensures node { Makes result next.old next.new first (nodes.Operation (nodes.Unary op (node_of operand.entry.tree))) rest.now }
     ensures ids { (next.old ≤ next.new) × (next.new ≤ next.old + 1) × (left result ≤ length rest.now) }
 {
     let kind = Kind::Operation(Operation::Unary {
@@ -75,6 +83,7 @@ fn cast_of<'a>(
     requires operand { operand.height ≡ height_of (view operand.tree) }
     requires ids { next.old + 1 < 2 ^ 32 }
     ensures found { Gives result (made room (kinds.Operation (kinds.Cast (view to.entry.tree) (view operand.entry.tree))) (symbols_of operand.entry.rest.now)) }
+    ensures node { Makes result next.old next.new first (nodes.Operation (nodes.Cast (node_of to.entry.tree) (node_of operand.entry.tree))) operand.entry.rest.now }
     ensures ids { (next.old ≤ next.new) × (next.new ≤ next.old + 1) × (left result ≤ length operand.entry.rest.now) }
 {
     let highest = to.height.max(operand.height);
@@ -98,6 +107,7 @@ fn binary_of<'a>(
     requires right { right.height ≡ height_of (view right.tree) }
     requires ids { next.old + 1 < 2 ^ 32 }
     ensures found { Gives result (made room (kinds.Operation (kinds.Binary op (view before.entry.tree) (view right.entry.tree))) (symbols_of right.entry.rest.now)) }
+    ensures node { Makes result next.old next.new before.entry.tree.first (nodes.Operation (nodes.Binary op (node_of before.entry.tree) (node_of right.entry.tree))) right.entry.rest.now }
     ensures ids { (next.old ≤ next.new) × (next.new ≤ next.old + 1) × (left result ≤ length right.entry.rest.now) }
 {
     let highest = before.height.max(right.height);
@@ -122,6 +132,7 @@ fn assignment_of<'a>(
     requires value { value.height ≡ height_of (view value.tree) }
     requires ids { next.old + 1 < 2 ^ 32 }
     ensures found { Gives result (made room (kinds.Operation (kinds.Assign op (view to.entry.tree) (view value.entry.tree))) (symbols_of value.entry.rest.now)) }
+    ensures node { Makes result next.old next.new to.entry.tree.first (nodes.Operation (nodes.Assign op (node_of to.entry.tree) (node_of value.entry.tree))) value.entry.rest.now }
     ensures ids { (next.old ≤ next.new) × (next.new ≤ next.old + 1) × (left result ≤ length value.entry.rest.now) }
 {
     let highest = to.height.max(value.height);
@@ -147,6 +158,7 @@ fn conditional_of<'a>(
     requires no { otherwise.height ≡ height_of (view otherwise.tree) }
     requires ids { next.old + 1 < 2 ^ 32 }
     ensures found { Gives result (made room (kinds.Operation (kinds.Cond (view condition.entry.tree) (view then.entry.tree) (view otherwise.entry.tree))) (symbols_of otherwise.entry.rest.now)) }
+    ensures node { Makes result next.old next.new condition.entry.tree.first (nodes.Operation (nodes.Cond (node_of condition.entry.tree) (node_of then.entry.tree) (node_of otherwise.entry.tree))) otherwise.entry.rest.now }
     ensures ids { (next.old ≤ next.new) × (next.new ≤ next.old + 1) × (left result ≤ length otherwise.entry.rest.now) }
 {
     let highest = condition.height.max(then.height).max(otherwise.height);
@@ -177,6 +189,7 @@ fn read_sizeof<'a>(
     requires positive { 0 < room }
     requires ids { next.old + 16 * length tokens.now + 1 < 2 ^ 32 }
     ensures found { Gives result (steps.read_sizeof (read (room - 1)) room names.old.now (symbols_of tokens.now)) }
+    ensures stands { (ts : List Token) → IsFirst first ts → Passes (Reserved words.Sizeof) ts tokens.now → Over result next.old next.new ts }
     ensures names { AsBefore names.new names.old }
     ensures ids { (next.old ≤ next.new) × (next.new + 16 * left result ≤ next.old + 16 * length tokens.now + 1) }
 {
@@ -213,6 +226,7 @@ fn read_unary<'a>(
     requires positive { 0 < room }
     requires ids { next.old + 16 * length tokens.now < 2 ^ 32 }
     ensures found { Gives result (steps.read_unary (read (room - 1)) room names.old.now (symbols_of tokens.now)) }
+    ensures stands { Over result next.old next.new tokens.now }
     ensures names { AsBefore names.new names.old }
     ensures ids { Spends next.old next.new (length tokens.now) (left result) }
 {
@@ -238,6 +252,7 @@ fn read_cast<'a>(
     requires positive { 0 < room }
     requires ids { next.old + 16 * length tokens.now < 2 ^ 32 }
     ensures found { Gives result (steps.read_cast (read (room - 1)) room names.old.now (symbols_of tokens.now)) }
+    ensures stands { Over result next.old next.new tokens.now }
     ensures names { AsBefore names.new names.old }
     ensures ids { Spends next.old next.new (length tokens.now) (left result) }
 {
@@ -267,6 +282,7 @@ fn read_chain<'a>(
     requires height { first.height ≡ height_of (view first.tree) }
     requires ids { next.old + 16 * length first.rest.now < 2 ^ 32 }
     ensures found { Gives result (steps.read_chain (read (room - 1)) room names.old.now level room (view first.entry.tree) (symbols_of first.entry.rest.now)) }
+    ensures stands { OverBehind result (node_of first.entry.tree) next.old next.new first.entry.rest.now }
     ensures names { AsBefore names.new names.old }
     ensures ids { Spends next.old next.new (length first.entry.rest.now) (left result) }
 {
@@ -297,6 +313,7 @@ fn read_binary<'a>(
     requires levels { levels ≤ 10 }
     requires ids { next.old + 16 * length tokens.now < 2 ^ 32 }
     ensures found { Gives result (steps.read_binary (read (room - 1)) room names.old.now levels (symbols_of tokens.now)) }
+    ensures stands { Over result next.old next.new tokens.now }
     ensures names { AsBefore names.new names.old }
     ensures ids { Spends next.old next.new (length tokens.now) (left result) }
 {
@@ -318,6 +335,7 @@ fn read_conditional<'a>(
     requires positive { 0 < room }
     requires ids { next.old + 16 * length tokens.now < 2 ^ 32 }
     ensures found { Gives result (steps.read_conditional (read (room - 1)) room names.old.now (symbols_of tokens.now)) }
+    ensures stands { Over result next.old next.new tokens.now }
     ensures names { AsBefore names.new names.old }
     ensures ids { Spends next.old next.new (length tokens.now) (left result) }
 {
@@ -344,6 +362,7 @@ fn read_assignment<'a>(
     requires positive { 0 < room }
     requires ids { next.old + 16 * length tokens.now < 2 ^ 32 }
     ensures found { Gives result (steps.read_assignment (read (room - 1)) room names.old.now (symbols_of tokens.now)) }
+    ensures stands { Over result next.old next.new tokens.now }
     ensures names { AsBefore names.new names.old }
     ensures ids { Spends next.old next.new (length tokens.now) (left result) }
 {
@@ -369,6 +388,7 @@ fn read_commas<'a>(
     requires positive { 0 < room }
     requires ids { next.old + 16 * length tokens.now < 2 ^ 32 }
     ensures found { Gives result (steps.read_commas (read (room - 1)) room names.old.now (symbols_of tokens.now)) }
+    ensures stands { Over result next.old next.new tokens.now }
     ensures names { AsBefore names.new names.old }
     ensures ids { Spends next.old next.new (length tokens.now) (left result) }
 {
@@ -388,6 +408,7 @@ pub fn expression_at_front<'a>(
 ) -> Result<Read<'a>, ExprFault>
     requires ids { next.old + 16 * length tokens.now < 2 ^ 32 }
     ensures found { Gives result (read room (Expression level) names.old.now (symbols_of tokens.now)) }
+    ensures stands { Over result next.old next.new tokens.now }
     ensures names { AsBefore names.new names.old }
     ensures ids { Spends next.old next.new (length tokens.now) (left result) }
 {

@@ -1,7 +1,7 @@
 //! Reads postfix expressions (ISO 9899:1990, 6.3.2).
 
-ghost use Rattle.std.specs.Prelude.{◌≡◌, ◌+◌, ◌-◌, ◌*◌, ◌<◌, ◌≤◌, ◌^◌, length};
-ghost use Rattle.c_tree.specs.Symbol.{symbols_of};
+ghost use Rattle.std.specs.Prelude.{◌≡◌, ◌+◌, ◌-◌, ◌*◌, ◌<◌, ◌≤◌, ◌^◌, List, length};
+ghost use Rattle.c_tree.specs.Symbol.{Sign, symbols_of};
 ghost use Rattle.c_tree.specs.Syntax as kinds;
 ghost use Rattle.c_tree.specs.Height.{height_of, height_in};
 ghost use Rattle.c_tree.specs.Forget.{view, list_view};
@@ -9,6 +9,11 @@ ghost use Rattle.c_grammar.specs.Symbols.{begins};
 ghost use Rattle.c_grammar.specs.ExpressionSteps as steps;
 ghost use Rattle.c_grammar.specs.Found.{made};
 ghost use Rattle.c_grammar.specs.Reading.{read};
+ghost use Rattle.c_tree.specs.declared.punctuator.Punctuator.TheVariants as marks;
+ghost use Rattle.c_tree.specs.declared.token.Token.{Token};
+ghost use Rattle.c_tree.specs.Node as nodes;
+ghost use Rattle.c_tree.specs.Views.{node_of, nodes_of};
+ghost use Rattle.c_expr.specs.Standing.{Makes, Over, OverBehind, OverArguments, Passes, IsFirst};
 ghost use Rattle.c_expr.specs.Gives.{Gives, GivesList, AsBefore, left, left_by_list, Spends};
 ghost use Rattle.c_expr.specs.Postfixes.{indexed, called, member_of, arrow_of};
 
@@ -56,6 +61,7 @@ fn index_of<'a>(
     requires index { index.height ≡ height_of (view index.tree) }
     requires ids { next.old + 1 < 2 ^ 32 }
     ensures found { Gives result (made room (kinds.Operation (kinds.Index (view array.entry.tree) (view index.entry.tree))) (symbols_of rest.now)) }
+    ensures node { Makes result next.old next.new array.entry.tree.first (nodes.Operation (nodes.Index (node_of array.entry.tree) (node_of index.entry.tree))) rest.now }
     ensures ids { (next.old ≤ next.new) × (next.new ≤ next.old + 1) × (left result ≤ length rest.now) }
 {
     let highest = array.height.max(index.height);
@@ -79,6 +85,7 @@ fn call_of<'a>(
     requires arguments { arguments.height ≡ height_in (list_view arguments.trees) }
     requires ids { next.old + 1 < 2 ^ 32 }
     ensures found { Gives result (made room (kinds.Operation (kinds.Call (view callee.entry.tree) (list_view arguments.entry.trees))) (symbols_of arguments.entry.rest.now)) }
+    ensures node { Makes result next.old next.new callee.entry.tree.first (nodes.Operation (nodes.Call (node_of callee.entry.tree) open (nodes_of arguments.entry.trees))) arguments.entry.rest.now }
     ensures ids { (next.old ≤ next.new) × (next.new ≤ next.old + 1) × (left result ≤ length arguments.entry.rest.now) }
 {
     let highest = callee.height.max(arguments.height);
@@ -101,6 +108,7 @@ fn read_member<'a>(
     requires height { operand.height ≡ height_of (view operand.tree) }
     requires ids { next.old + 16 * length tokens.now < 2 ^ 32 }
     ensures found { Gives result (member_of room (view operand.entry.tree) (symbols_of tokens.now)) }
+    ensures stands { (before : List Token) → Passes (Sign marks.Dot) before tokens.now → OverBehind result (node_of operand.entry.tree) next.old next.new before }
     ensures ids { Spends next.old next.new (length tokens.now) (left result) }
 {
     let Some((member, rest)) = take_word(tokens) else {
@@ -124,6 +132,7 @@ fn read_arrow<'a>(
     requires height { operand.height ≡ height_of (view operand.tree) }
     requires ids { next.old + 16 * length tokens.now < 2 ^ 32 }
     ensures found { Gives result (arrow_of room (view operand.entry.tree) (symbols_of tokens.now)) }
+    ensures stands { (before : List Token) → Passes (Sign marks.Arrow) before tokens.now → OverBehind result (node_of operand.entry.tree) next.old next.new before }
     ensures ids { Spends next.old next.new (length tokens.now) (left result) }
 {
     let Some((member, rest)) = take_word(tokens) else {
@@ -148,6 +157,7 @@ fn read_more_arguments<'a>(
     requires positive { 0 < room }
     requires ids { next.old + 16 * length tokens.now < 2 ^ 32 }
     ensures found { GivesList result (steps.read_more_arguments (read (room - 1)) names.old.now (length (symbols_of tokens.now)) (symbols_of tokens.now)) }
+    ensures stands { OverArguments result next.old next.new tokens.now }
     ensures names { AsBefore names.new names.old }
     ensures ids { Spends next.old next.new (length tokens.now) (left_by_list result) }
 {
@@ -188,6 +198,7 @@ fn read_arguments<'a>(
     requires positive { 0 < room }
     requires ids { next.old + 16 * length tokens.now < 2 ^ 32 }
     ensures found { GivesList result (steps.read_arguments (read (room - 1)) names.old.now (symbols_of tokens.now)) }
+    ensures stands { OverArguments result next.old next.new tokens.now }
     ensures names { AsBefore names.new names.old }
     ensures ids { Spends next.old next.new (length tokens.now) (left_by_list result) }
 {
@@ -214,6 +225,7 @@ fn read_index<'a>(
     requires height { operand.height ≡ height_of (view operand.tree) }
     requires ids { next.old + 16 * length tokens.now < 2 ^ 32 }
     ensures found { Gives result (indexed (read (room - 1)) room names.old.now (view operand.entry.tree) (symbols_of tokens.now)) }
+    ensures stands { (before : List Token) → Passes (Sign marks.OpenBracket) before tokens.now → OverBehind result (node_of operand.entry.tree) next.old next.new before }
     ensures names { AsBefore names.new names.old }
     ensures ids { Spends next.old next.new (length tokens.now) (left result) }
 {
@@ -236,6 +248,7 @@ fn read_postfix_operator<'a>(
     requires height { operand.height ≡ height_of (view operand.tree) }
     requires ids { next.old + 16 * length operand.rest.now < 2 ^ 32 }
     ensures found { Gives result (steps.read_postfix_operator (read (room - 1)) room names.old.now (view operand.entry.tree) (symbols_of operand.entry.rest.now)) }
+    ensures stands { OverBehind result (node_of operand.entry.tree) next.old next.new operand.entry.rest.now }
     ensures names { AsBefore names.new names.old }
     ensures ids { Spends next.old next.new (length operand.entry.rest.now) (left result) }
 {
@@ -275,6 +288,7 @@ pub(crate) fn read_postfix<'a>(
     requires positive { 0 < room }
     requires ids { next.old + 16 * length tokens.now < 2 ^ 32 }
     ensures found { Gives result (steps.read_postfix (read (room - 1)) room names.old.now (symbols_of tokens.now)) }
+    ensures stands { Over result next.old next.new tokens.now }
     ensures names { AsBefore names.new names.old }
     ensures ids { Spends next.old next.new (length tokens.now) (left result) }
 {

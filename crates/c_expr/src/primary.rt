@@ -1,7 +1,7 @@
 //! Reads primary expressions (ISO 9899:1990, 6.3.1), and the built-in forms of GNU C.
 
-ghost use Rattle.std.specs.Prelude.{◌≡◌, ◌+◌, ◌-◌, ◌*◌, ◌<◌, ◌≤◌, ◌^◌, true, length};
-ghost use Rattle.c_tree.specs.Symbol.{symbol_of, symbols_of};
+ghost use Rattle.std.specs.Prelude.{◌≡◌, ◌+◌, ◌-◌, ◌*◌, ◌<◌, ◌≤◌, ◌^◌, List, true, length};
+ghost use Rattle.c_tree.specs.Symbol.{Sign, Reserved, symbol_of, symbols_of};
 ghost use Rattle.c_tree.specs.Syntax as kinds;
 ghost use Rattle.c_tree.specs.Height.{height_of, height_in};
 ghost use Rattle.c_tree.specs.Forget.{view, list_view};
@@ -9,7 +9,12 @@ ghost use Rattle.c_grammar.specs.Symbols.{begins, is_string, run_of, after_run};
 ghost use Rattle.c_grammar.specs.ExpressionSteps as steps;
 ghost use Rattle.c_grammar.specs.Found.{made};
 ghost use Rattle.c_grammar.specs.Reading.{read};
-ghost use Rattle.c_expr.specs.Standing.{Over};
+ghost use Rattle.c_tree.specs.declared.keyword.Keyword.TheVariants as words;
+ghost use Rattle.c_tree.specs.declared.punctuator.Punctuator.TheVariants as marks;
+ghost use Rattle.c_tree.specs.declared.token.Token.{Token};
+ghost use Rattle.c_tree.specs.Node as nodes;
+ghost use Rattle.c_tree.specs.Views.{node_of, nodes_of};
+ghost use Rattle.c_expr.specs.Standing.{Makes, Over, OverPath, Passes, IsFirst};
 ghost use Rattle.c_expr.specs.Gives.{Gives, GivesList, AsBefore, left, left_by_list, Spends};
 
 use crate::fault::ExprFault;
@@ -30,6 +35,7 @@ fn read_strings<'a>(
     requires string { begins is_string (symbols_of tokens.now) ≡ true }
     requires ids { next.old + 16 * length tokens.now < 2 ^ 32 }
     ensures found { Gives result (made room (kinds.Primary (kinds.StrConst (run_of is_string (symbols_of tokens.now)))) (after_run is_string (symbols_of tokens.now))) }
+    ensures stands { IsFirst first tokens.now → Over result next.old next.new tokens.now }
     ensures ids { Spends next.old next.new (length tokens.now) (left result) }
 {
     let (literals, rest) = split_run(Run::Strings, tokens);
@@ -57,6 +63,7 @@ fn va_arg_of<'a>(
     requires of { of.height ≡ height_of (view of.tree) }
     requires ids { next.old + 1 < 2 ^ 32 }
     ensures found { Gives result (made room (kinds.Primary (kinds.VaArg (view list.entry.tree) (view of.entry.tree))) (symbols_of rest.now)) }
+    ensures node { Makes result next.old next.new first (nodes.Primary (nodes.VaArg (node_of list.entry.tree) (node_of of.entry.tree))) rest.now }
     ensures ids { (next.old ≤ next.new) × (next.new ≤ next.old + 1) × (left result ≤ length rest.now) }
 {
     let highest = list.height.max(of.height);
@@ -81,6 +88,7 @@ fn offsetof_of<'a>(
     requires path { path.height ≡ height_in (list_view path.trees) }
     requires ids { next.old + 1 < 2 ^ 32 }
     ensures found { Gives result (made room (kinds.Primary (kinds.Offsetof (view of.entry.tree) (symbol_of member.now) (list_view path.entry.trees))) (symbols_of path.entry.rest.now)) }
+    ensures node { Makes result next.old next.new first (nodes.Primary (nodes.Offsetof (node_of of.entry.tree) member.now (nodes_of path.entry.trees))) path.entry.rest.now }
     ensures ids { (next.old ≤ next.new) × (next.new ≤ next.old + 1) × (left result ≤ length path.entry.rest.now) }
 {
     let highest = of.height.max(path.height);
@@ -103,6 +111,7 @@ fn read_designator<'a>(
     requires positive { 0 < room }
     requires ids { next.old + 16 * length tokens.now < 2 ^ 32 }
     ensures found { Gives result (steps.read_designator (read (room - 1)) names.old.now (symbols_of tokens.now)) }
+    ensures stands { Over result next.old next.new tokens.now }
     ensures names { AsBefore names.new names.old }
     ensures ids { Spends next.old next.new (length tokens.now) (left result) }
 {
@@ -144,6 +153,7 @@ fn read_path<'a>(
     requires positive { 0 < room }
     requires ids { next.old + 16 * length tokens.now < 2 ^ 32 }
     ensures found { GivesList result (steps.read_path (read (room - 1)) names.old.now (length (symbols_of tokens.now)) (symbols_of tokens.now)) }
+    ensures stands { OverPath result next.old next.new tokens.now }
     ensures names { AsBefore names.new names.old }
     ensures ids { Spends next.old next.new (length tokens.now) (left_by_list result) }
 {
@@ -180,6 +190,7 @@ fn read_va_arg<'a>(
     requires positive { 0 < room }
     requires ids { next.old + 16 * length tokens.now < 2 ^ 32 }
     ensures found { Gives result (steps.read_va_arg (read (room - 1)) room names.old.now (symbols_of tokens.now)) }
+    ensures stands { (ts : List Token) → IsFirst first ts → Passes (Reserved words.BuiltinVaArg) ts tokens.now → Over result next.old next.new ts }
     ensures names { AsBefore names.new names.old }
     ensures ids { Spends next.old next.new (length tokens.now) (left result) }
 {
@@ -209,6 +220,7 @@ fn read_offsetof<'a>(
     requires positive { 0 < room }
     requires ids { next.old + 16 * length tokens.now < 2 ^ 32 }
     ensures found { Gives result (steps.read_offsetof (read (room - 1)) room names.old.now (symbols_of tokens.now)) }
+    ensures stands { (ts : List Token) → IsFirst first ts → Passes (Reserved words.BuiltinOffsetof) ts tokens.now → Over result next.old next.new ts }
     ensures names { AsBefore names.new names.old }
     ensures ids { Spends next.old next.new (length tokens.now) (left result) }
 {
@@ -266,6 +278,7 @@ pub(crate) fn read_primary<'a>(
     requires positive { 0 < room }
     requires ids { next.old + 16 * length tokens.now < 2 ^ 32 }
     ensures found { Gives result (steps.read_primary (read (room - 1)) room names.old.now (symbols_of tokens.now)) }
+    ensures stands { Over result next.old next.new tokens.now }
     ensures names { AsBefore names.new names.old }
     ensures ids { Spends next.old next.new (length tokens.now) (left result) }
 {
