@@ -8,3 +8,4 @@ pub mod Postfixes
 pub mod Forms
 pub mod ParamLists
 pub mod Standing
+pub mod Parses

@@ -11,6 +11,7 @@ mod operators;
 mod params;
 mod postfix;
 mod primary;
+mod reading;
 mod specifier_words;
 mod specifiers;
 mod symbols;
@@ -27,6 +28,7 @@ pub use operators::{
     ASSIGNMENT_LEVEL, CAST_LEVEL, COMMA_LEVEL, CONDITIONAL_LEVEL, POSTFIX_LEVEL, UNARY_LEVEL,
 };
 pub use params::{declare_param, declared_name, param_at_front};
+pub use reading::{read_declarator, read_expr, read_specs};
 pub use specifier_words::{SpecifierPlace, begins_specifiers};
 pub use specifiers::specifiers_in_front;
 pub use type_names::TypeNames;
