@@ -7,3 +7,4 @@ pub mod SpecifierWords
 pub mod ListSteps
 pub mod Steps
 pub mod Standing
+pub mod StandingParts
