@@ -9,4 +9,4 @@ returns-in-Some-clause-stands c ts us f p k = made_part c.part.result _ _ _ _ _ 
 pub returns-clause-stands : goal.returns-clause-stands
 returns-clause-stands c ts us f p k =
     made_part c.part-2.result _ _ _ _ _ _ _ c.part-2.ensures.node (at_passed _ _ _ _ _ f p)
-      (OfBoth (OfBoth (OfBoth (p _) (k _)) (in_arena _ _ _ _ _ _ c.in_ok-keep.ensures c.in_ok-bound.ensures.stands)) (c.in-Some-after_sign.ensures.passes _))
+    (OfBoth (OfBoth (OfBoth (p _) (k _)) (in_arena _ _ _ _ _ _ c.in_ok-keep.ensures c.in_ok-bound.ensures.stands)) (c.in-Some-after_sign.ensures.passes _))
