@@ -8,3 +8,4 @@ pub mod ListSteps
 pub mod Steps
 pub mod Standing
 pub mod Parses
+pub mod StandingParts

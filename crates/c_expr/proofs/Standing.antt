@@ -113,6 +113,7 @@ list-more (a ∷ all) tree low middle high ts us rest (OfBoth {middle = m} {us =
   where
     passed : {low high : ℕ} {ts rest : List Token} → Stands (sign marks.Comma) low high ts rest → Passes (Sign marks.Comma) ts rest
     passed (OfFixed e) low = OfFixed e
+
     moved : {low high above : ℕ} {ts rest end : List Token} → Stands (sign marks.Comma) low high ts rest → StandsOver (node_of tree) high above rest end → StandsOver (node_of tree) low above rest end
     moved (OfFixed e) s = s
 

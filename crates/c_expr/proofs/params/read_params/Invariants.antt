@@ -2,6 +2,8 @@ use Rattle.std.proofs.Common.{◌≡◌, ◌+◌, ◌-◌, ◌*◌, ◌≤◌, l
 use Rattle.c_tree.specs.Symbol.{symbols_of}
 use Rattle.c_tree.specs.Height.{height_in}
 use Rattle.c_tree.specs.Forget.{view_all}
+use Rattle.c_places.specs.Stands.{Stands}
+use Rattle.c_expr.proofs.Standing.{led_line}
 use Rattle.c_grammar.specs.Reading.{read}
 use Rattle.c_grammar.specs.DeclaratorSteps.{read_params}
 use Rattle.c_expr.specs.ParamLists.{params_after}
@@ -13,6 +15,7 @@ invariant-loop-fuel l = record {
   height : l.highest ≡ height_in (view_all l.all.items);
   saved : l.names.saved ≡ l.fn.names.saved;
   rises : l.fn.next ≤ l.next;
+  stands : Stands (led_line l.all.items) l.fn.next l.next l.fn.tokens l.rest;
   spent : l.next + 16 * length l.rest ≤ l.fn.next + 16 * length l.fn.tokens;
 }
 
