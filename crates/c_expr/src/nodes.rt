@@ -5,7 +5,7 @@ ghost use Rattle.c_tree.specs.Symbol.{symbols_of};
 ghost use Rattle.c_tree.specs.Height.{height_of};
 ghost use Rattle.c_tree.specs.Forget.{view, view_all, list_view};
 ghost use Rattle.c_grammar.specs.Found.{made};
-ghost use Rattle.c_tree.specs.Views.{shape_of};
+ghost use Rattle.c_tree.specs.Views.{shape_of, nodes_of, nodes_in};
 ghost use Rattle.c_expr.specs.Gives.{Gives, kind_view, left, Spends};
 ghost use Rattle.c_expr.specs.Standing.{IsMade, Makes};
 ghost use Rattle.c_expr.specs.declared.fault.ExprFault.TheVariants.{NoMemory};
@@ -42,9 +42,10 @@ pub(crate) fn keep<'a>(arena: &'a Arena, tree: Tree<'a>) -> Result<&'a Tree<'a>,
 }
 
 /// Nodes side by side in the arena.
-#[tactic(auto, using(crate::proofs::Lists::made_list))]
+#[tactic(auto, using(crate::proofs::Lists::made_list, crate::proofs::Lists::made_nodes))]
 pub(crate) fn list_of<'a>(all: Vec<Tree<'a>, &'a Arena>) -> Trees<'a>
-    ensures { list_view result ≡ view_all all.entry.items }
+    ensures trees { list_view result ≡ view_all all.entry.items }
+    ensures nodes { nodes_of result ≡ nodes_in all.entry.items }
 {
     Trees {
         all: into_bump_slice(all),

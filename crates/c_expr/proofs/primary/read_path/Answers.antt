@@ -2,6 +2,7 @@ use Rattle.std.proofs.Common.{◌-◌, ◌<◌, ◌∙◌, sym, arith}
 use Rattle.c_tree.specs.Symbol.{symbols_of}
 use Rattle.c_grammar.specs.Reading.{read}
 use Rattle.c_expr.proofs.Items.{height_pushed}
+use Rattle.c_expr.proofs.Standing.{row-next, row-closed}
 use Rattle.c_expr.proofs.ListSteps.{path-next}
 use Rattle.c_expr.proofs.primary.read_path.Goals as goal
 
@@ -16,5 +17,6 @@ loop-fuel-preserved c =
       now = c.in_ok-designator.ensures.names.0 ∙ c.loop-fuel.invariant.now;
       saved = c.in_ok-designator.ensures.names.1 ∙ c.loop-fuel.invariant.saved;
       rises = omega (arith, c.in_ok-designator.ensures.ids.0, c.loop-fuel.invariant.rises);
+      stands = row-next c.loop-fuel.all.items c.push.new.self.items item.tree _ _ _ _ _ _ c.in_ok-push.ensures.items c.loop-fuel.invariant.stands c.in_ok-designator.ensures.stands;
       spent = omega (arith, c.in_ok-designator.ensures.ids.1, c.loop-fuel.invariant.spent);
     }
