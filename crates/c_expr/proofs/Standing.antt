@@ -6,8 +6,10 @@ use Rattle.c_tree.specs.declared.operator.UnaryOp.TheVariants as unary
 use Rattle.c_tree.specs.declared.place.Place.{Place}
 use Rattle.c_tree.specs.declared.tree.Tree.{Tree}
 use Rattle.c_tree.specs.declared.token.Token.{Token}
+use Rattle.c_tree.specs.declared.token.TokenKind.TheVariants as token_kinds
+use Rattle.c_tree.specs.declared.keyword.Keyword.{Keyword}
 use Rattle.c_tree.specs.declared.punctuator.Punctuator.TheVariants as marks
-use Rattle.c_tree.specs.Symbol.{Symbol, Sign, symbol_of}
+use Rattle.c_tree.specs.Symbol.{Symbol, Sign, Reserved, symbol_of}
 use Rattle.c_tree.specs.Node.{Node, node, Shape, Nodes, no_more, more}
 use Rattle.c_tree.specs.Views.{node_of, nodes_of, nodes_in}
 use Rattle.c_places.specs.Lines.{Line, nothing, fixed, at, numbered, kept, all_kept, sign, unary_line, ◌⨾◌, line_of, shape_line, row_line, list_line, more_line}
@@ -169,3 +171,17 @@ list-closed all nodes low high ts us rest e s p = rw e (OfBoth s (p high))
 
 pub none-closed : (nodes : Nodes) (low : ℕ) (ts rest : List Token) → nodes ≡ no_more → Passes (Sign marks.CloseParen) ts rest → Stands (list_line nodes ⨾ sign marks.CloseParen) low low ts rest
 none-closed nodes low ts rest e p = rw e (OfBoth OfNothing (p low))
+
+-- no nodes yet
+pub row-start : (all : List Tree) (low : ℕ) (ts : List Token) → all ≡ [] → Stands (row_line (nodes_in all)) low low ts ts
+row-start all low ts e = rw e OfNothing
+
+pub led-start : (all : List Tree) (low : ℕ) (ts : List Token) → all ≡ [] → Stands (led_line all) low low ts ts
+led-start all low ts e = rw e OfNothing
+
+-- the token in front by its kind
+pub front-reserved : (ts : List Token) (d : Token) (k l : Keyword) → 0 < length ts → (get_or ts 0 d).kind ≡ token_kinds.Keyword k → k ≡ l → Passes (Reserved l) ts (take (length ts - 1) (drop 1 ts))
+front-reserved ts d k l h e f = front-passes (Reserved l) ts d h (reserved (get_or ts 0 d) e)
+  where
+    reserved : (t : Token) → t.kind ≡ token_kinds.Keyword k → symbol_of t ≡ Reserved l
+    reserved t e = rw (e, f) refl
