@@ -1,5 +1,5 @@
 -- Lists that are read in a loop, before the first of them.
-use Rattle.std.proofs.Common.{◌≡◌, ℕ, List, [], length, Option, None, Some, ap, refl, ◌∙◌, sym}
+use Rattle.std.proofs.Common.{◌≡◌, List, [], length, Option, None, Some, ap, refl, ◌∙◌, sym}
 use Rattle.std.proofs.lemmas.List.{length-map}
 use Rattle.c_tree.specs.declared.token.Token.{Token}
 use Rattle.c_tree.specs.declared.tree.Tree.{Tree}
