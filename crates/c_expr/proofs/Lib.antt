@@ -4,6 +4,7 @@ pub mod Items
 pub mod Lists
 pub mod Runs
 pub mod SpecifierWords
+pub mod ListStarts
 pub mod ListSteps
 pub mod Steps
 pub mod Standing

@@ -6,8 +6,10 @@ use Rattle.c_tree.specs.declared.operator.UnaryOp.TheVariants as unary
 use Rattle.c_tree.specs.declared.place.Place.{Place}
 use Rattle.c_tree.specs.declared.tree.Tree.{Tree}
 use Rattle.c_tree.specs.declared.token.Token.{Token}
+use Rattle.c_tree.specs.declared.token.TokenKind.TheVariants as token_kinds
+use Rattle.c_tree.specs.declared.keyword.Keyword.{Keyword}
 use Rattle.c_tree.specs.declared.punctuator.Punctuator.TheVariants as marks
-use Rattle.c_tree.specs.Symbol.{Symbol, Sign, symbol_of}
+use Rattle.c_tree.specs.Symbol.{Symbol, Sign, Reserved, symbol_of}
 use Rattle.c_tree.specs.Node.{Node, node, Shape, Nodes, no_more, more}
 use Rattle.c_tree.specs.Views.{node_of, nodes_of, nodes_in}
 use Rattle.c_places.specs.Lines.{Line, nothing, fixed, at, numbered, kept, all_kept, sign, unary_line, ◌⨾◌, line_of, shape_line, row_line, list_line, more_line}
@@ -149,3 +151,38 @@ lead _ op h l low high t ts end e s = absurd cc
 pub front-leads : (op : UnaryOp) (ts : List Token) (d : Token) → 0 < length ts → prefix_of (symbol_of (get_or ts 0 d)) ≡ Some op → Leads op ts (take (length ts - 1) (drop 1 ts))
 front-leads op [] d h e l low high end s = absurd (omega arith)
 front-leads op (t ∷ ts) d h e l low high end s = lead (symbol_of t) op e l low high t ts end refl (subst (λ us. Stands l low high us end) (take_all (length (t ∷ ts) - 1) ts (omega arith)) s)
+
+-- what stands behind in two parts
+pub then_both : (l m n : Line) (low middle high : ℕ) (ts us rest : List Token) → Stands l low middle ts us → Stands (m ⨾ n) middle high us rest → Stands (l ⨾ m ⨾ n) low high ts rest
+then_both l m n low middle high ts us rest s (OfBoth {middle = k} {us = vs} f b) = OfBoth (OfBoth s f) b
+
+-- the place of the token in front
+pub front-first : (ts : List Token) (d : Token) → 0 < length ts → IsFirst (get_or ts 0 d).place ts
+front-first [] d h t rest e = absurd (omega arith)
+front-first (u ∷ us) d h t rest e = cc
+
+-- nodes up to a parenthesis
+pub row-closed : (all : List Tree) (nodes : Nodes) (low high : ℕ) (ts us rest : List Token) → nodes ≡ nodes_in all
+    → Stands (row_line (nodes_in all)) low high ts us → Passes (Sign marks.CloseParen) us rest → Stands (row_line nodes ⨾ sign marks.CloseParen) low high ts rest
+row-closed all nodes low high ts us rest e s p = rw e (OfBoth s (p high))
+
+pub list-closed : (all : List Tree) (nodes : Nodes) (low high : ℕ) (ts us rest : List Token) → nodes ≡ nodes_in all
+    → Stands (list_line (nodes_in all)) low high ts us → Passes (Sign marks.CloseParen) us rest → Stands (list_line nodes ⨾ sign marks.CloseParen) low high ts rest
+list-closed all nodes low high ts us rest e s p = rw e (OfBoth s (p high))
+
+pub none-closed : (nodes : Nodes) (low : ℕ) (ts rest : List Token) → nodes ≡ no_more → Passes (Sign marks.CloseParen) ts rest → Stands (list_line nodes ⨾ sign marks.CloseParen) low low ts rest
+none-closed nodes low ts rest e p = rw e (OfBoth OfNothing (p low))
+
+-- no nodes yet
+pub row-start : (all : List Tree) (low : ℕ) (ts : List Token) → all ≡ [] → Stands (row_line (nodes_in all)) low low ts ts
+row-start all low ts e = rw e OfNothing
+
+pub led-start : (all : List Tree) (low : ℕ) (ts : List Token) → all ≡ [] → Stands (led_line all) low low ts ts
+led-start all low ts e = rw e OfNothing
+
+-- the token in front by its kind
+pub front-reserved : (ts : List Token) (d : Token) (k l : Keyword) → 0 < length ts → (get_or ts 0 d).kind ≡ token_kinds.Keyword k → k ≡ l → Passes (Reserved l) ts (take (length ts - 1) (drop 1 ts))
+front-reserved ts d k l h e f = front-passes (Reserved l) ts d h (reserved (get_or ts 0 d) e)
+  where
+    reserved : (t : Token) → t.kind ≡ token_kinds.Keyword k → symbol_of t ≡ Reserved l
+    reserved t e = rw (e, f) refl

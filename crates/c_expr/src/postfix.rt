@@ -85,7 +85,7 @@ fn call_of<'a>(
     requires arguments { arguments.height ≡ height_in (list_view arguments.trees) }
     requires ids { next.old + 1 < 2 ^ 32 }
     ensures found { Gives result (made room (kinds.Operation (kinds.Call (view callee.entry.tree) (list_view arguments.entry.trees))) (symbols_of arguments.entry.rest.now)) }
-    ensures node { Makes result next.old next.new callee.entry.tree.first (nodes.Operation (nodes.Call (node_of callee.entry.tree) open (nodes_of arguments.entry.trees))) arguments.entry.rest.now }
+    ensures node { Makes result next.old next.new callee.entry.tree.first (nodes.Operation (nodes.Call (node_of callee.entry.tree) «open» (nodes_of arguments.entry.trees))) arguments.entry.rest.now }
     ensures ids { (next.old ≤ next.new) × (next.new ≤ next.old + 1) × (left result ≤ length arguments.entry.rest.now) }
 {
     let highest = callee.height.max(arguments.height);

@@ -4,7 +4,9 @@ use Rattle.c_tree.specs.Height.{height_in}
 use Rattle.c_tree.specs.Forget.{view_all}
 use Rattle.c_grammar.specs.Reading.{read}
 use Rattle.c_grammar.specs.ExpressionSteps.{read_more_arguments}
+use Rattle.c_places.specs.Stands.{Stands}
 use Rattle.c_expr.specs.Gives.{ending_with}
+use Rattle.c_expr.proofs.Standing.{led_line}
 use Rattle.c_expr.proofs.postfix.read_more_arguments.Given as goal
 
 abbrev pub invariant-loop-fuel : goal.invariant-loop-fuel
@@ -14,6 +16,7 @@ invariant-loop-fuel l = record {
   now : l.names.now ≡ l.fn.names.now;
   saved : l.names.saved ≡ l.fn.names.saved;
   rises : l.fn.next ≤ l.next;
+  stands : Stands (led_line l.all.items) l.fn.next l.next l.fn.tokens l.rest;
   spent : l.next + 16 * length l.rest ≤ l.fn.next + 16 * length l.fn.tokens;
 }
 

@@ -2,6 +2,9 @@ use Rattle.std.proofs.Common.{◌≡◌, ◌+◌, ◌-◌, ◌*◌, ◌≤◌, l
 use Rattle.c_tree.specs.Symbol.{symbols_of}
 use Rattle.c_tree.specs.Height.{height_in}
 use Rattle.c_tree.specs.Forget.{view_all}
+use Rattle.c_tree.specs.Views.{nodes_in}
+use Rattle.c_places.specs.Lines.{row_line}
+use Rattle.c_places.specs.Stands.{Stands}
 use Rattle.c_grammar.specs.Reading.{read}
 use Rattle.c_grammar.specs.ExpressionSteps.{read_path}
 use Rattle.c_expr.specs.Gives.{ending_with}
@@ -14,6 +17,7 @@ invariant-loop-fuel l = record {
   now : l.names.now ≡ l.fn.names.now;
   saved : l.names.saved ≡ l.fn.names.saved;
   rises : l.fn.next ≤ l.next;
+  stands : Stands (row_line (nodes_in l.all.items)) l.fn.next l.next l.fn.tokens l.rest;
   spent : l.next + 16 * length l.rest ≤ l.fn.next + 16 * length l.fn.tokens;
 }
 
