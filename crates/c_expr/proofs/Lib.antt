@@ -4,7 +4,6 @@ pub mod Items
 pub mod Lists
 pub mod Runs
 pub mod SpecifierWords
-pub mod ListStarts
 pub mod ListSteps
 pub mod Steps
 pub mod Standing

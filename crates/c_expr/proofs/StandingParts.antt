@@ -65,14 +65,8 @@ something [] (plain.more e es) h = omega arith
 something (p ∷ ps) es h = omega arith
 
 -- a loop that begins with no trees
-pub row-start : (all : List Tree) (low : ℕ) (ts : List Token) → all ≡ [] → Stands (row_line (nodes_in all)) low low ts ts
-row-start all low ts e = subst (λ l. Stands (row_line (nodes_in l)) low low ts ts) (sym e) OfNothing
-
 pub list-start : (all : List Tree) (low : ℕ) (ts : List Token) → all ≡ [] → Stands (list_line (nodes_in all)) low low ts ts
 list-start all low ts e = subst (λ l. Stands (list_line (nodes_in l)) low low ts ts) (sym e) OfNothing
-
-pub led-start : (all : List Tree) (low : ℕ) (ts : List Token) → all ≡ [] → Stands (led_line all) low low ts ts
-led-start all low ts e = subst (λ l. Stands (led_line l) low low ts ts) (sym e) OfNothing
 
 pub as_long : (ts : List Token) → length ts ≡ length (symbols_of ts)
 as_long [] = refl

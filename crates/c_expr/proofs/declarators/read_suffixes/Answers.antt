@@ -3,8 +3,8 @@ use Rattle.c_tree.specs.Symbol.{symbols_of}
 use Rattle.c_grammar.specs.DeclaratorSteps.{read_suffixes}
 use Rattle.c_grammar.specs.Reading.{read}
 use Rattle.c_expr.proofs.Items.{height_pushed, count_pushed}
-use Rattle.c_expr.proofs.Standing.{row-next}
-use Rattle.c_expr.proofs.StandingParts.{row-done, row-start, ending-start, height-start, count-start}
+use Rattle.c_expr.proofs.Standing.{row-next, row-start}
+use Rattle.c_expr.proofs.StandingParts.{row-done, ending-start, height-start, count-start}
 use Rattle.c_expr.proofs.ListSteps.{suffixes-next}
 use Rattle.c_expr.proofs.declarators.read_suffixes.Goals as goal
 

@@ -4,8 +4,8 @@ use Rattle.c_grammar.specs.DeclaratorSteps.{read_params}
 use Rattle.c_grammar.specs.Reading.{read}
 use Rattle.c_expr.proofs.Items.{height_pushed}
 use Rattle.c_places.specs.Stands.{OfNothing, OfBoth}
-use Rattle.c_expr.proofs.Standing.{list-next, list-last}
-use Rattle.c_expr.proofs.StandingParts.{list-done, led-start, params-start, height-start}
+use Rattle.c_expr.proofs.Standing.{list-next, list-last, led-start}
+use Rattle.c_expr.proofs.StandingParts.{list-done, params-start, height-start}
 use Rattle.c_expr.proofs.ListSteps.{params-next}
 use Rattle.c_expr.proofs.params.read_params.Goals as goal
 

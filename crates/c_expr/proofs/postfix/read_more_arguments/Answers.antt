@@ -5,13 +5,14 @@ use Rattle.c_tree.specs.Forget.{view_all}
 use Rattle.c_grammar.specs.Reading.{read}
 use Rattle.c_expr.proofs.Items.{height_pushed}
 use Rattle.c_expr.proofs.Standing.{led-start, list-next, list-last, list-closed}
-use Rattle.c_expr.proofs.ListStarts.{arguments-start}
+use Rattle.c_grammar.specs.ExpressionSteps.{read_more_arguments}
+use Rattle.c_expr.proofs.StandingParts.{ending-start}
 use Rattle.c_expr.proofs.ListSteps.{arguments-next}
 use Rattle.c_expr.proofs.postfix.read_more_arguments.Goals as goal
 
 pub loop-fuel-init : goal.loop-fuel-init
 loop-fuel-init c = record {
-  found = arguments-start (read (c.args.room - 1)) c.args.names.now.now c.new-all.result.items c.args.tokens.now c.new-all.ensures.items;
+  found = ending-start (λ n. read_more_arguments (read (c.args.room - 1)) c.args.names.now.now n (symbols_of c.args.tokens.now)) c.new-all.result.items c.args.tokens.now c.new-all.ensures.items;
   height = ap (λ ts. height_in (view_all ts)) (sym c.new-all.ensures.items);
   now = refl;
   saved = refl;

@@ -3,8 +3,8 @@ use Rattle.c_tree.specs.Symbol.{symbol_of, symbols_of}
 use Rattle.c_grammar.specs.SpecifierSteps.{read_tag, read_items}
 use Rattle.c_tree.specs.Views.{node_of}
 use Rattle.c_expr.proofs.Items.{items-next, height_pushed, count_pushed}
-use Rattle.c_expr.proofs.Standing.{row-next}
-use Rattle.c_expr.proofs.StandingParts.{row-done, row-start, over_same, ending-start, height-start, count-start}
+use Rattle.c_expr.proofs.Standing.{row-next, row-start}
+use Rattle.c_expr.proofs.StandingParts.{row-done, over_same, ending-start, height-start, count-start}
 use Rattle.c_expr.proofs.specifiers.read_items.Goals as goal
 
 pub loop-front-preserved : goal.loop-front-preserved
