@@ -148,3 +148,7 @@ lead _ op h l low high t ts end e s = absurd cc
 pub front-leads : (op : UnaryOp) (ts : List Token) (d : Token) → 0 < length ts → prefix_of (symbol_of (get_or ts 0 d)) ≡ Some op → Leads op ts (take (length ts - 1) (drop 1 ts))
 front-leads op [] d h e l low high end s = absurd (omega arith)
 front-leads op (t ∷ ts) d h e l low high end s = lead (symbol_of t) op e l low high t ts end refl (subst (λ us. Stands l low high us end) (take_all (length (t ∷ ts) - 1) ts (omega arith)) s)
+
+-- the place of a node behind whose first token these stand
+pub at_shorter : (first : Place) (low : ℕ) (ts rest : List Token) → IsFirst first ts → length rest + 1 ≡ length ts → Stands (at first) low low ts ts
+at_shorter first low ts rest f h = at_front first low ts f (omega (arith, h))
