@@ -186,3 +186,7 @@ front-reserved ts d k l h e f = front-passes (Reserved l) ts d h (reserved (get_
   where
     reserved : (t : Token) → t.kind ≡ token_kinds.Keyword k → symbol_of t ≡ Reserved l
     reserved t e = rw (e, f) refl
+
+-- the place of a node behind whose first token these stand
+pub at_shorter : (first : Place) (low : ℕ) (ts rest : List Token) → IsFirst first ts → length rest + 1 ≡ length ts → Stands (at first) low low ts ts
+at_shorter first low ts rest f h = at_front first low ts f (omega (arith, h))
