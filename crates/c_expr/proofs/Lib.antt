@@ -6,6 +6,7 @@ pub mod Runs
 pub mod SpecifierWords
 pub mod ListSteps
 pub mod Steps
+pub mod Levels
 pub mod Standing
 pub mod Parses
 pub mod StandingParts

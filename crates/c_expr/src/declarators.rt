@@ -20,8 +20,8 @@ ghost use Rattle.c_expr.specs.Standing.{Makes, Over, OverRow, Passes, Keeps, Kee
 ghost use Rattle.c_expr.specs.Gives.{Gives, GivesList, AsBefore, left, left_by_list, count_of, done, count_in, Spends};
 ghost use Rattle.c_expr.specs.Forms.{form_of};
 
+use crate::expressions::expression_in_front;
 use crate::fault::ExprFault;
-use crate::inner::{declarator_in_front, expression_in_front};
 use crate::nodes::{Read, ReadList, keep, list_of, node, part};
 use crate::operators::ASSIGNMENT_LEVEL;
 use crate::params::read_param_list;
@@ -153,6 +153,7 @@ fn is_nothing(pointers: &[Token], suffixes: &Trees) -> bool
 }
 
 /// What follows the words of a bound; `first` is the place of its bracket.
+#[cycle(read)]
 fn read_bound<'a>(
     arena: &'a Arena,
     first: Place,
@@ -185,6 +186,7 @@ fn read_bound<'a>(
 }
 
 /// A bound in brackets (6.5.4.2) or parameters in parentheses (6.5.4.3).
+#[cycle(read)]
 fn read_suffix<'a>(
     arena: &'a Arena,
     tokens: &'a [Token],
@@ -212,6 +214,7 @@ fn read_suffix<'a>(
 
 /// One suffix after the other.
 #[tactic(auto, using(crate::proofs::ListSteps::suffixes))]
+#[cycle(read)]
 fn read_suffixes<'a>(
     arena: &'a Arena,
     tokens: &'a [Token],
@@ -248,6 +251,7 @@ fn read_suffixes<'a>(
 }
 
 /// What follows the pointers and the name of a declarator.
+#[cycle(read)]
 fn read_named<'a>(
     arena: &'a Arena,
     first: Place,
@@ -301,6 +305,7 @@ fn nested_of<'a>(
 }
 
 /// What follows the pointers and the parenthesis of a declarator.
+#[cycle(read)]
 fn read_nested<'a>(
     arena: &'a Arena,
     form: Form,
@@ -327,6 +332,7 @@ fn read_nested<'a>(
 }
 
 /// What follows the pointers of a declarator that has neither name nor parentheses of its own.
+#[cycle(read)]
 fn read_unnamed<'a>(
     arena: &'a Arena,
     form: Form,
@@ -359,6 +365,7 @@ fn read_unnamed<'a>(
 }
 
 /// What follows the pointers of a declarator.
+#[cycle(read)]
 fn read_direct<'a>(
     arena: &'a Arena,
     form: Form,
@@ -387,7 +394,8 @@ fn read_direct<'a>(
 
 /// The declarator of this form in front.
 #[tactic(auto, using(crate::proofs::Steps::reads))]
-pub fn declarator_at_front<'a>(
+#[cycle(read)]
+pub fn declarator_in_front<'a>(
     arena: &'a Arena,
     form: Form,
     tokens: &'a [Token],

@@ -19,7 +19,6 @@ ghost use Rattle.c_expr.specs.Standing.{Makes, Over, OverBehind, Passes, IsFirst
 ghost use Rattle.c_expr.specs.Gives.{Gives, AsBefore, left, Spends};
 
 use crate::fault::ExprFault;
-use crate::inner::{expression_in_front, type_name_in_front};
 use crate::nodes::{Read, keep, node};
 use crate::operators::{
     ASSIGNMENT_LEVEL, CAST_LEVEL, COMMA_LEVEL, CONDITIONAL_LEVEL, UNARY_LEVEL, grade,
@@ -29,6 +28,7 @@ use crate::postfix::read_postfix;
 use crate::specifier_words::begins_specifiers;
 use crate::symbols::{after_keyword, after_sign, place_of};
 use crate::type_names::TypeNames;
+use crate::types::type_name_in_front;
 use c_tree::{
     Arena, AssignOp, BinaryOp, Keyword, Kind, Operation, Place, Punctuator, Token, UnaryOp,
 };
@@ -178,6 +178,7 @@ fn conditional_of<'a>(
 }
 
 /// The rest of `sizeof unary` or `sizeof (type name)` (6.3.3.4); `first` is the place of `sizeof`.
+#[cycle(read)]
 fn read_sizeof<'a>(
     arena: &'a Arena,
     first: Place,
@@ -216,6 +217,7 @@ fn read_sizeof<'a>(
 }
 
 /// A unary expression (6.3.3).
+#[cycle(read)]
 fn read_unary<'a>(
     arena: &'a Arena,
     tokens: &'a [Token],
@@ -242,6 +244,7 @@ fn read_unary<'a>(
 }
 
 /// A cast, or a unary expression (6.3.4).
+#[cycle(read)]
 fn read_cast<'a>(
     arena: &'a Arena,
     tokens: &'a [Token],
@@ -269,6 +272,7 @@ fn read_cast<'a>(
 
 /// The operators of one level behind the left operand, each with its right one.
 #[tactic(auto, using(crate::proofs::Steps::chains))]
+#[cycle(read)]
 fn read_chain<'a>(
     arena: &'a Arena,
     level: u32,
@@ -301,6 +305,7 @@ fn read_chain<'a>(
 
 /// Casts, and the binary operators of so many levels above them (6.3.5 to 6.3.14).
 #[tactic(auto, using(crate::proofs::Steps::levels))]
+#[cycle(read)]
 fn read_binary<'a>(
     arena: &'a Arena,
     levels: u32,
@@ -325,6 +330,7 @@ fn read_binary<'a>(
 }
 
 /// A conditional expression (6.3.15).
+#[cycle(read)]
 fn read_conditional<'a>(
     arena: &'a Arena,
     tokens: &'a [Token],
@@ -352,6 +358,7 @@ fn read_conditional<'a>(
 }
 
 /// A conditional expression, or an assignment to a unary one (6.3.16).
+#[cycle(read)]
 fn read_assignment<'a>(
     arena: &'a Arena,
     tokens: &'a [Token],
@@ -378,6 +385,7 @@ fn read_assignment<'a>(
 }
 
 /// Assignments with commas between (6.3.17).
+#[cycle(read)]
 fn read_commas<'a>(
     arena: &'a Arena,
     tokens: &'a [Token],
@@ -398,7 +406,8 @@ fn read_commas<'a>(
 
 /// The expression of this level in front.
 #[tactic(auto, using(crate::proofs::Steps::reads))]
-pub fn expression_at_front<'a>(
+#[cycle(read)]
+pub fn expression_in_front<'a>(
     arena: &'a Arena,
     level: u32,
     tokens: &'a [Token],

@@ -5,7 +5,6 @@ mod basic_types;
 mod declarators;
 mod expressions;
 mod fault;
-mod inner;
 mod nodes;
 mod operators;
 mod params;
@@ -20,16 +19,20 @@ mod tests;
 mod type_names;
 mod types;
 
-pub use declarators::{Form, declarator_at_front};
-pub use expressions::expression_at_front;
+pub use basic_types::same_words;
+pub use declarators::{Form, declarator_in_front};
+pub use expressions::expression_in_front;
 pub use fault::ExprFault;
-pub use nodes::Read;
+pub use nodes::{Read, ReadList, keep, list_of, node, part};
 pub use operators::{
     ASSIGNMENT_LEVEL, CAST_LEVEL, COMMA_LEVEL, CONDITIONAL_LEVEL, POSTFIX_LEVEL, UNARY_LEVEL,
 };
-pub use params::{declare_param, declared_name, param_at_front};
+pub use params::{declare_param, name_of, param_in_front};
 pub use reading::{read_declarator, read_expr, read_specs};
-pub use specifier_words::{SpecifierPlace, begins_specifiers};
+pub use specifier_words::{
+    SpecifierPlace, begins_specifiers, begins_tag, fit, goes_on, is_type_word, types as says_type,
+};
 pub use specifiers::specifiers_in_front;
+pub use symbols::{after_keyword, after_sign, is_keyword, is_sign, place_of, take_word};
 pub use type_names::TypeNames;
-pub use types::type_name_at_front;
+pub use types::type_name_in_front;

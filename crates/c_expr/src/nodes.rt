@@ -26,7 +26,7 @@ pub struct Read<'a> {
 
 /// Nodes that were read, side by side.
 #[derive(Clone, Copy)]
-pub(crate) struct ReadList<'a> {
+pub struct ReadList<'a> {
     pub trees: Trees<'a>,
     /// The tokens behind them.
     pub rest: &'a [Token],
@@ -35,7 +35,7 @@ pub(crate) struct ReadList<'a> {
 }
 
 /// A node in the arena.
-pub(crate) fn keep<'a>(arena: &'a Arena, tree: Tree<'a>) -> Result<&'a Tree<'a>, ExprFault>
+pub fn keep<'a>(arena: &'a Arena, tree: Tree<'a>) -> Result<&'a Tree<'a>, ExprFault>
     ensures { MatchResult result (λ kept. kept.now ≡ tree.entry) (λ e. e ≡ NoMemory) }
 {
     Ok(arena.try_alloc(tree)?)
@@ -43,7 +43,7 @@ pub(crate) fn keep<'a>(arena: &'a Arena, tree: Tree<'a>) -> Result<&'a Tree<'a>,
 
 /// Nodes side by side in the arena.
 #[tactic(auto, using(crate::proofs::Lists::lists))]
-pub(crate) fn list_of<'a>(all: Vec<Tree<'a>, &'a Arena>) -> Trees<'a>
+pub fn list_of<'a>(all: Vec<Tree<'a>, &'a Arena>) -> Trees<'a>
     ensures views { list_view result ≡ view_all all.entry.items }
     ensures nodes { nodes_of result ≡ nodes_in all.entry.items }
 {
@@ -53,7 +53,7 @@ pub(crate) fn list_of<'a>(all: Vec<Tree<'a>, &'a Arena>) -> Trees<'a>
 }
 
 /// A node of height at most `room`, whose highest child has this height.
-pub(crate) fn node<'a>(
+pub fn node<'a>(
     kind: Kind<'a>,
     first: Place,
     highest: u32,
@@ -80,7 +80,7 @@ pub(crate) fn node<'a>(
 }
 
 /// A part, which is no node of its own for the height, or a leaf.
-pub(crate) fn part<'a>(
+pub fn part<'a>(
     kind: Kind<'a>,
     first: Place,
     height: u32,

@@ -20,9 +20,8 @@ ghost use Rattle.c_expr.specs.Standing.{Makes, Over, OverParams, Passes, IsFirst
 ghost use Rattle.c_expr.specs.Gives.{Gives, AsBefore, left, Spends};
 ghost use Rattle.c_expr.specs.ParamLists.{GivesParams, left_by_params, done_by_params};
 
-use crate::declarators::{Form, begins_declarator};
+use crate::declarators::{Form, begins_declarator, declarator_in_front};
 use crate::fault::ExprFault;
-use crate::inner::{declarator_in_front, param_in_front};
 use crate::nodes::{Read, keep, list_of, node, part};
 use crate::specifier_words::SpecifierPlace;
 use crate::specifiers::specifiers_in_front;
@@ -48,7 +47,7 @@ struct ReadParams<'a> {
 
 /// The name that a declarator declares, if it isn't abstract.
 #[cycle(name_of)]
-pub fn declared_name(tree: &Tree) -> Option<u32>
+pub fn name_of(tree: &Tree) -> Option<u32>
     ensures { result ≡ name_of (view tree.now) }
 {
     match &tree.kind {
@@ -66,7 +65,7 @@ fn name_in(declarator: &Declarator) -> Option<u32>
             TokenKind::Word(_) => Some(name.name),
             _ => None,
         },
-        Declarator::Nested { inner, .. } => declared_name(inner),
+        Declarator::Nested { inner, .. } => name_of(inner),
         Declarator::Unnamed { .. } => None,
     }
 }
@@ -79,7 +78,7 @@ pub fn declare_param(names: &mut TypeNames, param: &Tree) -> Result<(), AllocErr
     match &param.kind {
         Kind::Specifier(specifier) => match specifier {
             Specifier::Param { declarator, .. } => match declarator {
-                Some(declarator) => match declared_name(declarator) {
+                Some(declarator) => match name_of(declarator) {
                     Some(name) => {
                         names.declare(name, false)?;
                         Ok(())
@@ -149,7 +148,8 @@ fn declared_of<'a>(
 
 /// The parameter in front.
 #[tactic(auto, using(crate::proofs::Steps::reads))]
-pub fn param_at_front<'a>(
+#[cycle(read)]
+pub fn param_in_front<'a>(
     arena: &'a Arena,
     tokens: &'a [Token],
     names: &mut TypeNames,
@@ -182,6 +182,7 @@ pub fn param_at_front<'a>(
 
 /// Parameters up to the parenthesis, at least one. They stay in force.
 #[tactic(auto, using(crate::proofs::ListSteps::params))]
+#[cycle(read)]
 fn read_params<'a>(
     arena: &'a Arena,
     tokens: &'a [Token],
@@ -234,6 +235,7 @@ fn read_params<'a>(
 }
 
 /// What follows the parenthesis of parameters, of which `first` is the place. They are in force up to its end.
+#[cycle(read)]
 pub(crate) fn read_param_list<'a>(
     arena: &'a Arena,
     first: Place,

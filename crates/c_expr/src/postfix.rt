@@ -17,9 +17,8 @@ ghost use Rattle.c_expr.specs.Standing.{Makes, Over, OverBehind, OverArguments, 
 ghost use Rattle.c_expr.specs.Gives.{Gives, GivesList, AsBefore, left, left_by_list, Spends};
 ghost use Rattle.c_expr.specs.Postfixes.{indexed, called, member_of, arrow_of};
 
-use crate::expressions::unary_of;
+use crate::expressions::{expression_in_front, unary_of};
 use crate::fault::ExprFault;
-use crate::inner::expression_in_front;
 use crate::nodes::{Read, ReadList, keep, list_of, node};
 use crate::operators::{ASSIGNMENT_LEVEL, COMMA_LEVEL};
 use crate::primary::read_primary;
@@ -147,6 +146,7 @@ fn read_arrow<'a>(
 
 /// Arguments up to the parenthesis, at least one.
 #[tactic(auto, using(crate::proofs::ListSteps::arguments))]
+#[cycle(read)]
 fn read_more_arguments<'a>(
     arena: &'a Arena,
     tokens: &'a [Token],
@@ -188,6 +188,7 @@ fn read_more_arguments<'a>(
 }
 
 /// Arguments up to the parenthesis (6.3.2.2).
+#[cycle(read)]
 fn read_arguments<'a>(
     arena: &'a Arena,
     tokens: &'a [Token],
@@ -213,6 +214,7 @@ fn read_arguments<'a>(
 }
 
 /// An element of an array, behind its bracket (6.3.2.1).
+#[cycle(read)]
 fn read_index<'a>(
     arena: &'a Arena,
     operand: Read<'a>,
@@ -237,6 +239,7 @@ fn read_index<'a>(
 }
 
 /// What a postfix expression becomes by the operator behind it.
+#[cycle(read)]
 fn read_postfix_operator<'a>(
     arena: &'a Arena,
     operand: Read<'a>,
@@ -278,6 +281,7 @@ fn read_postfix_operator<'a>(
 
 /// A primary expression with its postfix operators.
 #[tactic(auto, using(crate::proofs::Steps::postfixes))]
+#[cycle(read)]
 pub(crate) fn read_postfix<'a>(
     arena: &'a Arena,
     tokens: &'a [Token],

@@ -17,12 +17,13 @@ ghost use Rattle.c_tree.specs.Views.{node_of, nodes_of};
 ghost use Rattle.c_expr.specs.Standing.{Makes, Over, OverPath, Passes, IsFirst};
 ghost use Rattle.c_expr.specs.Gives.{Gives, GivesList, AsBefore, left, left_by_list, Spends};
 
+use crate::expressions::expression_in_front;
 use crate::fault::ExprFault;
-use crate::inner::{expression_in_front, type_name_in_front};
 use crate::nodes::{Read, ReadList, keep, list_of, node, part};
 use crate::operators::{ASSIGNMENT_LEVEL, COMMA_LEVEL};
 use crate::symbols::{Run, after_sign, place_of, split_run, take_word};
 use crate::type_names::TypeNames;
+use crate::types::type_name_in_front;
 use c_tree::{Arena, Keyword, Kind, Part, Place, Primary, Punctuator, Token, TokenKind};
 
 /// A string literal with those that follow it (6.1.4).
@@ -101,6 +102,7 @@ fn offsetof_of<'a>(
 }
 
 /// A member or an index behind the first member of an offset.
+#[cycle(read)]
 fn read_designator<'a>(
     arena: &'a Arena,
     tokens: &'a [Token],
@@ -143,6 +145,7 @@ fn read_designator<'a>(
 
 /// Designators up to the parenthesis.
 #[tactic(auto, using(crate::proofs::ListSteps::paths))]
+#[cycle(read)]
 fn read_path<'a>(
     arena: &'a Arena,
     tokens: &'a [Token],
@@ -179,6 +182,7 @@ fn read_path<'a>(
 }
 
 /// What follows `__builtin_va_arg`, of which `first` is the place.
+#[cycle(read)]
 fn read_va_arg<'a>(
     arena: &'a Arena,
     first: Place,
@@ -209,6 +213,7 @@ fn read_va_arg<'a>(
 }
 
 /// What follows `__builtin_offsetof`, of which `first` is the place.
+#[cycle(read)]
 fn read_offsetof<'a>(
     arena: &'a Arena,
     first: Place,
@@ -239,6 +244,7 @@ fn read_offsetof<'a>(
 }
 
 /// An expression in parentheses.
+#[cycle(read)]
 fn read_paren<'a>(
     arena: &'a Arena,
     tokens: &'a [Token],
@@ -268,6 +274,7 @@ fn read_paren<'a>(
 
 /// A name that is no type here, a constant, string literals, an expression in parentheses, or a built-in form.
 #[tactic(auto, using(crate::proofs::Steps::runs))]
+#[cycle(read)]
 pub(crate) fn read_primary<'a>(
     arena: &'a Arena,
     tokens: &'a [Token],

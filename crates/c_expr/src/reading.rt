@@ -13,9 +13,9 @@ ghost use Rattle.c_expr.specs.Gives.{AsBefore};
 ghost use Rattle.c_expr.specs.Parses.{IsTheParse, HasNoParse};
 ghost use Rattle.c_expr.specs.declared.fault.ExprFault.TheVariants.{NoTree};
 
-use crate::declarators::Form;
+use crate::declarators::{Form, declarator_in_front};
+use crate::expressions::expression_in_front;
 use crate::fault::ExprFault;
-use crate::inner::{declarator_in_front, expression_in_front};
 use crate::nodes::{Read, keep};
 use crate::operators::COMMA_LEVEL;
 use crate::specifier_words::SpecifierPlace;
@@ -77,7 +77,14 @@ pub fn read_specs<'a>(
     ensures ids { (next.old ≤ next.new) × (next.new ≤ next.old + 16 * length tokens.now) }
 {
     parses_are_read();
-    let read = specifiers_in_front(arena, SpecifierPlace::InDeclaration, tokens, names, MOST_HEIGHT, next)?;
+    let read = specifiers_in_front(
+        arena,
+        SpecifierPlace::InDeclaration,
+        tokens,
+        names,
+        MOST_HEIGHT,
+        next,
+    )?;
     at_end(arena, read)
 }
 

@@ -13,9 +13,8 @@ ghost use Rattle.c_tree.specs.Views.{node_of};
 ghost use Rattle.c_expr.specs.Standing.{Makes, Over};
 ghost use Rattle.c_expr.specs.Gives.{Gives, AsBefore, left, Spends};
 
-use crate::declarators::{Form, begins_declarator};
+use crate::declarators::{Form, begins_declarator, declarator_in_front};
 use crate::fault::ExprFault;
-use crate::inner::declarator_in_front;
 use crate::nodes::{Read, keep, node};
 use crate::specifier_words::SpecifierPlace;
 use crate::specifiers::specifiers_in_front;
@@ -67,7 +66,8 @@ fn declared_of<'a>(
 
 /// The type name in front.
 #[tactic(auto, using(crate::proofs::Steps::reads))]
-pub fn type_name_at_front<'a>(
+#[cycle(read)]
+pub fn type_name_in_front<'a>(
     arena: &'a Arena,
     tokens: &'a [Token],
     names: &mut TypeNames,
