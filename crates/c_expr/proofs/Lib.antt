@@ -4,3 +4,9 @@ pub mod Items
 pub mod Lists
 pub mod Runs
 pub mod SpecifierWords
+pub mod ListSteps
+pub mod Steps
+pub mod Levels
+pub mod Standing
+pub mod Parses
+pub mod StandingParts

@@ -4,3 +4,8 @@ pub mod Runs
 pub mod Lines
 pub mod SpecifierPlaces
 pub mod Gives
+pub mod Postfixes
+pub mod Forms
+pub mod ParamLists
+pub mod Standing
+pub mod Parses

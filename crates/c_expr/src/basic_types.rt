@@ -88,7 +88,7 @@ fn as_often(words: &[Keyword], others: &[Keyword]) -> bool
 }
 
 /// Whether the first words are the second in any order.
-fn same_words(words: &[Keyword], others: &[Keyword]) -> bool
+pub fn same_words(words: &[Keyword], others: &[Keyword]) -> bool
     ensures { result ≡ same_words words.now others.now }
 {
     words.len() == others.len() && as_often(words, others)

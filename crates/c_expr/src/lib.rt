@@ -1,22 +1,38 @@
-//! Reads C's expressions.
+//! Reads C's expressions, type names, specifiers and declarators.
 #![tactic(auto)]
 
 mod basic_types;
+mod declarators;
+mod expressions;
 mod fault;
 mod nodes;
 mod operators;
+mod params;
+mod postfix;
+mod primary;
+mod reading;
 mod specifier_words;
 mod specifiers;
 mod symbols;
 #[cfg(test)]
 mod tests;
 mod type_names;
+mod types;
 
+pub use basic_types::same_words;
+pub use declarators::{Form, declarator_in_front};
+pub use expressions::expression_in_front;
 pub use fault::ExprFault;
-pub use nodes::Read;
+pub use nodes::{Read, ReadList, keep, list_of, node, part};
 pub use operators::{
     ASSIGNMENT_LEVEL, CAST_LEVEL, COMMA_LEVEL, CONDITIONAL_LEVEL, POSTFIX_LEVEL, UNARY_LEVEL,
 };
-pub use specifier_words::{SpecifierPlace, begins_specifiers};
+pub use params::{declare_param, name_of, param_in_front};
+pub use reading::{read_declarator, read_expr, read_specs};
+pub use specifier_words::{
+    SpecifierPlace, begins_specifiers, begins_tag, fit, goes_on, is_type_word, types as says_type,
+};
 pub use specifiers::specifiers_in_front;
+pub use symbols::{after_keyword, after_sign, is_keyword, is_sign, place_of, take_word};
 pub use type_names::TypeNames;
+pub use types::type_name_in_front;

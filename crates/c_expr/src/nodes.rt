@@ -5,7 +5,9 @@ ghost use Rattle.c_tree.specs.Symbol.{symbols_of};
 ghost use Rattle.c_tree.specs.Height.{height_of};
 ghost use Rattle.c_tree.specs.Forget.{view, view_all, list_view};
 ghost use Rattle.c_grammar.specs.Found.{made};
+ghost use Rattle.c_tree.specs.Views.{shape_of, nodes_of, nodes_in};
 ghost use Rattle.c_expr.specs.Gives.{Gives, kind_view, left, Spends};
+ghost use Rattle.c_expr.specs.Standing.{IsMade, Makes};
 ghost use Rattle.c_expr.specs.declared.fault.ExprFault.TheVariants.{NoMemory};
 
 use crate::fault::ExprFault;
@@ -24,7 +26,7 @@ pub struct Read<'a> {
 
 /// Nodes that were read, side by side.
 #[derive(Clone, Copy)]
-pub(crate) struct ReadList<'a> {
+pub struct ReadList<'a> {
     pub trees: Trees<'a>,
     /// The tokens behind them.
     pub rest: &'a [Token],
@@ -33,16 +35,17 @@ pub(crate) struct ReadList<'a> {
 }
 
 /// A node in the arena.
-pub(crate) fn keep<'a>(arena: &'a Arena, tree: Tree<'a>) -> Result<&'a Tree<'a>, ExprFault>
+pub fn keep<'a>(arena: &'a Arena, tree: Tree<'a>) -> Result<&'a Tree<'a>, ExprFault>
     ensures { MatchResult result (λ kept. kept.now ≡ tree.entry) (λ e. e ≡ NoMemory) }
 {
     Ok(arena.try_alloc(tree)?)
 }
 
 /// Nodes side by side in the arena.
-#[tactic(auto, using(crate::proofs::Lists::made_list))]
-pub(crate) fn list_of<'a>(all: Vec<Tree<'a>, &'a Arena>) -> Trees<'a>
-    ensures { list_view result ≡ view_all all.entry.items }
+#[tactic(auto, using(crate::proofs::Lists::lists))]
+pub fn list_of<'a>(all: Vec<Tree<'a>, &'a Arena>) -> Trees<'a>
+    ensures views { list_view result ≡ view_all all.entry.items }
+    ensures nodes { nodes_of result ≡ nodes_in all.entry.items }
 {
     Trees {
         all: into_bump_slice(all),
@@ -50,7 +53,7 @@ pub(crate) fn list_of<'a>(all: Vec<Tree<'a>, &'a Arena>) -> Trees<'a>
 }
 
 /// A node of height at most `room`, whose highest child has this height.
-pub(crate) fn node<'a>(
+pub fn node<'a>(
     kind: Kind<'a>,
     first: Place,
     highest: u32,
@@ -62,6 +65,7 @@ pub(crate) fn node<'a>(
     requires ids { next.old + 1 < 2 ^ 32 }
     ensures found { Gives result (made room (kind_view kind.entry) (symbols_of rest.now)) }
     ensures ids { (next.old ≤ next.new) × (next.new ≤ next.old + 1) × (left result ≤ length rest.now) }
+    ensures node { Makes result next.old next.new first (shape_of kind.entry) rest.now }
 {
     if room <= highest {
         return Err(ExprFault::NoTree);
@@ -76,7 +80,7 @@ pub(crate) fn node<'a>(
 }
 
 /// A part, which is no node of its own for the height, or a leaf.
-pub(crate) fn part<'a>(
+pub fn part<'a>(
     kind: Kind<'a>,
     first: Place,
     height: u32,
@@ -89,6 +93,7 @@ pub(crate) fn part<'a>(
     ensures height { result.height ≡ height }
     ensures rest { result.rest.now ≡ rest.now }
     ensures ids { next.new ≡ next.old + 1 }
+    ensures node { IsMade result next.old next.new first (shape_of kind.entry) rest.now }
 {
     let id = *next;
     *next += 1;

@@ -3,9 +3,11 @@
 ghost use Rattle.std.specs.Prelude.{◌≡◌, ◌+◌, length, IfSome};
 ghost use Rattle.std.specs.Option.{option_map};
 ghost use Rattle.c_tree.specs.Forget.{view};
-ghost use Rattle.c_tree.specs.Symbol.{symbol_of, symbols_of};
+ghost use Rattle.c_tree.specs.Symbol.{Sign, symbol_of, symbols_of};
+ghost use Rattle.c_tree.specs.Tokens.{binary_sign, assign_sign};
 ghost use Rattle.c_grammar.specs.Levels.{level_of, operand_level, grade, binary_of, assign_of, prefix_of};
 ghost use Rattle.c_grammar.specs.ExpressionSteps.{take_binary, take_assign, take_prefix};
+ghost use Rattle.c_expr.specs.Standing.{Passes, Leads};
 
 use c_tree::{AssignOp, BinaryOp, Kind, Operation, Punctuator, Token, TokenKind, Tree, UnaryOp};
 
@@ -150,6 +152,7 @@ fn prefix_of(token: &Token) -> Option<UnaryOp>
 /// The operator of this level in front, and what follows it.
 pub(crate) fn take_binary<'a>(level: u32, tokens: &'a [Token]) -> Option<(BinaryOp, &'a [Token])>
     ensures found { option_map (λ found. (found.0, symbols_of found.1.now)) result ≡ take_binary level (symbols_of tokens.now) }
+    ensures passes { IfSome result (λ found. Passes (Sign (binary_sign found.0)) tokens.now found.1.now) }
     ensures shorter { IfSome result (λ found. length found.1.now + 1 ≡ length tokens.now) }
 {
     match tokens {
@@ -168,6 +171,7 @@ pub(crate) fn take_binary<'a>(level: u32, tokens: &'a [Token]) -> Option<(Binary
 /// The operator of an assignment in front, and what follows it.
 pub(crate) fn take_assign<'a>(tokens: &'a [Token]) -> Option<(AssignOp, &'a [Token])>
     ensures found { option_map (λ found. (found.0, symbols_of found.1.now)) result ≡ take_assign (symbols_of tokens.now) }
+    ensures passes { IfSome result (λ found. Passes (Sign (assign_sign found.0)) tokens.now found.1.now) }
     ensures shorter { IfSome result (λ found. length found.1.now + 1 ≡ length tokens.now) }
 {
     match tokens {
@@ -182,6 +186,7 @@ pub(crate) fn take_assign<'a>(tokens: &'a [Token]) -> Option<(AssignOp, &'a [Tok
 /// The operator before its operand in front, and what follows it.
 pub(crate) fn take_prefix<'a>(tokens: &'a [Token]) -> Option<(UnaryOp, &'a [Token])>
     ensures found { option_map (λ found. (found.0, symbols_of found.1.now)) result ≡ take_prefix (symbols_of tokens.now) }
+    ensures leads { IfSome result (λ found. Leads found.0 tokens.now found.1.now) }
     ensures shorter { IfSome result (λ found. length found.1.now + 1 ≡ length tokens.now) }
 {
     match tokens {

@@ -36,7 +36,7 @@ fn is_storage(word: Keyword) -> bool
 }
 
 /// Whether it is a word of basic types (6.5.2).
-fn is_type_word(word: Keyword) -> bool
+pub fn is_type_word(word: Keyword) -> bool
     ensures { result ≡ is_type_word word }
 {
     match word {
@@ -77,7 +77,7 @@ fn is_specifier(names: &TypeNames, typed: bool, token: &Token) -> bool
 }
 
 /// Whether a specifier of a structure, union or enumeration begins with the token.
-pub(crate) fn begins_tag(token: &Token) -> bool
+pub fn begins_tag(token: &Token) -> bool
     ensures { result ≡ begins_tag (symbol_of token.now) }
 {
     match token.kind {
@@ -90,7 +90,7 @@ pub(crate) fn begins_tag(token: &Token) -> bool
 }
 
 /// Whether the token goes on with specifiers.
-pub(crate) fn goes_on(names: &TypeNames, typed: bool, token: &Token) -> bool
+pub fn goes_on(names: &TypeNames, typed: bool, token: &Token) -> bool
     ensures { result ≡ goes_on names.now.now typed (symbol_of token.now) }
 {
     is_specifier(names, typed, token) || begins_tag(token)
@@ -107,7 +107,7 @@ pub fn begins_specifiers(names: &TypeNames, tokens: &[Token]) -> bool
 }
 
 /// Whether the specifier is a type, or a word of one.
-pub(crate) fn types(tree: &Tree) -> bool
+pub fn types(tree: &Tree) -> bool
     ensures { result ≡ types (view tree.now) }
 {
     match &tree.kind {
@@ -279,11 +279,7 @@ fn are_allowed(place: SpecifierPlace, words: &[Keyword]) -> bool
 }
 
 /// Whether these may be all specifiers there.
-pub(crate) fn fit<'a>(
-    arena: &'a Arena,
-    place: SpecifierPlace,
-    items: &[Tree],
-) -> Result<bool, AllocError>
+pub fn fit<'a>(arena: &'a Arena, place: SpecifierPlace, items: &[Tree]) -> Result<bool, AllocError>
     ensures { IfOk result (λ fits. fits ≡ fit (place_of place) (view_all items.now)) }
 {
     let words = type_words(arena, items)?;

@@ -1,14 +1,18 @@
 //! Reads specifiers (ISO 9899:1990, 6.5), without the bodies of structures, unions and enumerations.
 
-ghost use Rattle.std.specs.Prelude.{◌≡◌, ◌+◌, ◌*◌, ◌<◌, ◌≤◌, ◌^◌, ◌∷◌, false, length, IfSome};
+ghost use Rattle.std.specs.Prelude.{◌≡◌, ◌+◌, ◌*◌, ◌<◌, ◌≤◌, ◌^◌, ◌∷◌, List, false, length, IfSome};
 ghost use Rattle.std.specs.Option.{option_map};
-ghost use Rattle.c_tree.specs.Symbol.{symbol_of, symbols_of};
+ghost use Rattle.c_tree.specs.Symbol.{Reserved, symbol_of, symbols_of};
 ghost use Rattle.c_tree.specs.Syntax.{StructTag};
 ghost use Rattle.c_grammar.specs.Symbols.{take_symbol};
 ghost use Rattle.c_grammar.specs.Specifiers.{goes_on};
 ghost use Rattle.c_grammar.specs.SpecifierSteps as steps;
 ghost use Rattle.c_grammar.specs.Nonterminal.{Specifiers};
 ghost use Rattle.c_grammar.specs.Reading.{read};
+ghost use Rattle.c_tree.specs.declared.keyword.Keyword.TheVariants as words;
+ghost use Rattle.c_tree.specs.declared.token.Token.{Token};
+ghost use Rattle.c_tree.specs.Tokens.{word_of};
+ghost use Rattle.c_expr.specs.Standing.{Over, OverRow, Passes, IsFirst};
 ghost use Rattle.c_expr.specs.Gives.{Gives, GivesList, left, left_by_list, count_of, done, Spends};
 ghost use Rattle.c_expr.specs.SpecifierPlaces.{place_of};
 
@@ -28,6 +32,7 @@ fn read_struct_tag<'a>(
 ) -> Result<Read<'a>, ExprFault>
     requires { next.old + 16 * length tokens.now < 2 ^ 32 }
     ensures found { Gives result (steps.read_struct_tag which (symbols_of tokens.now)) }
+    ensures stands { (ts : List Token) → IsFirst first ts → Passes (Reserved (word_of which)) ts tokens.now → Over result next.old next.new ts }
     ensures ids { Spends next.old next.new (length tokens.now) (left result) }
 {
     let Some((tag, rest)) = take_word(tokens) else {
@@ -50,6 +55,7 @@ fn read_enum_tag<'a>(
 ) -> Result<Read<'a>, ExprFault>
     requires { next.old + 16 * length tokens.now < 2 ^ 32 }
     ensures found { Gives result (steps.read_enum_tag (symbols_of tokens.now)) }
+    ensures stands { (ts : List Token) → IsFirst first ts → Passes (Reserved words.Enum) ts tokens.now → Over result next.old next.new ts }
     ensures ids { Spends next.old next.new (length tokens.now) (left result) }
 {
     let Some((tag, rest)) = take_word(tokens) else {
@@ -68,6 +74,7 @@ fn read_enum_tag<'a>(
 fn read_tag<'a>(front: &Token, tokens: &'a [Token], next: &mut u32) -> Result<Read<'a>, ExprFault>
     requires { next.old + 16 * length tokens.now < 2 ^ 32 }
     ensures found { Gives result (steps.read_tag (symbol_of front.now ∷ symbols_of tokens.now)) }
+    ensures stands { Over result next.old next.new (front.now ∷ tokens.now) }
     ensures ids { Spends next.old next.new (length tokens.now) (left result) }
 {
     let first = front.place;
@@ -90,6 +97,7 @@ fn read_item<'a>(
 ) -> Result<Read<'a>, ExprFault>
     requires { next.old + 16 * length tokens.now + 16 < 2 ^ 32 }
     ensures found { Gives result (steps.read_item steps.read_tag (symbol_of front.now) (symbols_of tokens.now)) }
+    ensures stands { Over result next.old next.new (front.now ∷ tokens.now) }
     ensures ids { (next.old ≤ next.new) × (next.new + 16 * left result ≤ next.old + 16 * length tokens.now + 1) }
 {
     if begins_tag(front) {
@@ -111,6 +119,7 @@ fn take_specifier<'a>(
     tokens: &'a [Token],
 ) -> Option<(&'a Token, &'a [Token])>
     ensures found { option_map (λ found. (symbol_of found.0.now, symbols_of found.1.now)) result ≡ take_symbol (goes_on names.now.now typed) (symbols_of tokens.now) }
+    ensures front { IfSome result (λ found. tokens.now ≡ found.0.now ∷ found.1.now) }
     ensures shorter { IfSome result (λ found. length found.1.now + 1 ≡ length tokens.now) }
 {
     match tokens {
@@ -133,6 +142,7 @@ fn read_items<'a>(
 ) -> Result<ReadList<'a>, ExprFault>
     requires { next.old + 16 * length tokens.now < 2 ^ 32 }
     ensures found { GivesList result (steps.read_items steps.read_tag names.now.now (length (symbols_of tokens.now)) false (symbols_of tokens.now)) }
+    ensures stands { OverRow result next.old next.new tokens.now }
     ensures ids { (next.old ≤ next.new) × (next.new + 16 * left_by_list result + 15 * count_of result ≤ next.old + 16 * length tokens.now) }
 {
     let mut all = Vec::new(arena);
@@ -170,6 +180,7 @@ pub fn specifiers_in_front<'a>(
 ) -> Result<Read<'a>, ExprFault>
     requires { next.old + 16 * length tokens.now < 2 ^ 32 }
     ensures found { Gives result (read room (Specifiers (place_of place)) names.now.now (symbols_of tokens.now)) }
+    ensures stands { Over result next.old next.new tokens.now }
     ensures ids { (next.old ≤ next.new) × (next.new + 16 * left result + 8 * done result ≤ next.old + 16 * length tokens.now) }
 {
     if room == 0 {

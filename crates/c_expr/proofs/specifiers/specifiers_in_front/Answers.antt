@@ -1,6 +1,7 @@
 use Rattle.std.proofs.Common.{arith}
 use Rattle.c_expr.specs.SpecifierPlaces.{place_of}
 use Rattle.c_expr.proofs.Items.{fit-some, done-most}
+use Rattle.c_expr.proofs.Standing.{made, at_front}
 use Rattle.c_expr.proofs.specifiers.specifiers_in_front.Goals as goal
 
 pub node-requires-clause-ids : goal.node-requires-clause-ids
@@ -13,3 +14,8 @@ returns-clause-ids c =
     let some = fit-some (place_of c.args.place) c.in_ok-items.items.trees _ c.in_ok-fit.ensures c.if-not-branch.false in
     let one = done-most c.node.result in
     (omega arith, omega (arith, some, one, c.in_ok-items.ensures.ids, c.node.ensures.ids))
+
+pub returns-clause-stands : goal.returns-clause-stands
+returns-clause-stands c =
+    let some = fit-some (place_of c.args.place) c.in_ok-items.items.trees _ c.in_ok-fit.ensures c.if-not-branch.false in
+    made c.node.result _ _ _ _ _ _ _ c.node.ensures.node (at_front _ _ _ c.place_of.ensures (omega (arith, some, c.in_ok-items.ensures.ids))) c.in_ok-items.ensures.stands
