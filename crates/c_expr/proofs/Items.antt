@@ -1,5 +1,5 @@
 -- Specifiers that are read one after the other.
-use Rattle.std.proofs.Common.{◌≡◌, ℕ, zero, suc, max, ◌+◌, ◌-◌, ◌<◌, ◌≤◌, Bool, true, false, cond, ◌||◌, List, [], ◌∷◌, ◌++◌, length, Option, None, Some, Result, Ok, Err, ap, refl, ◌∙◌, sym, arith}
+use Rattle.std.proofs.Common.{◌≡◌, ℕ, zero, suc, max, ◌+◌, ◌-◌, ◌<◌, ◌≤◌, Bool, true, false, ◌||◌, List, [], ◌∷◌, ◌++◌, length, Option, None, Some, Result, Ok, Err, ap, refl, ◌∙◌, sym, arith}
 use Rattle.c_tree.specs.declared.tree.Tree.{Tree}
 use Rattle.c_tree.specs.declared.tree.Trees.{Trees, out-Trees}
 use Rattle.c_tree.specs.Symbol.{Symbol}
@@ -10,7 +10,7 @@ use Rattle.c_tree.proofs.Rows.{nodes_out}
 use Rattle.c_grammar.specs.Symbols.{take_symbol}
 use Rattle.c_grammar.specs.Names.{Names}
 use Rattle.c_grammar.specs.Specifiers.{Place, goes_on, types, type_words, other_types, is_among, fit}
-use Rattle.c_grammar.specs.Found.{◌>>=◌, if_there, Found}
+use Rattle.c_grammar.specs.Found.{◌>>=◌}
 use Rattle.c_grammar.specs.SpecifierSteps.{read_tag, read_item, read_items}
 use Rattle.c_grammar.specs.Nonterminal.{Specifiers}
 use Rattle.c_grammar.specs.Reading.{read}

@@ -1,19 +1,19 @@
 -- Lists that are read in a loop: one more joins those before.
-use Rattle.std.proofs.Common.{◌≡◌, ℕ, zero, suc, ◌+◌, ◌-◌, ◌<◌, ◌≤◌, Bool, true, false, cond, List, [], ◌∷◌, ◌++◌, Option, None, Some, ap, refl, ◌∙◌, sym, arith}
+use Rattle.std.proofs.Common.{◌≡◌, ℕ, zero, suc, ◌-◌, ◌<◌, Bool, true, false, List, [], ◌∷◌, ◌++◌, Option, None, Some, ap, refl, ◌∙◌, sym}
 use Rattle.c_tree.specs.declared.tree.Tree.{Tree}
 use Rattle.c_tree.specs.declared.punctuator.Punctuator.TheVariants as marks
 use Rattle.c_tree.specs.Symbol.{Symbol}
-use Rattle.c_tree.specs.Syntax.{Syntax, Syntaxes, no_more, more}
-use Rattle.c_tree.specs.Forget.{view, view_all}
+use Rattle.c_tree.specs.Syntax.{Syntaxes, no_more, more}
+use Rattle.c_tree.specs.Forget.{view}
 use Rattle.c_grammar.specs.Symbols.{after_sign, begins}
 use Rattle.c_grammar.specs.Levels.{assignment_level}
 use Rattle.c_grammar.specs.Names.{Names, declared}
 use Rattle.c_grammar.specs.Nonterminal.{Expression, Parameter}
-use Rattle.c_grammar.specs.Found.{◌>>=◌, if_there, Found, Reader}
+use Rattle.c_grammar.specs.Found.{◌>>=◌, Reader}
 use Rattle.c_grammar.specs.ExpressionSteps.{read_designator, read_path, read_more_arguments}
 use Rattle.c_grammar.specs.DeclaratorSteps.{begins_suffix, read_suffix, read_suffixes, read_params}
 use Rattle.c_grammar.proofs.Steps.{read_more_arguments-zero, read_more_arguments-some, read_path-zero, read_path-some, read_suffixes-zero, read_suffixes-some, read_params-zero, read_params-some}
-use Rattle.c_expr.specs.Gives.{before, ending_with}
+use Rattle.c_expr.specs.Gives.{ending_with}
 use Rattle.c_expr.specs.ParamLists.{params_after}
 use Rattle.c_expr.proofs.Items.{before-push, before-none, ending-longer, last_one, height_in-push}
 

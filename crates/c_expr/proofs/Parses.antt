@@ -1,14 +1,12 @@
 -- What is read in front of symbols, up to their end, is their parse.
-use Rattle.std.proofs.Common.{◌≡◌, ℕ, ◌<◌, Bor, List, [], ◌∷◌, length, Option, None, Some, Result, Ok, Err, IfOk, IfErr, IsErrAnd, refl, sym, ◌∙◌, subst, arith}
+use Rattle.std.proofs.Common.{◌≡◌, ℕ, ◌<◌, Bor, List, [], ◌∷◌, length, None, Some, Result, Ok, Err, IfOk, IfErr, IsErrAnd, refl, sym, ◌∙◌, subst, arith}
 use Rattle.c_tree.specs.declared.tree.Tree.{Tree}
 use Rattle.c_tree.specs.declared.token.Token.{Token}
 use Rattle.c_tree.specs.Symbol.{Symbol, symbols_of}
 use Rattle.c_tree.specs.Syntax.{Syntax}
 use Rattle.c_grammar.specs.Names.{Names}
 use Rattle.c_grammar.specs.Nonterminal.{Nonterminal}
-use Rattle.c_grammar.specs.Grammar.{IsParse}
-use Rattle.c_grammar.specs.Found.{◌>>=◌}
-use Rattle.c_grammar.specs.Reading.{read, ended, whole}
+use Rattle.c_grammar.specs.Reading.{read, whole}
 use Rattle.c_grammar.specs.Theorems.{ParsesAreRead}
 use Rattle.c_tree.specs.Forget.{view}
 use Rattle.c_tree.specs.Views.{node_of}

@@ -1,9 +1,8 @@
 -- Specifiers that are gone over one after the other.
-use Rattle.std.proofs.Common.{◌≡◌, ℕ, ◌+◌, ◌<◌, ◌≤◌, Bool, ◌||◌, false, List, [], ◌∷◌, ◌++◌, length, get_or, drop, ap, refl, sym, ◌∙◌}
+use Rattle.std.proofs.Common.{◌≡◌, ℕ, ◌+◌, ◌<◌, ◌≤◌, Bool, ◌||◌, false, List, [], ◌++◌, length, get_or, drop, ap, refl, sym, ◌∙◌}
 use Rattle.std.proofs.lemmas.List.{drop_all, append_assoc, append-nil}
 use Rattle.c_tree.specs.declared.keyword.Keyword.{Keyword}
 use Rattle.c_tree.specs.declared.tree.Tree.{Tree}
-use Rattle.c_tree.specs.Views.{nodes_in}
 use Rattle.c_tree.specs.Forget.{syntaxes_of, view, view_all}
 use Rattle.c_tree.specs.Syntax.{Syntax, Syntaxes, no_more, more}
 use Rattle.c_tree.proofs.Rows.{nodes_drop}

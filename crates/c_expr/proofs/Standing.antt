@@ -1,5 +1,5 @@
 -- Lines that stand. A node stands where its parts do: `made` and `made_part` take what stands in the order of its line.
-use Rattle.std.proofs.Common.{◌≡◌, ℕ, ◌+◌, ◌-◌, ◌<◌, ◌≤◌, List, [], ◌∷◌, ◌++◌, length, get_or, take, drop, Option, None, Some, Result, Ok, Err, refl, sym, ap, ◌∙◌, subst, arith}
+use Rattle.std.proofs.Common.{◌≡◌, ℕ, ◌+◌, ◌-◌, ◌<◌, List, [], ◌∷◌, ◌++◌, length, get_or, take, drop, Some, Result, Ok, Err, refl, sym, subst, arith}
 use Rattle.std.proofs.lemmas.List.{take_all, take-append-drop}
 use Rattle.c_tree.specs.declared.operator.UnaryOp.{UnaryOp}
 use Rattle.c_tree.specs.declared.operator.UnaryOp.TheVariants as unary
@@ -10,9 +10,9 @@ use Rattle.c_tree.specs.declared.token.TokenKind.TheVariants as token_kinds
 use Rattle.c_tree.specs.declared.keyword.Keyword.{Keyword}
 use Rattle.c_tree.specs.declared.punctuator.Punctuator.TheVariants as marks
 use Rattle.c_tree.specs.Symbol.{Symbol, Sign, Reserved, symbol_of}
-use Rattle.c_tree.specs.Node.{Node, node, Shape, Nodes, no_more, more}
-use Rattle.c_tree.specs.Views.{node_of, nodes_of, nodes_in}
-use Rattle.c_places.specs.Lines.{Line, nothing, fixed, at, numbered, kept, all_kept, sign, unary_line, ◌⨾◌, line_of, shape_line, row_line, list_line, more_line}
+use Rattle.c_tree.specs.Node.{Node, node, Shape, Nodes, no_more}
+use Rattle.c_tree.specs.Views.{node_of, nodes_in}
+use Rattle.c_places.specs.Lines.{Line, nothing, fixed, at, kept, all_kept, sign, unary_line, ◌⨾◌, shape_line, row_line, list_line, more_line}
 use Rattle.c_places.specs.Stands.{Stands, OfNothing, OfKept, OfAll, OfFixed, OfPlace, OfNumber, OfBoth, StandsOver}
 use Rattle.c_grammar.specs.Levels.{prefix_of}
 use Rattle.c_expr.specs.declared.fault.ExprFault.{ExprFault}

@@ -19,7 +19,6 @@ use Rattle.c_places.specs.Stands.{Stands, OfNothing, OfAll, OfFixed, OfBoth, Sta
 use Rattle.c_expr.specs.Gives.{count_in, ending_with}
 use Rattle.c_expr.specs.ParamLists.{params_after}
 use Rattle.c_expr.specs.Standing.{Passes, IsFirst}
-use Rattle.c_expr.proofs.Standing.{led_line}
 
 -- a token has its own place, and is passed where its symbol is known
 pub first_self : (t : Token) (ts : List Token) → IsFirst t.place (t ∷ ts)

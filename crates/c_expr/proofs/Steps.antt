@@ -1,17 +1,17 @@
 -- The equations of the steps that read expressions in a loop.
-use Rattle.std.proofs.Common.{◌≡◌, ℕ, zero, suc, ◌+◌, ◌-◌, ◌<◌, ◌≤◌, Bool, true, false, cond, ◌&&◌, nat_eq, List, [], ◌∷◌, length, map, Option, None, Some, ap, refl, ◌∙◌, sym, subst, arith}
+use Rattle.std.proofs.Common.{◌≡◌, ℕ, zero, suc, ◌+◌, ◌-◌, ◌<◌, true, false, ◌&&◌, nat_eq, List, [], ◌∷◌, length, None, Some, ap, refl, ◌∙◌, sym, subst, arith}
 use Rattle.c_tree.specs.declared.token.Token.{Token}
 use Rattle.c_tree.specs.declared.tree.Tree.{Tree}
 use Rattle.c_tree.specs.declared.tree.Trees.{Trees, out-Trees}
 use Rattle.c_tree.specs.declared.punctuator.Punctuator.TheVariants as marks
-use Rattle.c_tree.specs.Symbol.{Symbol, Sign, symbol_of, symbols_of}
+use Rattle.c_tree.specs.Symbol.{Symbol, Sign, symbols_of}
 use Rattle.c_tree.specs.Forget.{list_view, view_all}
 use Rattle.c_tree.specs.Syntax.{Syntax}
 use Rattle.c_grammar.specs.Symbols.{begins, is_string, run_of, after_run, is_sign, after_sign}
 use Rattle.c_grammar.specs.Grammar.{is_pointer_word, is_nothing}
 use Rattle.c_grammar.specs.DeclaratorSteps.{pointers_of, after_pointers}
 use Rattle.c_grammar.specs.Names.{Names}
-use Rattle.c_grammar.specs.Found.{◌>>=◌, if_there, Found, Reader}
+use Rattle.c_grammar.specs.Found.{◌>>=◌, Reader}
 use Rattle.c_grammar.specs.ExpressionSteps.{begins_postfix, read_postfix_operators, read_cast, take_binary, read_chain, read_binary}
 use Rattle.c_grammar.proofs.Steps.{read-zero, read-some, read_postfix_operators-zero, read_postfix_operators-some, read_chain-zero, read_chain-some, read_binary-zero, read_binary-some, run_of-more, after_run-more}
 use Rattle.c_grammar.proofs.Front.{is_sign-true}

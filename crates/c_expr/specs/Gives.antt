@@ -1,6 +1,5 @@
 -- What the reader in the arena gives, seen by the reader over lists of symbols.
 use Rattle.std.specs.Prelude.{◌≡◌, ℕ, ◌+◌, ◌*◌, ◌≤◌, List, [], ◌∷◌, Option, None, Some, Result, Ok, Err, length}
-use Rattle.std.specs.Borrow.{Bor}
 use Rattle.c_tree.specs.declared.tree.Tree.{Tree}
 use Rattle.c_tree.specs.declared.tree.Kind.{Kind}
 use Rattle.c_tree.specs.Symbol.{Symbol, symbols_of}

@@ -5,7 +5,7 @@ use Rattle.c_tree.specs.declared.place.Place.{Place}
 use Rattle.c_tree.specs.declared.punctuator.Punctuator.TheVariants as marks
 use Rattle.c_tree.specs.declared.token.Token.{Token}
 use Rattle.c_tree.specs.Symbol.{Symbol}
-use Rattle.c_tree.specs.Node.{Node, node, Shape, Nodes}
+use Rattle.c_tree.specs.Node.{Node, node, Shape}
 use Rattle.c_tree.specs.Views.{node_of, nodes_of}
 use Rattle.c_places.specs.Lines.{Line, fixed, kept, all_kept, sign, unary_line, ◌⨾◌, row_line, list_line, ellipsis_if}
 use Rattle.c_places.specs.Stands.{Stands, StandsOver}

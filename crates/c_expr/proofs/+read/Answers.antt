@@ -1,23 +1,12 @@
-use Rattle.std.proofs.Common.{◌≡◌, ℕ, ◌-◌, ◌<◌, ◌≤◌, Bool, true, false, cond, nat_le, List, refl, ◌∙◌, sym, subst, arith, ◌+◌, None, Some, Result, Ok, Err, IsErrAnd, ap, length, rules}
-use Rattle.c_tree.specs.Symbol.{Symbol, symbols_of}
-use Rattle.c_grammar.specs.Levels.{unary_level, cast_level, conditional_level, assignment_level, comma_level}
-use Rattle.c_grammar.specs.Names.{Names}
-use Rattle.c_grammar.specs.Nonterminal.{Expression}
-use Rattle.c_grammar.specs.ExpressionSteps.{read_commas, read_assignment, read_conditional, read_binary, read_unary, read_postfix, read_chain, take_binary, read_more_arguments, read_path}
+use Rattle.std.proofs.Common.{◌-◌, ◌<◌, refl, ◌∙◌, sym, subst, arith, ap, length, rules}
+use Rattle.c_tree.specs.Symbol.{symbols_of}
+use Rattle.c_grammar.specs.ExpressionSteps.{read_more_arguments, read_path}
 use Rattle.c_grammar.specs.Reading.{read}
-use Rattle.c_grammar.proofs.Options.{low}
-use Rattle.c_grammar.proofs.Steps.{read-some, read_chain-some}
 use Rattle.c_expr.specs.Gives.{Gives}
 use Rattle.c_places.specs.Stands.{OfBoth, OfNothing}
 use Rattle.c_expr.proofs.Standing.{made, at_node, at_passed, made_part, at_shorter, in_arena, then_both, none-closed, led-start, list-next, list-last, list-closed, at_front, front-first, front-kept, front-reserved, row-start, row-next, row-closed, some_behind, some_kept, some_passed}
-use Rattle.c_tree.specs.Syntax.{Syntax, Operation, Binary}
 use Rattle.c_tree.specs.Forget.{view, view_all, list_view}
-use Rattle.c_expr.specs.declared.fault.ExprFault.{ExprFault}
-use Rattle.c_expr.specs.declared.fault.ExprFault.TheVariants.{NoTree}
-use Rattle.c_expr.specs.declared.nodes.Read.{Read}
-use Rattle.c_expr.proofs.Steps.{read_binary-fails}
-use Rattle.c_tree.specs.declared.operator.BinaryOp.{BinaryOp}
-use Rattle.c_tree.specs.Views.{nodes_in, nodes_of, node_of}
+use Rattle.c_tree.specs.Views.{nodes_in, nodes_of}
 use Rattle.c_tree.specs.Height.{height_in}
 use Rattle.c_expr.proofs.Items.{height_pushed, count_pushed}
 use Rattle.c_expr.proofs.StandingParts.{ending-start, list-done, params-start, height-start, list-start, params_behind, kept_length, something, row-done, count-start}

@@ -1,4 +1,4 @@
-use Rattle.std.proofs.Common.{◌∙◌, sym, ap, ◌||◌, drop, ◌+◌, true, false, ◌≡◌, arith}
+use Rattle.std.proofs.Common.{◌∙◌, sym, ap, ◌||◌, drop, ◌+◌, arith}
 use Rattle.c_grammar.specs.Specifiers.{is_among}
 use Rattle.c_expr.specs.Lines.{lines_of}
 use Rattle.c_expr.proofs.BasicTypes.{is_among-drop, is_among-end}

@@ -1,4 +1,4 @@
-use Rattle.std.proofs.Common.{◌≡◌, sym, arith}
+use Rattle.std.proofs.Common.{sym, arith}
 use Rattle.c_expr.proofs.Standing.{front-leads}
 use Rattle.c_expr.proofs.operators.take_prefix.Goals as goal
 

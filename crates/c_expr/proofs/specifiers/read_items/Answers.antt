@@ -1,4 +1,4 @@
-use Rattle.std.proofs.Common.{false, ◌≡◌, ◌<◌, ◌∙◌, sym, arith}
+use Rattle.std.proofs.Common.{false, ◌<◌, sym, arith}
 use Rattle.c_tree.specs.Symbol.{symbol_of, symbols_of}
 use Rattle.c_grammar.specs.SpecifierSteps.{read_tag, read_items}
 use Rattle.c_tree.specs.Views.{node_of}

@@ -1,4 +1,4 @@
-use Rattle.std.proofs.Common.{◌≡◌, ◌∙◌, sym, arith}
+use Rattle.std.proofs.Common.{◌∙◌, sym, arith}
 use Rattle.c_tree.specs.Symbol.{Reserved}
 use Rattle.c_grammar.proofs.Front.{is_keyword-true}
 use Rattle.c_expr.proofs.Standing.{front-passes}

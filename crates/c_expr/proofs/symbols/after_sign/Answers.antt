@@ -1,4 +1,4 @@
-use Rattle.std.proofs.Common.{◌≡◌, ◌∙◌, sym, arith}
+use Rattle.std.proofs.Common.{◌∙◌, sym, arith}
 use Rattle.c_tree.specs.Symbol.{Sign}
 use Rattle.c_grammar.proofs.Front.{is_sign-true}
 use Rattle.c_expr.proofs.Standing.{front-passes}
