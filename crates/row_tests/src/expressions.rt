@@ -338,7 +338,6 @@ static NOT_NAMED: [&str; 17] = [
     "f(...)",
     "f(int,)",
     "f[a, b]",
-
     "f(int void)",
     "()",
     "+",
@@ -363,40 +362,15 @@ static ABSTRACT: [&str; 12] = [
 ];
 
 /// What is no declarator without a name.
-static NOT_ABSTRACT: [&str; 8] = [
-    "",
-    "f",
-    "*f",
-    "(f)",
-    "(*f)",
-    "3",
-    "(*)f",
-    "[a, b]",
-];
+static NOT_ABSTRACT: [&str; 8] = ["", "f", "*f", "(f)", "(*f)", "3", "(*)f", "[a, b]"];
 
 /// Declarators of parameters.
 static OF_PARAMETERS: [&str; 11] = [
-    "x",
-    "(x)",
-    "*x",
-    "(T)",
-    "*",
-    "(*)(T)",
-    "T",
-    "(T x)",
-    "x[3]",
-    "[3]",
-    "()",
+    "x", "(x)", "*x", "(T)", "*", "(*)(T)", "T", "(T x)", "x[3]", "[3]", "()",
 ];
 
 /// What is no declarator of a parameter.
-static NOT_OF_PARAMETERS: [&str; 5] = [
-    "",
-    "(x",
-    "3",
-    "x y",
-    "(T, x",
-];
+static NOT_OF_PARAMETERS: [&str; 5] = ["", "(x", "3", "x y", "(T, x"];
 
 #[test]
 fn operators_bind_as_the_standard_says(rt: HostRuntime) -> Result<(), Fail> {
@@ -440,12 +414,48 @@ fn specifiers_are_read(rt: HostRuntime) -> Result<(), Fail> {
 
 #[test]
 fn declarators_are_read(rt: HostRuntime) -> Result<(), Fail> {
-    expect(&rt, rt.alloc(), Phrase::Declarator(Form::Named), &NAMED, true)?;
-    expect(&rt, rt.alloc(), Phrase::Declarator(Form::Named), &NOT_NAMED, false)?;
-    expect(&rt, rt.alloc(), Phrase::Declarator(Form::Abstract), &ABSTRACT, true)?;
-    expect(&rt, rt.alloc(), Phrase::Declarator(Form::Abstract), &NOT_ABSTRACT, false)?;
-    expect(&rt, rt.alloc(), Phrase::Declarator(Form::Either), &OF_PARAMETERS, true)?;
-    expect(&rt, rt.alloc(), Phrase::Declarator(Form::Either), &NOT_OF_PARAMETERS, false)
+    expect(
+        &rt,
+        rt.alloc(),
+        Phrase::Declarator(Form::Named),
+        &NAMED,
+        true,
+    )?;
+    expect(
+        &rt,
+        rt.alloc(),
+        Phrase::Declarator(Form::Named),
+        &NOT_NAMED,
+        false,
+    )?;
+    expect(
+        &rt,
+        rt.alloc(),
+        Phrase::Declarator(Form::Abstract),
+        &ABSTRACT,
+        true,
+    )?;
+    expect(
+        &rt,
+        rt.alloc(),
+        Phrase::Declarator(Form::Abstract),
+        &NOT_ABSTRACT,
+        false,
+    )?;
+    expect(
+        &rt,
+        rt.alloc(),
+        Phrase::Declarator(Form::Either),
+        &OF_PARAMETERS,
+        true,
+    )?;
+    expect(
+        &rt,
+        rt.alloc(),
+        Phrase::Declarator(Form::Either),
+        &NOT_OF_PARAMETERS,
+        false,
+    )
 }
 
 /// The height of the tree that a text is as an expression, if it is one.
