@@ -58,7 +58,7 @@ fn tree_of<'a>(
 }
 
 /// How two texts are read as expressions.
-fn answer(alloc: Global, text: &[u8], other: &[u8]) -> Result<Answer, LexFault> {
+fn how_they_are_read(alloc: Global, text: &[u8], other: &[u8]) -> Result<Answer, LexFault> {
     let arena = Bump::new(alloc);
     let mut names = Names::new(alloc);
     let type_name = names.intern(b"T")?;
@@ -373,7 +373,7 @@ fn compare(
     wanted: Answer,
 ) -> Result<(), Fail> {
     for (text, other) in rows {
-        let seen = answer(alloc, text.as_bytes(), other.as_bytes())?;
+        let seen = how_they_are_read(alloc, text.as_bytes(), other.as_bytes())?;
         assert_eq!(rt; seen, wanted, "{text}");
     }
     Ok(())
