@@ -1,6 +1,13 @@
+pub mod DeclarationPlaces
 pub mod Equations
 pub mod FunctionForms
 pub mod Gathering
+pub mod InitialSteps
 pub mod ListSteps
 pub mod Lists
-pub mod Specifiers
+pub mod Typedefs
+pub mod TaggedPlaces
+pub mod TaggedSteps
+pub mod TypedOnce
+pub mod StatementStanding
+pub mod StatementSteps

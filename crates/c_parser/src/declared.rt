@@ -1,20 +1,19 @@
 //! What finished trees declare (ISO 9899:1990, 6.1.2.1, 6.5.6).
 
 ghost use Rattle.std.specs.Prelude.{◌≡◌, IfOk};
-ghost use Rattle.c_tree.specs.Forget.{view, view_all, declarator_view};
+ghost use Rattle.c_tree.specs.Forget.{view, view_all};
 ghost use Rattle.c_tree.specs.Symbol.{symbol_of};
 ghost use Rattle.c_tree.specs.Syntax as kinds;
 ghost use Rattle.c_grammar.specs.Specifiers.{storages_of, storages};
-ghost use Rattle.c_grammar.specs.Names.{name_of, declarator_name, with_name, declared, declared_all};
+ghost use Rattle.c_grammar.specs.Names.{with_name, declared_all};
 ghost use Rattle.unit_grammar.specs.Names.{has_typedef, makes_types, declared_name};
 
-use crate::labels::name_in;
-use c_expr::TypeNames;
-use c_tree::{Declarator, Initializer, Keyword, Kind, Part, Specifier, Token, TokenKind, Tree};
+use c_expr::{TypeNames, declare_param, name_of};
+use c_tree::{Initializer, Keyword, Kind, Part, Specifier, Token, TokenKind, Tree};
 use std::alloc::AllocError;
 
 /// Whether the word is `typedef`.
-#[tactic(auto, using(crate::proofs::Specifiers::typedefs))]
+#[tactic(auto, using(crate::proofs::Typedefs::typedefs))]
 fn is_typedef_word(word: &Token) -> bool
     ensures { result ≡ has_typedef (storages_of (kinds.Part (kinds.SpecWord (symbol_of word.now)))) }
 {
@@ -28,7 +27,7 @@ fn is_typedef_word(word: &Token) -> bool
 }
 
 /// Whether the specifier is `typedef`.
-#[tactic(auto, using(crate::proofs::Specifiers::typedef_none))]
+#[tactic(auto, using(crate::proofs::Typedefs::typedef_none))]
 fn is_typedef(item: &Tree) -> bool
     ensures { result ≡ has_typedef (storages_of (view item.now)) }
 {
@@ -47,7 +46,7 @@ fn is_typedef(item: &Tree) -> bool
 }
 
 /// Whether `typedef` is among the specifiers.
-#[tactic(auto, using(crate::proofs::Lists::lists, crate::proofs::Specifiers::typedefs))]
+#[tactic(auto, using(crate::proofs::Lists::lists, crate::proofs::Typedefs::typedefs))]
 fn has_typedef(items: &[Tree]) -> bool
     ensures { result ≡ has_typedef (storages (view_all items.now)) }
 {
@@ -70,28 +69,6 @@ pub(crate) fn makes_types(specs: &Tree) -> bool
             _ => false,
         },
         _ => false,
-    }
-}
-
-/// The name that a declarator declares, if it isn't abstract.
-#[cycle(name_of)]
-pub(crate) fn name_of(tree: &Tree) -> Option<u32>
-    ensures { result ≡ name_of (view tree.now) }
-{
-    match &tree.kind {
-        Kind::Declarator(declarator) => name_of_declarator(declarator),
-        _ => None,
-    }
-}
-
-#[cycle(name_of)]
-fn name_of_declarator(declarator: &Declarator) -> Option<u32>
-    ensures { result ≡ declarator_name (declarator_view declarator.now) }
-{
-    match declarator {
-        Declarator::Named { name, .. } => name_in(name),
-        Declarator::Nested { inner, .. } => name_of(inner),
-        Declarator::Unnamed { .. } => None,
     }
 }
 
@@ -123,23 +100,6 @@ pub(crate) fn declare(
             names.declare(name, is_type)?;
             Ok(())
         }
-    }
-}
-
-/// Puts a parameter in force.
-fn declare_param(names: &mut TypeNames, param: &Tree) -> Result<(), AllocError>
-    ensures now { IfOk result (λ _. names.new.now ≡ declared (view param.now) names.old.now) }
-    ensures saved { names.new.saved ≡ names.old.saved }
-{
-    match &param.kind {
-        Kind::Specifier(specifier) => match specifier {
-            Specifier::Param { declarator, .. } => match declarator {
-                Some(declarator) => declare(names, name_of(declarator), false),
-                None => Ok(()),
-            },
-            _ => Ok(()),
-        },
-        _ => Ok(()),
     }
 }
 

@@ -1,9 +1,27 @@
 //! Reads declarations, statements and translation units of C.
 #![tactic(auto)]
 
+mod blocks;
 mod control;
+mod declaration_nodes;
+mod declarations;
 mod declared;
 mod definitions;
+mod front;
+mod functions;
+mod initialized;
+mod initials;
+mod inner;
+mod jumps;
 mod labels;
+mod members;
+mod parts;
+mod specifiers;
+mod tagged;
+mod tagged_nodes;
+mod loops;
+mod selections;
+mod statement_nodes;
+mod statements;
 
 pub use control::is_controlled;

@@ -1,0 +1,46 @@
+use Rattle.std.proofs.Common.{◌-◌, ◌<◌, ◌∙◌, sym, arith, rules}
+use Rattle.c_tree.specs.Symbol.{symbols_of}
+use Rattle.c_grammar.specs.Reading.{read as read_expressions}
+use Rattle.unit_grammar.specs.DeclarationSteps.{read_initials}
+use Rattle.unit_grammar.specs.Reading.{read}
+use Rattle.c_places.specs.Stands.{OfNothing, OfBoth}
+use Rattle.c_expr.proofs.Items.{height_pushed}
+use Rattle.c_expr.proofs.Standing.{list-next, list-last, led-start}
+use Rattle.c_expr.proofs.StandingParts.{list-done, height-start}
+use Rattle.c_parser.proofs.ListSteps.{initials-next}
+use Rattle.c_parser.proofs.InitialSteps.{commas-start}
+use Rattle.c_parser.proofs.initials.read_initials.Goals as goal
+
+pub loop-fuel-preserved : goal.loop-fuel-preserved
+loop-fuel-preserved c =
+    let positive : 0 < c.loop-fuel.fuel = omega arith in
+    let item = c.in_ok-element.element in
+    let highest = height_pushed c.loop-fuel.all.items c.push.new.self.items item.tree c.in_ok-push.ensures.items in
+    record {
+      found = initials-next (read_expressions (c.args.room - 1)) (read (c.args.room - 1)) c.args.names.now.now c.loop-fuel.names.now c.loop-fuel.fuel (symbols_of c.loop-fuel.rest.now) (symbols_of item.rest.now) (symbols_of c.in-Some.after.now) c.loop-fuel.all.items c.push.new.self.items item.tree _ positive c.loop-fuel.invariant.now c.in_ok-element.ensures.found.0 (sym c.in-Some.ensures.found) (sym c.in_default-after_sign-2.ensures.found) c.in_ok-push.ensures.items c.loop-fuel.invariant.found;
+      height = omega (arith, c.in_ok-element.ensures.found.1, highest);
+      now = c.in_ok-element.ensures.names.0 ∙ c.loop-fuel.invariant.now;
+      saved = c.in_ok-element.ensures.names.1 ∙ c.loop-fuel.invariant.saved;
+      rises = omega (arith, c.in_ok-element.ensures.ids.0, c.loop-fuel.invariant.rises);
+      stands = list-next c.loop-fuel.all.items c.push.new.self.items item.tree _ _ _ _ _ _ _ c.in_ok-push.ensures.items c.loop-fuel.invariant.stands c.in_ok-element.ensures.stands c.in-Some.ensures.passes;
+      spent = omega (arith, c.in_ok-element.ensures.ids.1, c.in-Some.ensures.shorter, c.loop-fuel.invariant.spent);
+    }
+
+pub loop-fuel-init : goal.loop-fuel-init
+loop-fuel-init c = record {
+  found = commas-start (λ n. read_initials (read_expressions (c.args.room - 1)) (read (c.args.room - 1)) c.args.names.now.now n (symbols_of c.args.tokens.now)) c.new-all.result.items c.args.tokens.now c.new-all.ensures.items;
+  height = height-start c.new-all.result.items c.new-all.ensures.items;
+  now = search rules;
+  saved = search rules;
+  rises = omega arith;
+  stands = led-start c.new-all.result.items _ _ c.new-all.ensures.items;
+  spent = omega arith;
+}
+
+pub returns-in_default-clause-stands : goal.returns-in_default-clause-stands
+returns-in_default-clause-stands c =
+    OfBoth (OfBoth (list-done c.list_of.result c.push.new.self.items _ _ _ _ c.list_of.ensures.nodes (list-last c.loop-fuel.all.items c.push.new.self.items c.in_ok-element.element.tree _ _ _ _ _ _ c.in_ok-push.ensures.items c.loop-fuel.invariant.stands c.in_ok-element.ensures.stands)) OfNothing) (c.in-Some-after_sign.ensures.passes _)
+
+pub returns-in-Some-after_sign-2-clause-stands : goal.returns-in-Some-after_sign-2-clause-stands
+returns-in-Some-after_sign-2-clause-stands c =
+    OfBoth (OfBoth (list-done c.list_of-in-Some-after_sign-2.result c.push.new.self.items _ _ _ _ c.list_of-in-Some-after_sign-2.ensures.nodes (list-last c.loop-fuel.all.items c.push.new.self.items c.in_ok-element.element.tree _ _ _ _ _ _ c.in_ok-push.ensures.items c.loop-fuel.invariant.stands c.in_ok-element.ensures.stands)) (c.in-Some.ensures.passes _)) (c.in-Some-after_sign-2.ensures.passes _)

@@ -1,0 +1,23 @@
+use Rattle.std.proofs.Common.{refl, arith}
+use Rattle.c_expr.proofs.Standing.{front-kept, front-passes}
+use Rattle.c_expr.proofs.StandingParts.{keyword_symbol}
+use Rattle.c_parser.proofs.StatementStanding.{passed-symbols}
+use Rattle.c_parser.proofs.statements.statement_at_front.Goals as goal
+
+pub returns-in-Some-clause-stands : goal.returns-in-Some-clause-stands
+returns-in-Some-clause-stands c =
+    let some = c.in-len1-up.len_at_least in
+    c.read_label.ensures.stands c.args.tokens.now _ (front-kept c.args.tokens.now _ (omega (arith, some))) c.in-Some.ensures.passes
+
+pub read_by_keyword-requires-clause-passes : goal.read_by_keyword-requires-clause-passes
+read_by_keyword-requires-clause-passes c =
+    let some = c.in-len1-up.len_at_least in
+    front-passes _ c.args.tokens.now _ (omega (arith, some)) (keyword_symbol _ _ _ c.in-Keyword.is refl)
+
+pub read_by_keyword-requires-clause-front : goal.read_by_keyword-requires-clause-front
+read_by_keyword-requires-clause-front c =
+    let some = c.in-len1-up.len_at_least in
+    passed-symbols _ c.args.tokens.now _ (front-passes _ c.args.tokens.now _ (omega (arith, some)) (keyword_symbol _ _ _ c.in-Keyword.is refl))
+
+pub returns-in-Some-after_sign-2-clause-stands : goal.returns-in-Some-after_sign-2-clause-stands
+returns-in-Some-after_sign-2-clause-stands c = c.read_block_rest.ensures.stands c.args.tokens.now c.place_of.ensures c.in-Some-after_sign-2.ensures.passes
