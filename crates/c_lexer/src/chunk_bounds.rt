@@ -1,8 +1,8 @@
 //! Where the tokens of a file are cut into declarations and functions.
 
-ghost use Rattle.std.specs.Prelude.{◌≡◌, ◌+◌, ◌<◌, ◌≤◌, ◌^◌, length, IfOk};
+ghost use Rattle.std.specs.Prelude.{◌≡◌, ◌+◌, ◌<◌, ◌≤◌, ◌^◌, ◌↔◌, length, IsTrue, IfOk};
 ghost use Rattle.c_reading.specs.Strip.{is_close_paren};
-ghost use Rattle.c_reading.specs.Chunks.{depth_behind, AreChunks};
+ghost use Rattle.c_reading.specs.Chunks.{depth_behind, AreChunks, IsCut};
 ghost use Rattle.c_reading.specs.Nests.{ends_here, body_behind};
 
 use crate::kinds::{closes, is_close_brace, is_close_paren, is_open_brace, is_semicolon, opens};
@@ -85,4 +85,25 @@ pub fn chunks(alloc: Global, tokens: &Tokens) -> Result<Vec<(u32, u32)>, AllocEr
         bounds.push((start as u32, index as u32))?;
     }
     Ok(bounds)
+}
+
+/// Whether the last of these stripped tokens ends a chunk, so that no token is left behind the chunks.
+pub fn is_cut(tokens: &Tokens) -> bool
+    ensures { IsTrue result ↔ IsCut tokens.now.all }
+{
+    let all = tokens.all();
+    let mut ends = true;
+    let mut nesting = Nesting {
+        depth: 0,
+        behind_paren: false,
+        in_body: false,
+    };
+    let mut index = 0;
+    'going: while index < all.len() {
+        let kind = all[index].kind;
+        ends = nesting.ends(kind);
+        nesting = nesting.behind(kind);
+        index += 1;
+    }
+    ends
 }

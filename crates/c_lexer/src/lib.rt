@@ -19,7 +19,7 @@ mod tokens;
 mod words;
 
 pub use c_reading::Mode;
-pub use chunk_bounds::chunks;
+pub use chunk_bounds::{chunks, is_cut};
 pub use fault::{LexFault, Spot};
 pub use lexer::lex;
 pub use stripping::strip;

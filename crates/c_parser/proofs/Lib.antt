@@ -11,3 +11,4 @@ pub mod TaggedSteps
 pub mod TypedOnce
 pub mod StatementStanding
 pub mod StatementSteps
+pub mod Units

@@ -8,3 +8,4 @@ pub mod Tags
 pub mod Behind
 pub mod JumpSteps
 pub mod StatementParts
+pub mod Units

@@ -1,10 +1,12 @@
 //! Stubs.
 
-ghost use Rattle.std.specs.Prelude.{◌≡◌, ◌+◌, ◌*◌, ◌<◌, ◌≤◌, ◌^◌, length, IfOk};
+ghost use Rattle.std.specs.Prelude.{◌≡◌, ◌+◌, ◌*◌, ◌<◌, ◌≤◌, ◌^◌, ◌-◌, length, IfOk};
 ghost use Rattle.c_tree.specs.Symbol.{symbols_of};
 ghost use Rattle.c_tree.specs.Forget.{view};
 ghost use Rattle.unit_grammar.specs.Construct.{SpecifiersIn, TaggedType, StructMember, BracedInitials, BlockDeclaration, OneStatement, FunctionBody};
 ghost use Rattle.unit_grammar.specs.Names.{declared};
+ghost use Rattle.c_grammar.specs.Reading.{read as read_expressions};
+ghost use Rattle.unit_grammar.specs.ChunkSteps as steps;
 ghost use Rattle.unit_grammar.specs.Reading.{read};
 ghost use Rattle.c_expr.specs.Gives.{Gives, AsBefore, left, done, Spends};
 ghost use Rattle.c_expr.specs.SpecifierPlaces.{place_of};
@@ -12,6 +14,7 @@ ghost use Rattle.c_expr.specs.Standing.{Over};
 
 use c_expr::{ExprFault, Read, SpecifierPlace, TypeNames};
 use c_tree::{Arena, Token};
+use std::alloc::Global;
 
 /// All specifiers in front, with their bodies.
 pub(crate) fn specifiers_in_front<'a>(
@@ -132,6 +135,26 @@ pub(crate) fn body_in_front<'a>(
     ensures found { Gives result (read room FunctionBody names.old.now (symbols_of tokens.now)) }
     ensures stands { Over result next.old next.new tokens.now }
     ensures names { AsBefore names.new names.old }
+    ensures ids { Spends next.old next.new (length tokens.now) (left result) }
+{
+    Err(ExprFault::NoMemory)
+}
+
+/// The external definition in front.
+pub(crate) fn read_chunk<'a>(
+    arena: &'a Arena,
+    alloc: Global,
+    tokens: &'a [Token],
+    names: &mut TypeNames,
+    room: u32,
+    next: &mut u32,
+) -> Result<Read<'a>, ExprFault>
+    requires positive { 0 < room }
+    requires ids { next.old + 16 * length tokens.now < 2 ^ 32 }
+    ensures found { Gives result (steps.read_chunk (read_expressions (room - 1)) (read (room - 1)) room names.old.now (symbols_of tokens.now)) }
+    ensures stands { Over result next.old next.new tokens.now }
+    ensures now { IfOk result (λ r. names.new.now ≡ declared (view r.tree) names.old.now) }
+    ensures saved { names.new.saved ≡ names.old.saved }
     ensures ids { Spends next.old next.new (length tokens.now) (left result) }
 {
     Err(ExprFault::NoMemory)

@@ -7,6 +7,7 @@ mod declaration_nodes;
 mod declarations;
 mod declared;
 mod definitions;
+mod fault;
 mod front;
 mod functions;
 mod initialized;
@@ -23,5 +24,8 @@ mod loops;
 mod selections;
 mod statement_nodes;
 mod statements;
+mod units;
 
 pub use control::is_controlled;
+pub use fault::ParseFault;
+pub use units::read_unit;

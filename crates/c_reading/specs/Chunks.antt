@@ -93,3 +93,7 @@ Follow ts from (c ∷ cs) to = (c.0 ≡ from) × IsChunk ts c.0 c.1 × Follow ts
 -- the bounds of the chunks of these tokens
 abbrev pub AreChunks : List Token → List (ℕ × ℕ) → Type 0
 AreChunks ts bounds = Follow ts 0 bounds (length ts)
+
+-- no token is left behind the last end of a chunk
+abbrev pub IsCut : List Token → Type 0
+IsCut ts = (n : ℕ) → length ts ≡ n + 1 → EndsChunk ts n

@@ -5,10 +5,12 @@ mod arithmetic;
 mod constants;
 mod operators;
 mod types;
+mod unit;
 mod vars;
 
 pub use arithmetic::Arithmetic;
 pub use constants::{constant_type, string_type};
 pub use operators::{chosen, combined, converted, difference, indexed, sum};
 pub use types::{Ty, same_type};
+pub use unit::Unit;
 pub use vars::Var;

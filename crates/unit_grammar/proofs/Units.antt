@@ -18,16 +18,16 @@ trees_behind e (Trees ds) es h = (ds, refl, cc)
 trees_behind e (Bad k) es h = cc
 
 -- what is read of chunks are their parses
-pub unit-sound : (names : Names) (chunks : List (List Symbol)) (es : Syntaxes) → read_unit names chunks ≡ Trees es → AreParses names es chunks
+pub unit-sound : (names : Names) (chunks : List (List Symbol)) (es : Syntaxes) → read_unit names chunks ≡ Trees es → AreParses IsParse names es chunks
 unfolding read_unit
-unit-sound names [] es h = let e : no_more ≡ es = cc in subst (λ x. AreParses names x []) e tt
+unit-sound names [] es h = let e : no_more ≡ es = cc in subst (λ x. AreParses IsParse names x []) e tt
 unit-sound names (ts ∷ chunks) es h =
-    elim (followed (chunk names ts) _ _ h) as (λ _. AreParses names es (ts ∷ chunks)) [
+    elim (followed (chunk names ts) _ _ h) as (λ _. AreParses IsParse names es (ts ∷ chunks)) [
       | inl p ↦ let q = p.1 in cc
       | inr p ↦
           let q = trees_behind p.0 (read_unit (declared p.0 names) chunks) es p.2 in
           let i = unit-sound (declared p.0 names) chunks q.0 q.1 in
-          subst (λ x. AreParses names x (ts ∷ chunks)) q.2 (chunk-sound names ts p.0 p.1, i)
+          subst (λ x. AreParses IsParse names x (ts ∷ chunks)) q.2 (chunk-sound names ts p.0 p.1, i)
     ]
 
 bad_behind : (e : Syntax) (o : Outcome) (k : ℕ) → behind e o ≡ Bad k → (j : ℕ) × (o ≡ Bad j) × (k ≡ j + 1)
@@ -35,11 +35,11 @@ bad_behind e (Trees ds) k h = cc
 bad_behind e (Bad j) k h = (j, refl, cc)
 
 -- the number that is read is that of the first chunk without a parse
-pub bad-sound : (names : Names) (chunks : List (List Symbol)) (k : ℕ) → read_unit names chunks ≡ Bad k → IsFirstBad names chunks k
+pub bad-sound : (names : Names) (chunks : List (List Symbol)) (k : ℕ) → read_unit names chunks ≡ Bad k → IsFirstBad IsParse names chunks k
 unfolding read_unit
 bad-sound names [] k h = cc
 bad-sound names (ts ∷ chunks) k h =
-    elim (followed (chunk names ts) _ _ h) as (λ _. IsFirstBad names (ts ∷ chunks) k) [
+    elim (followed (chunk names ts) _ _ h) as (λ _. IsFirstBad IsParse names (ts ∷ chunks) k) [
       | inl p ↦
           let none = p.0 in
           let zero : k ≡ 0 = cc (p.1) in
@@ -50,7 +50,7 @@ bad-sound names (ts ∷ chunks) k h =
     ]
 
 -- parses are read
-pub unit-complete : (names : Names) (chunks : List (List Symbol)) (es : Syntaxes) → AreParses names es chunks → read_unit names chunks ≡ Trees es
+pub unit-complete : (names : Names) (chunks : List (List Symbol)) (es : Syntaxes) → AreParses IsParse names es chunks → read_unit names chunks ≡ Trees es
 unfolding read_unit
 unit-complete names [] no_more p = refl
 unit-complete names [] (more e es) p = absurd p
@@ -62,7 +62,7 @@ unparsed names ts None h n = refl
 unparsed names ts (Some e) h n = absurd (n e (chunk-sound names ts e h))
 
 -- and the first chunk without a parse is found
-pub bad-complete : (names : Names) (chunks : List (List Symbol)) (k : ℕ) → IsFirstBad names chunks k → read_unit names chunks ≡ Bad k
+pub bad-complete : (names : Names) (chunks : List (List Symbol)) (k : ℕ) → IsFirstBad IsParse names chunks k → read_unit names chunks ≡ Bad k
 unfolding read_unit
 bad-complete names [] k p = absurd p
 bad-complete names (ts ∷ chunks) k (inl p) = rw (unparsed names ts (chunk names ts) refl p.1) (ap Bad (sym p.0))

@@ -73,16 +73,16 @@ pub record IsParse (names : Names) (e : Syntax) (ts : List Symbol) : Type 0 wher
   pub well : IsChunk names e
   pub height : height_of e ≤ 1000
 
--- The trees are the parses of these chunks, each under the names that those before it leave.
-abbrev pub AreParses : Names → Syntaxes → List (List Symbol) → Type 0
-AreParses names no_more [] = Unit {0}
-AreParses names no_more (ts ∷ chunks) = ⊥
-AreParses names (more e es) [] = ⊥
-AreParses names (more e es) (ts ∷ chunks) = IsParse names e ts × AreParses (declared e names) es chunks
+-- The trees are the parses of these chunks, each under the names that those before it leave. What the parse of one chunk is, is handed in.
+abbrev pub AreParses : {Chunk : Type 0} → (Names → Syntax → Chunk → Type 0) → Names → Syntaxes → List Chunk → Type 0
+AreParses IsParseOf names no_more [] = Unit {0}
+AreParses IsParseOf names no_more (c ∷ chunks) = ⊥
+AreParses IsParseOf names (more e es) [] = ⊥
+AreParses IsParseOf names (more e es) (c ∷ chunks) = IsParseOf names e c × AreParses IsParseOf (declared e names) es chunks
 
 -- Among these chunks that with this number, counted from 0, is the first that has no parse.
-abbrev pub IsFirstBad : Names → List (List Symbol) → ℕ → Type 0
-IsFirstBad names [] k = ⊥
-IsFirstBad names (ts ∷ chunks) k =
-    ((k ≡ 0) × ((e : Syntax) → IsParse names e ts → ⊥))
-    ⊎ ((e : Syntax) × (j : ℕ) × (k ≡ j + 1) × IsParse names e ts × IsFirstBad (declared e names) chunks j)
+abbrev pub IsFirstBad : {Chunk : Type 0} → (Names → Syntax → Chunk → Type 0) → Names → List Chunk → ℕ → Type 0
+IsFirstBad IsParseOf names [] k = ⊥
+IsFirstBad IsParseOf names (c ∷ chunks) k =
+    ((k ≡ 0) × ((e : Syntax) → IsParseOf names e c → ⊥))
+    ⊎ ((e : Syntax) × (j : ℕ) × (k ≡ j + 1) × IsParseOf names e c × IsFirstBad IsParseOf (declared e names) chunks j)

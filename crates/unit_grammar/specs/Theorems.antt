@@ -32,8 +32,8 @@ ParsesAreUnique = (names : Names) (ts : List Symbol) (a b : Syntax) → IsParse 
 
 -- the trees that are read of chunks are exactly their parses
 abbrev pub UnitsAreRead : Type 0
-UnitsAreRead = (names : Names) (chunks : List (List Symbol)) (es : Syntaxes) → (read_unit names chunks ≡ Trees es) ↔ AreParses names es chunks
+UnitsAreRead = (names : Names) (chunks : List (List Symbol)) (es : Syntaxes) → (read_unit names chunks ≡ Trees es) ↔ AreParses IsParse names es chunks
 
 -- and the number that is read is that of the first chunk without a parse
 abbrev pub FirstBadIsFound : Type 0
-FirstBadIsFound = (names : Names) (chunks : List (List Symbol)) (k : ℕ) → (read_unit names chunks ≡ Bad k) ↔ IsFirstBad names chunks k
+FirstBadIsFound = (names : Names) (chunks : List (List Symbol)) (k : ℕ) → (read_unit names chunks ≡ Bad k) ↔ IsFirstBad IsParse names chunks k
