@@ -11,4 +11,5 @@ pub mod TaggedSteps
 pub mod TypedOnce
 pub mod StatementStanding
 pub mod StatementSteps
-pub mod Units
+pub mod Chunks
+pub mod PartStands

@@ -1,5 +1,5 @@
 -- What the trees of a unit's tokens are: the parses of its chunks (ISO 9899:1990, 6.7).
-use Rattle.std.specs.Prelude.{◌≡◌, ℕ, ◌+◌, ◌-◌, ◌×◌, List, [], ◌∷◌, Some, drop, take, slice_get}
+use Rattle.std.specs.Prelude.{◌≡◌, ℕ, ◌+◌, ◌-◌, List, [], ◌∷◌, Some, drop, take, slice_get}
 use Rattle.c_tree.specs.declared.place.Place.{Place}
 use Rattle.c_tree.specs.declared.token.Token.{Token}
 use Rattle.c_tree.specs.Symbol.{symbols_of}

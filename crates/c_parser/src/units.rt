@@ -18,7 +18,7 @@ ghost use Rattle.c_parser.specs.Units.{IsParseIn, AreTheTrees, IsFirstBadAt};
 
 use crate::fault::ParseFault;
 use crate::inner::read_chunk;
-use c_expr::{ExprFault, TypeNames, list_of, place_of};
+use c_expr::{ExprFault, Read, TypeNames, list_of, place_of};
 use c_lexer::{Tokens, chunks, is_cut};
 use c_tree::{Arena, Token, Tree};
 use c_unit::Unit;
@@ -27,6 +27,17 @@ use unit_grammar::{chunks_are_read, parses_are_unique};
 
 /// The height of the highest tree that is read.
 const MOST_HEIGHT: u32 = 1000;
+
+/// What was read, where nothing is left over.
+fn without_rest<'a>(read: Read<'a>) -> Result<Tree<'a>, ExprFault>
+    ensures kept { IfOk result (λ tree. (tree ≡ read.entry.tree) × (length read.entry.rest.now ≡ 0)) }
+    ensures refused { IfErr result (λ fault. fault ≡ NoTree → 0 < length read.entry.rest.now) }
+{
+    if !read.rest.is_empty() {
+        return Err(ExprFault::NoTree);
+    }
+    Ok(read.tree)
+}
 
 /// The external definition that these tokens are.
 fn read_whole<'a>(
@@ -45,10 +56,7 @@ fn read_whole<'a>(
 {
     chunks_are_read();
     let read = read_chunk(arena, alloc, tokens, names, MOST_HEIGHT, next)?;
-    if !read.rest.is_empty() {
-        return Err(ExprFault::NoTree);
-    }
-    Ok(read.tree)
+    without_rest(read)
 }
 
 /// The external definition that the chunk with these bounds is. `cut` tells whether the last chunk ends.

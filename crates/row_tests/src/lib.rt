@@ -2,4 +2,10 @@
 #![tactic(auto)]
 
 #[cfg(test)]
+mod expressions;
+#[cfg(test)]
 mod trees;
+#[cfg(test)]
+mod type_names;
+#[cfg(test)]
+mod units;
