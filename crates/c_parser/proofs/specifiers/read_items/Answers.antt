@@ -4,8 +4,8 @@ use Rattle.c_tree.specs.Forget.{view}
 use Rattle.unit_grammar.specs.Construct.{TaggedType}
 use Rattle.unit_grammar.specs.Reading.{read}
 use Rattle.c_expr.proofs.Items.{height_pushed, count_pushed}
-use Rattle.c_expr.proofs.Standing.{row-next}
-use Rattle.c_expr.proofs.StandingParts.{row-done, row-start, ending-start, height-start, count-start}
+use Rattle.c_expr.proofs.Standing.{row-next, row-start}
+use Rattle.c_expr.proofs.StandingParts.{row-done, ending-start, height-start, count-start}
 use Rattle.c_parser.specs.TypedOnce.{read_typed_once}
 use Rattle.c_parser.proofs.TaggedSteps.{declared-start, declared-next, declared-done}
 use Rattle.c_parser.proofs.TypedOnce.{once-next, once-over, once-spent, once-twice, once-lost, fault-given, items-given, plain-next}
