@@ -1,11 +1,11 @@
 -- Members and enumerators that are read one after the other, and what they declare.
-use Rattle.std.proofs.Common.{◌≡◌, ℕ, ◌+◌, ◌-◌, ◌<◌, ◌≤◌, List, [], ◌∷◌, ◌++◌, length, Option, None, Some, Bool, Result, Ok, Err, IfOk, ap, refl, ◌∙◌, sym, arith}
+use Rattle.std.proofs.Common.{◌≡◌, ℕ, ◌+◌, ◌-◌, ◌<◌, ◌≤◌, List, [], ◌∷◌, ◌++◌, length, Option, None, Some, Bool, Result, Ok, Err, IfOk, ap, refl, ◌∙◌, sym}
 use Rattle.c_tree.specs.declared.tree.Tree.{Tree}
 use Rattle.c_tree.specs.declared.tree.Trees.{Trees}
 use Rattle.c_tree.specs.declared.token.Token.{Token}
 use Rattle.c_tree.specs.declared.punctuator.Punctuator.TheVariants as marks
 use Rattle.c_tree.specs.Symbol.{Symbol, symbols_of}
-use Rattle.c_tree.specs.Syntax.{Syntax, Syntaxes, no_more, more}
+use Rattle.c_tree.specs.Syntax.{Syntax, Syntaxes}
 use Rattle.c_tree.specs.Height.{height_of}
 use Rattle.c_tree.specs.Forget.{view, view_all, list_view}
 use Rattle.c_grammar.specs.Names.{Names}

@@ -1,4 +1,4 @@
-use Rattle.std.proofs.Common.{◌≡◌, ◌<◌, ◌∙◌, ◌-◌, sym, refl, arith}
+use Rattle.std.proofs.Common.{◌<◌, ◌∙◌, ◌-◌, sym, refl, arith}
 use Rattle.c_tree.specs.Symbol.{symbols_of}
 use Rattle.c_places.specs.Stands.{OfNothing, OfBoth}
 use Rattle.c_grammar.specs.Reading.{read as read_expressions}
