@@ -1,5 +1,5 @@
 -- Where structures, unions, enumerations and members stand.
-use Rattle.std.proofs.Common.{◌≡◌, ℕ, Bool, List, Option, None, Some}
+use Rattle.std.proofs.Common.{ℕ, Bool, List, Option, None, Some}
 use Rattle.c_tree.specs.declared.keyword.Keyword.{Keyword}
 use Rattle.c_tree.specs.declared.punctuator.Punctuator.TheVariants as marks
 use Rattle.c_tree.specs.declared.token.Token.{Token}

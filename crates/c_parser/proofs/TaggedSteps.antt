@@ -1,25 +1,31 @@
 -- Members and enumerators that are read one after the other, and what they declare.
-use Rattle.std.proofs.Common.{◌≡◌, ℕ, ◌+◌, ◌<◌, ◌≤◌, List, [], ◌∷◌, ◌++◌, length, Option, None, Some, Bool, Result, Ok, Err, IfOk, ap, refl, ◌∙◌, sym, arith}
+use Rattle.std.proofs.Common.{◌≡◌, ℕ, ◌+◌, ◌-◌, ◌<◌, ◌≤◌, List, [], ◌∷◌, ◌++◌, length, Option, None, Some, Bool, Result, Ok, Err, IfOk, ap, refl, ◌∙◌, sym}
 use Rattle.c_tree.specs.declared.tree.Tree.{Tree}
 use Rattle.c_tree.specs.declared.tree.Trees.{Trees}
 use Rattle.c_tree.specs.declared.token.Token.{Token}
+use Rattle.c_tree.specs.declared.punctuator.Punctuator.TheVariants as marks
 use Rattle.c_tree.specs.Symbol.{Symbol, symbols_of}
-use Rattle.c_tree.specs.Syntax.{Syntax, Syntaxes, no_more, more}
+use Rattle.c_tree.specs.Syntax.{Syntax, Syntaxes}
 use Rattle.c_tree.specs.Height.{height_of}
 use Rattle.c_tree.specs.Forget.{view, view_all, list_view}
 use Rattle.c_grammar.specs.Names.{Names}
 use Rattle.c_grammar.specs.Nonterminal.{Nonterminal}
+use Rattle.c_grammar.specs.Symbols.{after_sign}
+use Rattle.c_grammar.specs.Specifiers.{InTypeName}
 use Rattle.c_grammar.specs.Found.{made}
 use Rattle.c_grammar.specs.Reading.{read as read_expressions}
 use Rattle.c_grammar.proofs.Options.{made_some}
 use Rattle.c_grammar.proofs.Sound.{read-sound}
+use Rattle.unit_grammar.specs.Construct.{SpecifiersIn, StructMember}
 use Rattle.unit_grammar.specs.Names.{declared, declared_by_all}
+use Rattle.unit_grammar.specs.Reading.{read}
 use Rattle.c_expr.specs.Gives.{Gives}
 use Rattle.c_expr.specs.declared.fault.ExprFault.{ExprFault}
 use Rattle.c_expr.specs.declared.nodes.Read.{Read}
 use Rattle.c_expr.proofs.Items.{before-none, last_one, height_in-push}
 use Rattle.c_expr.proofs.StandingParts.{as_long}
 use Rattle.c_parser.specs.CommaLists.{commas_after}
+use Rattle.c_parser.specs.Tags.{read_declared}
 use Rattle.c_parser.proofs.Equations.{read-zero, read-some, read_members-zero, read_members-some, read_member_declarators-zero, read_member_declarators-some, read_enumerators-zero, read_enumerators-some}
 
 declared-push : (all : List Tree) (t : Tree) (names : Names) → declared_by_all (view_all (all ++ (t ∷ []))) names ≡ declared (view t) (declared_by_all (view_all all) names)
@@ -60,6 +66,11 @@ adds-declares (Err f) s old middle new a h n = tt
 -- what is read is no higher than it may be
 pub read-low : (n : ℕ) (nonterminal : Nonterminal) (names : Names) (ts : List Symbol) (e : Syntax) (r : List Symbol) → read_expressions n nonterminal names ts ≡ Some (e, r) → height_of e ≤ n
 read-low n nonterminal names ts e r h = (read-sound n nonterminal names ts e r h).height
+
+-- members behind their specifiers, which leave these names
+pub member-read : (m : ℕ) (names a : Names) (ts r : List Symbol) (specs : Syntax) → 0 < m → after_sign marks.Semicolon ts ≡ None → read (m - 1) (SpecifiersIn InTypeName) names ts ≡ Some (specs, r) → a ≡ declared specs names
+    → read m StructMember names ts ≡ read_declared (read_expressions (m - 1)) m a specs r
+member-read m names a ts r specs p c h d = read-some m StructMember names ts p ∙ rw (c, h) (ap (λ x. read_declared (read_expressions (m - 1)) m x specs r) (sym d))
 
 pub ruleset reads = (read-zero, read-some)
 

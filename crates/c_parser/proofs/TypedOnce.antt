@@ -1,27 +1,22 @@
 -- Specifiers that are read one after the other, none of them a structure, union or enumeration behind a type.
-use Rattle.std.proofs.Common.{◌≡◌, ℕ, zero, suc, ◌+◌, ◌-◌, ◌<◌, Bool, true, false, cond, ◌&&◌, ◌||◌, not, List, [], ◌∷◌, ◌++◌, length, Option, None, Some, Result, Ok, Err, IsErrAnd, ◌⊎◌, inl, inr, ap, refl, ◌∙◌, sym, subst, arith}
+use Rattle.std.proofs.Common.{◌≡◌, ℕ, zero, suc, ◌+◌, ◌-◌, ◌<◌, Bool, true, false, cond, ◌&&◌, ◌||◌, not, List, [], ◌∷◌, ◌++◌, length, Option, None, Some, ◌⊎◌, inl, inr, ap, refl, ◌∙◌, sym, subst, arith}
 use Rattle.c_tree.specs.declared.keyword.Keyword.{Keyword}
 use Rattle.c_tree.specs.declared.tree.Tree.{Tree}
-use Rattle.c_tree.specs.declared.tree.Trees.{Trees}
-use Rattle.c_tree.specs.Symbol.{Symbol, Word, Reserved, symbols_of}
+use Rattle.c_tree.specs.Symbol.{Symbol, Word, Reserved}
 use Rattle.c_tree.specs.Syntax.{Syntax, SpecifierSyntax, Specifier, Part, Specs, SpecWord, Syntaxes, no_more, more}
-use Rattle.c_tree.specs.Height.{height_in}
-use Rattle.c_tree.specs.Forget.{view, view_all, list_view}
+use Rattle.c_tree.specs.Forget.{view}
 use Rattle.c_grammar.specs.Symbols.{take_symbol}
 use Rattle.c_grammar.specs.Names.{Names}
-use Rattle.c_grammar.specs.Specifiers.{Place, is_type_word, begins_tag, goes_on, types, type_words_of, other_types_of, type_words, other_types, storages, inlines, is_one_type, has_one_type, are_allowed, may_inline, fit}
+use Rattle.c_grammar.specs.Specifiers.{Place, begins_tag, goes_on, types, type_words, other_types, storages, inlines, is_one_type, has_one_type, are_allowed, may_inline, fit}
 use Rattle.c_grammar.specs.Found.{◌>>=◌, if_there, Found, made}
-use Rattle.c_grammar.specs.SpecifierSteps.{read_item, read_items, read_specifiers}
+use Rattle.c_grammar.specs.SpecifierSteps.{read_item, read_items}
 use Rattle.c_grammar.proofs.Options.{both, parts}
 use Rattle.unit_grammar.specs.Construct.{SpecifiersIn, TaggedType}
 use Rattle.unit_grammar.specs.Grammar.{IsTaggedTree}
 use Rattle.unit_grammar.specs.Names.{declared}
 use Rattle.unit_grammar.specs.Reading.{read}
 use Rattle.unit_grammar.proofs.Sound.{read-sound}
-use Rattle.c_expr.specs.Gives.{GivesList, before, ending_with}
-use Rattle.c_expr.specs.declared.fault.ExprFault.{ExprFault}
-use Rattle.c_expr.specs.declared.fault.ExprFault.TheVariants.{NoTree}
-use Rattle.c_expr.specs.declared.nodes.ReadList.{ReadList}
+use Rattle.c_expr.specs.Gives.{ending_with}
 use Rattle.c_expr.proofs.Items.{before-none, height_in-push, count_in-push, ending-longer, list_out}
 use Rattle.c_parser.specs.TypedOnce.{read_typed_once, specs_made}
 use Rattle.c_parser.proofs.Equations.{read-zero, read-some}
@@ -75,47 +70,6 @@ once-next tagged names a f typed adds ts t r rest all pushed tree whole p k h b 
     ∙ ap (λ x. ending_with x (read_typed_once (tagged names) names (f - 1) (typed || types (view tree)) rest)) n
     ∙ sym (rw (once-some (tagged names) names f typed ts p, same-front names a typed ts k ∙ h, b, same-item tagged names a typed t r k b ∙ i) (ending-longer (read_typed_once (tagged names) names (f - 1) (typed || types (view tree)) rest) all tree))
     ∙ w
-
-ends-none : (all : List Tree) (o whole : Items) → o ≡ None → ending_with all o ≡ whole → whole ≡ None
-ends-none all o whole h w = sym w ∙ ap (ending_with all) h
-
--- no more of them
-pub once-over : (tagged : List Symbol → Option Found) (names a : Names) (f : ℕ) (typed : Bool) (ts : List Symbol) (all : List Tree) (whole : Items)
-    → (typed ≡ false → a ≡ names) → take_symbol (goes_on a typed) ts ≡ None → ending_with all (read_typed_once tagged names f typed ts) ≡ whole → whole ≡ Some (view_all all, ts)
-once-over tagged names a f typed ts all whole k h w =
-    let F : Syntaxes → Items = λ es. Some (es, ts) in
-    sym w ∙ ap (ending_with all) (once-end tagged names f typed ts (same-front names a typed ts k ∙ h)) ∙ ap F (before-none all)
-
--- more of them than there are tokens
-pub once-spent : (tagged : List Symbol → Option Found) (names a : Names) (f : ℕ) (typed : Bool) (ts : List Symbol) (t : Symbol) (r : List Symbol) (all : List Tree) (whole : Items)
-    → f ≡ 0 → (typed ≡ false → a ≡ names) → take_symbol (goes_on a typed) ts ≡ Some (t, r) → ending_with all (read_typed_once tagged names f typed ts) ≡ whole → whole ≡ None
-once-spent tagged names a f typed ts t r all whole z k h w =
-    ends-none all (read_typed_once tagged names f typed ts) whole (ap (λ n. read_typed_once tagged names n typed ts) z ∙ once-zero tagged names typed ts ∙ rw (same-front names a typed ts k ∙ h) refl) w
-
--- a structure, union or enumeration behind a type
-pub once-twice : (tagged : List Symbol → Option Found) (names a : Names) (f : ℕ) (typed : Bool) (ts : List Symbol) (t : Symbol) (r : List Symbol) (all : List Tree) (whole : Items)
-    → 0 < f → (typed ≡ false → a ≡ names) → take_symbol (goes_on a typed) ts ≡ Some (t, r) → (typed && begins_tag t) ≡ true → ending_with all (read_typed_once tagged names f typed ts) ≡ whole → whole ≡ None
-once-twice tagged names a f typed ts t r all whole p k h b w =
-    ends-none all (read_typed_once tagged names f typed ts) whole (rw (once-some tagged names f typed ts p, same-front names a typed ts k ∙ h, b) refl) w
-
--- one that isn't read
-pub once-lost : (tagged : Names → List Symbol → Option Found) (names a : Names) (f : ℕ) (typed : Bool) (ts : List Symbol) (t : Symbol) (r : List Symbol) (all : List Tree) (whole : Items)
-    → 0 < f → (typed ≡ false → a ≡ names) → take_symbol (goes_on a typed) ts ≡ Some (t, r) → (typed && begins_tag t) ≡ false → read_item (tagged a) t r ≡ None
-    → ending_with all (read_typed_once (tagged names) names f typed ts) ≡ whole → whole ≡ None
-once-lost tagged names a f typed ts t r all whole p k h b i w =
-    ends-none all (read_typed_once (tagged names) names f typed ts) whole (rw (once-some (tagged names) names f typed ts p, same-front names a typed ts k ∙ h, b, same-item tagged names a typed t r k b ∙ i) refl) w
-
--- a fault with one of them is the fault of all
-pub fault-given : (r : Result ReadList ExprFault) (fault : ExprFault) (found : Items) → IsErrAnd r (λ e. e ≡ fault) → (fault ≡ NoTree → found ≡ None) → GivesList r found
-fault-given (Ok r) fault found i n = absurd i
-fault-given (Err e) fault found i n = λ h. n (sym i ∙ h)
-
-pub items-given : (r : ReadList) (all : List Tree) (ts : List Symbol) (found : Items) → found ≡ Some (view_all all, ts) → list_view r.trees ≡ view_all all → symbols_of r.rest.now ≡ ts → r.height ≡ height_in (view_all all)
-    → (found ≡ Some (list_view r.trees, symbols_of r.rest.now)) × (r.height ≡ height_in (list_view r.trees))
-items-given r all ts found h v s k =
-    let F : Syntaxes → Items = λ es. Some (es, ts) in
-    let G : List Symbol → Items = λ x. Some (list_view r.trees, x) in
-    (h ∙ sym (ap F v) ∙ sym (ap G s), k ∙ sym (ap height_in v))
 
 -- What the reader of specifiers with tags finds is a type.
 abbrev pub FindsTypes : (List Symbol → Option Found) → Type 0

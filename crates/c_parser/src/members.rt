@@ -143,12 +143,12 @@ fn read_declared_members<'a>(
 ) -> Result<Read<'a>, ExprFault>
     requires positive { 0 < room }
     requires height { specs.height ≡ height_of (view specs.tree) }
-    requires ids { next.old + 16 * length specs.rest.now < 2 ^ 32 }
+    requires ids { next.old + 16 * length specs.rest.now + 1 < 2 ^ 32 }
     ensures found { Gives result (read_declared (read_expressions (room - 1)) room names.old.now (view specs.entry.tree) (symbols_of specs.entry.rest.now)) }
     ensures stands { OverBehind result (node_of specs.entry.tree) next.old next.new specs.entry.rest.now }
     ensures adds { IfOk result (λ r. (before : Names) → declared (view r.tree) before ≡ declared (view specs.entry.tree) before) }
     ensures names { AsBefore names.new names.old }
-    ensures ids { Spends next.old next.new (length specs.entry.rest.now) (left result) }
+    ensures ids { (next.old ≤ next.new) × (next.new + 16 * left result ≤ next.old + 16 * length specs.entry.rest.now + 1) }
 {
     if let Some(rest) = after_sign(Punctuator::Semicolon, specs.rest) {
         if !makes_members(&specs.tree) {

@@ -17,31 +17,19 @@ ghost use Rattle.unit_grammar.specs.Reading.{read};
 ghost use Rattle.unit_grammar.specs.TaggedSteps as steps;
 ghost use Rattle.c_expr.specs.Gives.{Gives, GivesList, left, left_by_list, done, Spends};
 ghost use Rattle.c_expr.specs.Standing.{Over, Passes, IsFirst};
+ghost use Rattle.c_parser.specs.CommaLists.{GivesCommaList, OverCommaList, left_by_comma_list};
 ghost use Rattle.c_parser.specs.Parts.{OverRowUpTo};
-ghost use Rattle.c_parser.specs.Tags.{GivesEnumerators, OverEnumerators, left_by_enumerators, Opens};
+ghost use Rattle.c_parser.specs.Tags.{Opens};
 
 use crate::inner::member_in_front;
+use crate::parts::ReadCommaList;
 use crate::tagged_nodes::{enum_body_of, enum_tag_of, struct_body_of, struct_tag_of};
 use c_expr::{
     CONDITIONAL_LEVEL, ExprFault, Read, ReadList, TypeNames, after_keyword, after_sign,
     expression_in_front, keep, list_of, part, place_of, take_word,
 };
-use c_tree::{
-    Arena, Keyword, Kind, Part, Place, Punctuator, StructOrUnion, Token, TokenKind, Trees,
-};
+use c_tree::{Arena, Keyword, Kind, Part, Place, Punctuator, StructOrUnion, Token, TokenKind};
 use std::alloc::AllocError;
-
-/// Enumerators that were read, with their brace.
-#[derive(Clone, Copy)]
-struct ReadEnumerators<'a> {
-    trees: Trees<'a>,
-    /// Whether a comma stands behind the last.
-    comma: bool,
-    /// The tokens behind them.
-    rest: &'a [Token],
-    /// The height of the highest.
-    height: u32,
-}
 
 /// Puts the name of an enumerator in force (6.1.2.1).
 fn declare_enumerator(names: &mut TypeNames, name: &Token) -> Result<(), AllocError>
@@ -99,14 +87,14 @@ fn read_enumerators<'a>(
     names: &mut TypeNames,
     room: u32,
     next: &mut u32,
-) -> Result<ReadEnumerators<'a>, ExprFault>
+) -> Result<ReadCommaList<'a>, ExprFault>
     requires positive { 0 < room }
     requires ids { next.old + 16 * length tokens.now < 2 ^ 32 }
-    ensures found { GivesEnumerators result (steps.read_enumerators (read_expressions (room - 1)) names.old.now (length (symbols_of tokens.now)) (symbols_of tokens.now)) }
-    ensures stands { OverEnumerators result next.old next.new tokens.now }
+    ensures found { GivesCommaList result (steps.read_enumerators (read_expressions (room - 1)) names.old.now (length (symbols_of tokens.now)) (symbols_of tokens.now)) }
+    ensures stands { OverCommaList result next.old next.new tokens.now }
     ensures now { IfOk result (λ r. names.new.now ≡ declared_by_all (list_view r.trees) names.old.now) }
     ensures saved { names.new.saved ≡ names.old.saved }
-    ensures ids { Spends next.old next.new (length tokens.now) (left_by_enumerators result) }
+    ensures ids { Spends next.old next.new (length tokens.now) (left_by_comma_list result) }
 {
     let mut all = Vec::new(arena);
     let mut highest = 0;
@@ -121,7 +109,7 @@ fn read_enumerators<'a>(
             let Some(end) = after_sign(Punctuator::CloseBrace, enumerator.rest) else {
                 return Err(ExprFault::NoTree);
             };
-            return Ok(ReadEnumerators {
+            return Ok(ReadCommaList {
                 trees: list_of(all),
                 comma: false,
                 rest: end,
@@ -129,7 +117,7 @@ fn read_enumerators<'a>(
             });
         };
         if let Some(end) = after_sign(Punctuator::CloseBrace, others) {
-            return Ok(ReadEnumerators {
+            return Ok(ReadCommaList {
                 trees: list_of(all),
                 comma: true,
                 rest: end,

@@ -174,11 +174,5 @@ pub(crate) fn field_of<'a>(
         declarator: Some(keep(arena, declarator.tree)?),
         width: keep(arena, width.tree)?,
     });
-    Ok(part(
-        kind,
-        declarator.tree.first,
-        highest + 1,
-        width.rest,
-        next,
-    ))
+    Ok(part(kind, declarator.tree.first, highest + 1, width.rest, next))
 }

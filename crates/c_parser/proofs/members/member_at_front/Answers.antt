@@ -1,9 +1,10 @@
-use Rattle.std.proofs.Common.{refl}
+use Rattle.std.proofs.Common.{refl, sym, subst, arith}
 use Rattle.c_tree.specs.Symbol.{symbols_of}
 use Rattle.c_tree.specs.Syntax.{Outer, Empty}
 use Rattle.c_tree.specs.Forget.{view}
 use Rattle.c_expr.proofs.Standing.{made, at_passed}
-use Rattle.c_parser.proofs.TaggedSteps.{made-declares, adds-declares}
+use Rattle.c_expr.specs.Gives.{Gives}
+use Rattle.c_parser.proofs.TaggedSteps.{made-declares, adds-declares, member-read}
 use Rattle.c_parser.proofs.members.member_at_front.Goals as goal
 
 pub returns-in-Some-clause-stands : goal.returns-in-Some-clause-stands
@@ -17,3 +18,8 @@ returns-clause-stands c = c.read_declared_members.ensures.stands _ _ c.in_ok-spe
 
 pub returns-clause-now : goal.returns-clause-now
 returns-clause-now c = adds-declares c.read_declared_members.result (view c.in_ok-specs.specs.tree) c.args.names.now.now _ _ c.read_declared_members.ensures.adds c.in_ok-specs.ensures.now c.read_declared_members.ensures.names.0
+
+pub returns-clause-found : goal.returns-clause-found
+returns-clause-found c =
+    subst (Gives c.read_declared_members.result) (sym (member-read c.args.room c.args.names.now.now _ (symbols_of c.args.tokens.now) (symbols_of c.in_ok-specs.specs.rest.now) (view c.in_ok-specs.specs.tree) (omega arith) (sym c.in_default.ensures.found) c.in_ok-specs.ensures.found.0 c.in_ok-specs.ensures.now))
+    c.read_declared_members.ensures.found

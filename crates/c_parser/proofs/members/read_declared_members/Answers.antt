@@ -1,6 +1,5 @@
 use Rattle.std.proofs.Common.{refl}
-use Rattle.c_tree.specs.Symbol.{symbols_of}
-use Rattle.c_tree.specs.Syntax.{Specifier, StructDeclaration, no_more}
+use Rattle.c_tree.specs.Syntax.{Specifier, StructDeclaration}
 use Rattle.c_tree.specs.Views.{node_of, nodes_of}
 use Rattle.c_tree.specs.Forget.{view, list_view}
 use Rattle.c_places.specs.Stands.{OfBoth}

@@ -1,14 +1,14 @@
-use Rattle.std.proofs.Common.{false, ◌≡◌, ◌<◌, ◌∙◌, ◌-◌, sym, refl, arith, rules}
+use Rattle.std.proofs.Common.{false, ◌<◌, ◌∙◌, ◌-◌, sym, refl, arith}
 use Rattle.c_tree.specs.Symbol.{symbol_of, symbols_of}
 use Rattle.c_tree.specs.Forget.{view}
 use Rattle.unit_grammar.specs.Construct.{TaggedType}
 use Rattle.unit_grammar.specs.Reading.{read}
 use Rattle.c_expr.proofs.Items.{height_pushed, count_pushed}
-use Rattle.c_expr.proofs.Standing.{row-next}
-use Rattle.c_expr.proofs.StandingParts.{row-done, row-start, ending-start, height-start, count-start}
+use Rattle.c_expr.proofs.Standing.{row-next, row-start}
+use Rattle.c_expr.proofs.StandingParts.{row-done, ending-start, height-start, count-start}
 use Rattle.c_parser.specs.TypedOnce.{read_typed_once}
-use Rattle.c_parser.proofs.TaggedSteps.{declared-start, declared-next, declared-done}
-use Rattle.c_parser.proofs.TypedOnce.{once-next, once-over, once-spent, once-twice, once-lost, fault-given, items-given, plain-next}
+use Rattle.c_parser.proofs.TaggedSteps.{declared-start, declared-next}
+use Rattle.c_parser.proofs.TypedOnce.{once-next, plain-next}
 use Rattle.c_parser.proofs.specifiers.read_items.Goals as goal
 
 pub loop-front-preserved : goal.loop-front-preserved

@@ -1,4 +1,4 @@
-use Rattle.std.proofs.Common.{arith, length}
+use Rattle.std.proofs.Common.{arith}
 use Rattle.c_tree.specs.Forget.{list_view}
 use Rattle.c_tree.specs.Symbol.{symbols_of}
 use Rattle.c_tree.specs.Syntax.{Specifier, Specs}

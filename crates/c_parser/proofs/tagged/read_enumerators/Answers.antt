@@ -1,11 +1,11 @@
-use Rattle.std.proofs.Common.{◌≡◌, ◌<◌, ◌∙◌, ◌-◌, sym, refl, arith}
+use Rattle.std.proofs.Common.{◌<◌, ◌∙◌, ◌-◌, sym, refl, arith}
 use Rattle.c_tree.specs.Symbol.{symbols_of}
 use Rattle.c_places.specs.Stands.{OfNothing, OfBoth}
 use Rattle.c_grammar.specs.Reading.{read as read_expressions}
 use Rattle.unit_grammar.specs.TaggedSteps.{read_enumerators}
 use Rattle.c_expr.proofs.Items.{height_pushed}
-use Rattle.c_expr.proofs.Standing.{list-next, list-last}
-use Rattle.c_expr.proofs.StandingParts.{list-done, led-start, height-start}
+use Rattle.c_expr.proofs.Standing.{list-next, list-last, led-start}
+use Rattle.c_expr.proofs.StandingParts.{list-done, height-start}
 use Rattle.c_parser.proofs.ListSteps.{enumerators-next}
 use Rattle.c_parser.proofs.TaggedSteps.{commas-start, declared-start, declared-next, declared-done}
 use Rattle.c_parser.proofs.tagged.read_enumerators.Goals as goal

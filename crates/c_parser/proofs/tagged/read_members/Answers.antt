@@ -1,11 +1,11 @@
-use Rattle.std.proofs.Common.{◌≡◌, ◌<◌, ◌∙◌, ◌-◌, sym, refl, arith}
+use Rattle.std.proofs.Common.{◌<◌, ◌∙◌, ◌-◌, sym, refl, arith}
 use Rattle.c_tree.specs.Symbol.{symbols_of}
 use Rattle.c_places.specs.Stands.{OfBoth}
 use Rattle.unit_grammar.specs.Reading.{read}
 use Rattle.unit_grammar.specs.TaggedSteps.{read_members}
 use Rattle.c_expr.proofs.Items.{height_pushed}
-use Rattle.c_expr.proofs.Standing.{row-next}
-use Rattle.c_expr.proofs.StandingParts.{row-done, row-start, ending-start, height-start}
+use Rattle.c_expr.proofs.Standing.{row-next, row-start}
+use Rattle.c_expr.proofs.StandingParts.{row-done, ending-start, height-start}
 use Rattle.c_parser.proofs.ListSteps.{members-next}
 use Rattle.c_parser.proofs.TaggedSteps.{declared-start, declared-next, declared-done}
 use Rattle.c_parser.proofs.tagged.read_members.Goals as goal
