@@ -11,4 +11,4 @@ pub mod TaggedSteps
 pub mod TypedOnce
 pub mod StatementStanding
 pub mod StatementSteps
-pub mod Units
+pub mod UnitSteps

@@ -3,7 +3,7 @@ use Rattle.c_tree.specs.Views.{nodes_in}
 use Rattle.c_places.specs.Lines.{row_line}
 use Rattle.c_places.specs.Stands.{Stands}
 use Rattle.c_reading.specs.Chunks.{Follow}
-use Rattle.c_parser.proofs.Units.{GoesOn, BadGoesOn}
+use Rattle.c_parser.proofs.UnitSteps.{GoesOn, BadGoesOn}
 use Rattle.c_parser.proofs.units.read_unit.Given as goal
 
 abbrev pub invariant-reading : goal.invariant-reading
