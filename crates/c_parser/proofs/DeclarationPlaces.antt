@@ -13,14 +13,15 @@ use Rattle.c_tree.specs.Node as nodes
 use Rattle.c_tree.specs.Views.{node_of, nodes_of, nodes_in}
 use Rattle.c_places.specs.Lines.{Line, at, names, sign, comma_if, ◌⨾◌, line_of, list_line}
 use Rattle.c_places.specs.Stands.{Stands, OfNothing, OfName, OfBoth, StandsOver}
-use Rattle.c_grammar.specs.Names.{Names}
-use Rattle.unit_grammar.specs.Names.{declared, with_declarators}
+use Rattle.c_grammar.specs.Names.{Names, name_of, with_name}
+use Rattle.unit_grammar.specs.Names.{declared, declared_name, with_declarators}
 use Rattle.c_expr.specs.declared.fault.ExprFault.{ExprFault}
 use Rattle.c_expr.specs.declared.nodes.Read.{Read}
 use Rattle.c_expr.specs.Standing.{Over, IsMade, Makes, Passes}
 use Rattle.c_expr.proofs.Standing.{led_line, list-next, list-last, made, at_node, then_both}
 use Rattle.c_expr.proofs.StandingParts.{list-done}
 use Rattle.c_parser.specs.Behind.{OverBoth}
+use Rattle.c_parser.proofs.InitialSteps.{named-declared}
 
 -- initial values behind their brace
 pub braces_behind : (ns : Nodes) (comma : Bool) (low high : ℕ) (ts us rest : List Token) → Passes (Sign marks.OpenBrace) ts us → Stands (list_line ns ⨾ comma_if comma ⨾ sign marks.CloseBrace) low high us rest
@@ -80,6 +81,14 @@ pub declares : (result : Result Read ExprFault) (old new : ℕ) (first : Place) 
     → now ≡ declared (shape_syntax shape) before → IfOk result (λ r. now ≡ declared (view r.tree) before)
 declares (Ok r) old new first shape rest now before m e = e ∙ sym (ap (λ x. declared x before) (ap syntax_of m.0))
 declares (Err x) old new first shape rest now before m e = tt
+
+-- what a declarator with its initial value declares
+pub initialized-declares : (result : Result Read ExprFault) (old new : ℕ) (first : Place) (name d e : Node) (rest : List Token) (type : Bool) (word : ℕ) (before inside now : Names)
+    → Makes result old new first (nodes.Initializer (nodes.Init name d e)) rest → name_of (syntax_of d) ≡ Some word → inside ≡ with_name (declared_name (syntax_of d)) type before → now ≡ inside
+    → IfOk result (λ r. now ≡ with_name (declared_name (view r.tree)) type before)
+initialized-declares (Ok r) old new first name d e rest type word before inside now m h i k =
+    k ∙ i ∙ ap (λ x. with_name x type before) (named-declared (syntax_of d) word h ∙ sym h ∙ sym (ap (λ n. declared_name (syntax_of n)) m.0))
+initialized-declares (Err x) old new first name d e rest type word before inside now m h i k = tt
 
 pub rest-declared : (t u : Bool) (es : Syntaxes) (a b now : Names) → now ≡ with_declarators t es a → t ≡ u → a ≡ b → now ≡ with_declarators u es b
 rest-declared t u es a b now n e f = n ∙ ap (λ x. with_declarators x es a) e ∙ ap (with_declarators u es) f

@@ -48,7 +48,7 @@ initial-height n names ts e r h =
     ]
 
 -- what has a name is a declarator
-named-declared : (d : Syntax) (name : ℕ) → name_of d ≡ Some name → declared_name d ≡ Some name
+pub named-declared : (d : Syntax) (name : ℕ) → name_of d ≡ Some name → declared_name d ≡ Some name
 named-declared (Declarator k) name h = h
 named-declared _ name h = absurd cc
 
