@@ -14,8 +14,6 @@ mod reading;
 mod specifier_words;
 mod specifiers;
 mod symbols;
-#[cfg(test)]
-mod tests;
 mod type_names;
 mod types;
 
@@ -30,7 +28,7 @@ pub use operators::{
 pub use params::{declare_param, name_of, param_in_front};
 pub use reading::{read_declarator, read_expr, read_specs};
 pub use specifier_words::{
-    SpecifierPlace, begins_specifiers, begins_tag, fit, goes_on, is_type_word, types as says_type,
+    SpecifierPlace, begins_specifiers, begins_tag, fit, goes_on, is_type_word, says_type,
 };
 pub use specifiers::specifiers_in_front;
 pub use symbols::{after_keyword, after_sign, is_keyword, is_sign, place_of, take_word};

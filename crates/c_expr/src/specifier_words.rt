@@ -107,7 +107,7 @@ pub fn begins_specifiers(names: &TypeNames, tokens: &[Token]) -> bool
 }
 
 /// Whether the specifier is a type, or a word of one.
-pub fn types(tree: &Tree) -> bool
+pub fn says_type(tree: &Tree) -> bool
     ensures { result ≡ types (view tree.now) }
 {
     match &tree.kind {

@@ -18,7 +18,7 @@ ghost use Rattle.c_expr.specs.SpecifierPlaces.{place_of};
 
 use crate::fault::ExprFault;
 use crate::nodes::{Read, ReadList, list_of, node, part};
-use crate::specifier_words::{SpecifierPlace, begins_tag, fit, goes_on, types};
+use crate::specifier_words::{SpecifierPlace, begins_tag, fit, goes_on, says_type};
 use crate::symbols::{place_of, take_word};
 use crate::type_names::TypeNames;
 use c_tree::{Arena, Keyword, Kind, Part, Place, Specifier, StructOrUnion, Token, TokenKind};
@@ -156,7 +156,7 @@ fn read_items<'a>(
         }
         fuel -= 1;
         let item = read_item(front, behind, next)?;
-        typed |= types(&item.tree);
+        typed |= says_type(&item.tree);
         highest = item.height.max(highest);
         all.push(item.tree)?;
         rest = item.rest;

@@ -1,4 +1,4 @@
-//! What no clause shows.
+//! The names in force, as declarations and scopes come and go (ISO 9899:1990, 6.1.2.1).
 
 ghost use Rattle.std.specs.Prelude.{◌≡◌};
 

@@ -14,7 +14,7 @@ loop-front-preserved c =
     let highest = height_pushed c.loop-front.all.items c.push.new.self.items item.tree c.in_ok-push.ensures.items in
     let counted = count_pushed c.loop-front.all.items c.push.new.self.items item.tree c.in_ok-push.ensures.items in
     record {
-      found = items-next c.args.names.now.now c.loop-front.fuel c.loop-front.typed c.types-typed.result (symbols_of c.loop-front.rest.now) (symbol_of c.in-Some.front.now) (symbols_of c.in-Some.behind.now) (symbols_of item.rest.now) c.loop-front.all.items c.push.new.self.items item.tree _ positive (sym c.in-Some.ensures.found) c.in_ok-item.ensures.found.0 c.types-typed.ensures c.in_ok-push.ensures.items c.loop-front.invariant.found;
+      found = items-next c.args.names.now.now c.loop-front.fuel c.loop-front.typed c.says_type-typed.result (symbols_of c.loop-front.rest.now) (symbol_of c.in-Some.front.now) (symbols_of c.in-Some.behind.now) (symbols_of item.rest.now) c.loop-front.all.items c.push.new.self.items item.tree _ positive (sym c.in-Some.ensures.found) c.in_ok-item.ensures.found.0 c.says_type-typed.ensures c.in_ok-push.ensures.items c.loop-front.invariant.found;
       height = omega (arith, c.in_ok-item.ensures.found.1, highest);
       stands = row-next _ _ item.tree _ _ _ _ _ _ c.in_ok-push.ensures.items c.loop-front.invariant.stands (over_same (node_of item.tree) _ _ _ _ _ c.in-Some.ensures.front c.in_ok-item.ensures.stands);
       rises = omega arith;
