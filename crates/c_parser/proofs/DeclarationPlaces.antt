@@ -6,7 +6,7 @@ use Rattle.c_tree.specs.declared.token.Token.{Token}
 use Rattle.c_tree.specs.declared.tree.Tree.{Tree}
 use Rattle.c_tree.specs.declared.tree.Trees.{Trees}
 use Rattle.c_tree.specs.Symbol.{Sign}
-use Rattle.c_tree.specs.Syntax.{Syntax, Syntaxes}
+use Rattle.c_tree.specs.Syntax.{Syntaxes}
 use Rattle.c_tree.specs.Forget.{syntax_of, shape_syntax, view}
 use Rattle.c_tree.specs.Node.{Node, node, Shape, Nodes}
 use Rattle.c_tree.specs.Node as nodes
@@ -17,7 +17,7 @@ use Rattle.c_grammar.specs.Names.{Names, name_of, with_name}
 use Rattle.unit_grammar.specs.Names.{declared, declared_name, with_declarators}
 use Rattle.c_expr.specs.declared.fault.ExprFault.{ExprFault}
 use Rattle.c_expr.specs.declared.nodes.Read.{Read}
-use Rattle.c_expr.specs.Standing.{Over, IsMade, Makes, Passes}
+use Rattle.c_expr.specs.Standing.{IsMade, Makes, Passes}
 use Rattle.c_expr.proofs.Standing.{led_line, list-next, list-last, made, at_node, then_both}
 use Rattle.c_expr.proofs.StandingParts.{list-done}
 use Rattle.c_parser.specs.Behind.{OverBoth}

@@ -1,10 +1,10 @@
 -- Declarators of functions.
-use Rattle.std.proofs.Common.{◌≡◌, ℕ, ◌≤◌, Bool, true, false, ◌&&◌, nat_eq, List, [], ◌∷◌, length, get_or, Option, Some, None, ap, refl, sym, ◌∙◌, arith}
+use Rattle.std.proofs.Common.{◌≡◌, ◌≤◌, ◌&&◌, nat_eq, List, [], ◌∷◌, length, get_or, ap, refl, sym, ◌∙◌, arith}
 use Rattle.c_tree.specs.declared.token.Token.{Token}
 use Rattle.c_tree.specs.declared.tree.Tree.{Tree}
 use Rattle.c_tree.specs.declared.tree.Trees.{Trees, out-Trees}
 use Rattle.c_tree.specs.Symbol.{Symbol, symbols_of}
-use Rattle.c_tree.specs.Syntax.{Syntax, Primary, Operation, Initializer, Specifier, Declarator, Part, Outer, Statement, Iteration, Jump, Named, Nested, Unnamed, SpecWord, ArrayBound, VoidParams, Params, Enumerator, MemberDesignator, IndexDesignator, Syntaxes, no_more, more}
+use Rattle.c_tree.specs.Syntax.{Syntax, Primary, Operation, Initializer, Specifier, Declarator, Part, Outer, Statement, Iteration, Jump, Named, Nested, SpecWord, ArrayBound, VoidParams, Params, Enumerator, MemberDesignator, IndexDesignator, Syntaxes, no_more, more}
 use Rattle.c_tree.specs.Forget.{view, view_all, list_view}
 use Rattle.c_grammar.specs.Grammar.{is_nothing}
 use Rattle.c_grammar.specs.Names.{is_bare, is_bare_declarator, first_params}

@@ -58,7 +58,14 @@ pub(crate) fn init_of<'a>(
         declarator: keep(arena, declarator.tree)?,
         initial: keep(arena, initial.tree)?,
     });
-    node(kind, declarator.tree.first, highest, initial.rest, room, next)
+    node(
+        kind,
+        declarator.tree.first,
+        highest,
+        initial.rest,
+        room,
+        next,
+    )
 }
 
 /// A declaration with its specifiers and declarators (6.5).
@@ -81,7 +88,14 @@ pub(crate) fn declaration_of<'a>(
         specs: keep(arena, specs.tree)?,
         declarators: declarators.trees,
     });
-    node(kind, specs.tree.first, highest, declarators.rest, room, next)
+    node(
+        kind,
+        specs.tree.first,
+        highest,
+        declarators.rest,
+        room,
+        next,
+    )
 }
 
 /// A function with its body (6.7.1).

@@ -26,8 +26,8 @@ loop-fuel-preserved c =
     let below = declarator-height (c.args.room - 1) WithName inside (symbols_of c.in-Some.after.now) (view next.tree) (symbols_of next.rest.now) c.in_ok-declarator.ensures.found.0 in
     record {
       found =
-        ap (λ x. ending_with c.push.new.self.items (read_init_declarators reader inner c.args.is_type x (c.loop-fuel.fuel - 1) (view next.tree) (symbols_of next.rest.now))) c.in_ok-declarator.ensures.names.0
-        ∙ init_declarators-next reader inner c.args.is_type c.loop-fuel.names.now inside c.loop-fuel.fuel (view c.loop-fuel.declarator.tree) (view next.tree) (symbols_of c.loop-fuel.declarator.rest.now) (symbols_of item.rest.now) (symbols_of c.in-Some.after.now) (symbols_of next.rest.now) c.loop-fuel.all.items c.push.new.self.items item.tree _
+          ap (λ x. ending_with c.push.new.self.items (read_init_declarators reader inner c.args.is_type x (c.loop-fuel.fuel - 1) (view next.tree) (symbols_of next.rest.now))) c.in_ok-declarator.ensures.names.0
+          ∙ init_declarators-next reader inner c.args.is_type c.loop-fuel.names.now inside c.loop-fuel.fuel (view c.loop-fuel.declarator.tree) (view next.tree) (symbols_of c.loop-fuel.declarator.rest.now) (symbols_of item.rest.now) (symbols_of c.in-Some.after.now) (symbols_of next.rest.now) c.loop-fuel.all.items c.push.new.self.items item.tree _
           positive c.in_ok-item.ensures.found.0 (sym c.in-Some.ensures.found) c.in_ok-item.ensures.now c.in_ok-declarator.ensures.found.0 c.in_ok-push.ensures.items c.loop-fuel.invariant.found;
       height = omega (arith, c.in_ok-item.ensures.found.1, highest);
       read = c.in_ok-declarator.ensures.found.1;
