@@ -48,13 +48,13 @@ pub loop-fuel-preserved : goal.loop-fuel-preserved
 loop-fuel-preserved c =
     let positive : 0 < c.loop-fuel.fuel = omega arith in
     let item = c.in_ok-statement.statement in
-    let highest = height_pushed c.loop-fuel.all.items c.push-in-loop-fuel.new.self.items item.tree c.in_ok-push-in-loop-fuel.ensures.items in
+    let highest = height_pushed c.loop-fuel.all.items c.push-in-loop-fuel.new.self.items item.tree c.in_ok-push-2.ensures.items in
     record {
-      found = statements-on (read (c.args.room - 1)) c.loop-fuel.names.now c.statement_in_front.new.names.now c.loop-fuel.fuel (symbols_of c.loop-fuel.rest.now) (symbols_of item.rest.now) c.loop-fuel.all.items c.push-in-loop-fuel.new.self.items item.tree _ positive c.in_ok-statement.ensures.names.0 (sym c.in_default.ensures.found) c.in_ok-statement.ensures.found.0 c.in_ok-push-in-loop-fuel.ensures.items c.loop-fuel.invariant.found;
+      found = statements-on (read (c.args.room - 1)) c.loop-fuel.names.now c.statement_in_front.new.names.now c.loop-fuel.fuel (symbols_of c.loop-fuel.rest.now) (symbols_of item.rest.now) c.loop-fuel.all.items c.push-in-loop-fuel.new.self.items item.tree _ positive c.in_ok-statement.ensures.names.0 (sym c.in_default.ensures.found) c.in_ok-statement.ensures.found.0 c.in_ok-push-2.ensures.items c.loop-fuel.invariant.found;
       height = omega (arith, c.in_ok-statement.ensures.found.1, highest);
       saved = c.in_ok-statement.ensures.names.1 ∙ c.loop-fuel.invariant.saved;
       rises = omega (arith, c.in_ok-statement.ensures.ids.0, c.loop-fuel.invariant.rises);
-      stands = row-next c.loop-fuel.all.items c.push-in-loop-fuel.new.self.items item.tree _ _ _ _ _ _ c.in_ok-push-in-loop-fuel.ensures.items c.loop-fuel.invariant.stands c.in_ok-statement.ensures.stands;
+      stands = row-next c.loop-fuel.all.items c.push-in-loop-fuel.new.self.items item.tree _ _ _ _ _ _ c.in_ok-push-2.ensures.items c.loop-fuel.invariant.stands c.in_ok-statement.ensures.stands;
       spent = omega (arith, c.in_ok-statement.ensures.ids.1, c.loop-fuel.invariant.spent);
     }
 
