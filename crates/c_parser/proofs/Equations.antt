@@ -1,8 +1,8 @@
 -- The equations of the steps that read in a loop.
-use Rattle.std.proofs.Common.{◌≡◌, ℕ, zero, suc, ◌-◌, ◌<◌, Bool, false, true, List, Option, None, Some, refl, arith}
+use Rattle.std.proofs.Common.{◌≡◌, ℕ, zero, suc, ◌-◌, ◌<◌, Bool, false, true, List, None, Some, refl, arith}
 use Rattle.c_tree.specs.declared.punctuator.Punctuator.TheVariants as marks
 use Rattle.c_tree.specs.Symbol.{Symbol}
-use Rattle.c_tree.specs.Syntax.{Syntax, Syntaxes, no_more, more}
+use Rattle.c_tree.specs.Syntax.{Syntax, no_more, more}
 use Rattle.c_grammar.specs.Symbols.{after_sign}
 use Rattle.c_grammar.specs.Names.{Names, with_name}
 use Rattle.c_grammar.specs.Nonterminal.{WithName, DeclaratorIn}
