@@ -9,7 +9,7 @@ ghost use Rattle.unit_grammar.specs.Reading.{read};
 ghost use Rattle.c_expr.specs.Standing.{Over, Passes};
 ghost use Rattle.c_expr.specs.Gives.{Gives, AsBefore, left, done, Spends};
 ghost use Rattle.c_parser.specs.Parts.{GivesMaybe, left_by_maybe, OverMaybe};
-ghost use Rattle.c_parser.specs.StatementParts.{done_by_maybe, OverCondition};
+ghost use Rattle.c_parser.specs.StatementParts.{done_by_maybe, read_block_or_expression, OverCondition};
 
 use crate::blocks::read_block_rest;
 use crate::jumps::{read_break, read_continue, read_goto, read_return};
@@ -139,6 +139,61 @@ fn read_by_keyword<'a>(
     }
 }
 
+/// A block, or an expression as a statement.
+fn read_block_or_expression<'a>(
+    arena: &'a Arena,
+    tokens: &'a [Token],
+    names: &mut TypeNames,
+    room: u32,
+    next: &mut u32,
+) -> Result<Read<'a>, ExprFault>
+    requires positive { 0 < room }
+    requires ids { next.old + 16 * length tokens.now < 2 ^ 32 }
+    ensures found { Gives result (read_block_or_expression (read_expressions (room - 1)) (read (room - 1)) room names.old.now (symbols_of tokens.now)) }
+    ensures stands { Over result next.old next.new tokens.now }
+    ensures names { AsBefore names.new names.old }
+    ensures ids { Spends next.old next.new (length tokens.now) (left result) }
+{
+    match after_sign(Punctuator::OpenBrace, tokens) {
+        Some(inside) => read_block_rest(arena, place_of(tokens), inside, names, room, next),
+        None => read_expression_statement(arena, tokens, names, room, next),
+    }
+}
+
+/// A statement of height at most `room`, by its first token.
+fn read_statement<'a>(
+    arena: &'a Arena,
+    tokens: &'a [Token],
+    names: &mut TypeNames,
+    room: u32,
+    next: &mut u32,
+) -> Result<Read<'a>, ExprFault>
+    requires positive { 0 < room }
+    requires ids { next.old + 16 * length tokens.now < 2 ^ 32 }
+    ensures found { Gives result (steps.read_statement (read_expressions (room - 1)) (read (room - 1)) room names.old.now (symbols_of tokens.now)) }
+    ensures stands { Over result next.old next.new tokens.now }
+    ensures names { AsBefore names.new names.old }
+    ensures ids { Spends next.old next.new (length tokens.now) (left result) }
+{
+    match tokens {
+        [] => Err(ExprFault::NoTree),
+        [front, rest @ ..] => match front.kind {
+            TokenKind::Word(_) => match after_sign(Punctuator::Colon, rest) {
+                Some(body) => read_label(arena, front, body, names, room, next),
+                None => read_expression_statement(arena, tokens, names, room, next),
+            },
+            TokenKind::Keyword(word) => {
+                read_by_keyword(arena, word, tokens, rest, names, room, next)
+            }
+            TokenKind::Int { .. }
+            | TokenKind::Float(_)
+            | TokenKind::Char { .. }
+            | TokenKind::Str { .. }
+            | TokenKind::Punct(_) => read_block_or_expression(arena, tokens, names, room, next),
+        },
+    }
+}
+
 /// The statement in front.
 #[tactic(auto, using(crate::proofs::StatementSteps::reads))]
 pub(crate) fn statement_at_front<'a>(
@@ -157,24 +212,5 @@ pub(crate) fn statement_at_front<'a>(
     if room == 0 {
         return Err(ExprFault::NoTree);
     }
-    match tokens {
-        [] => Err(ExprFault::NoTree),
-        [front, rest @ ..] => match front.kind {
-            TokenKind::Word(_) => match after_sign(Punctuator::Colon, rest) {
-                Some(body) => read_label(arena, front, body, names, room, next),
-                None => read_expression_statement(arena, tokens, names, room, next),
-            },
-            TokenKind::Keyword(word) => {
-                read_by_keyword(arena, word, tokens, rest, names, room, next)
-            }
-            TokenKind::Int { .. }
-            | TokenKind::Float(_)
-            | TokenKind::Char { .. }
-            | TokenKind::Str { .. }
-            | TokenKind::Punct(_) => match after_sign(Punctuator::OpenBrace, tokens) {
-                Some(inside) => read_block_rest(arena, place_of(tokens), inside, names, room, next),
-                None => read_expression_statement(arena, tokens, names, room, next),
-            },
-        },
-    }
+    read_statement(arena, tokens, names, room, next)
 }

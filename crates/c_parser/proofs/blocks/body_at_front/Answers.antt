@@ -1,4 +1,3 @@
-
 use Rattle.c_parser.proofs.blocks.body_at_front.Goals as goal
 
 pub returns-clause-stands : goal.returns-clause-stands

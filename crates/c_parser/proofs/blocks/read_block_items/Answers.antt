@@ -10,8 +10,8 @@ use Rattle.c_parser.proofs.ListSteps.{block_items-next}
 use Rattle.c_parser.proofs.StatementSteps.{statements-on, statements-start}
 use Rattle.c_parser.proofs.blocks.read_block_items.Goals as goal
 
-pub loop-names-init : goal.loop-names-init
-loop-names-init c = record {
+pub loop-rest-init : goal.loop-rest-init
+loop-rest-init c = record {
   found = ending-start (λ n. read_block_items (read (c.args.room - 1)) c.args.names.now.now n (symbols_of c.args.tokens.now)) c.new-all.result.items c.args.tokens.now c.new-all.ensures.items;
   height = height-start c.new-all.result.items c.new-all.ensures.items;
   saved = refl;
@@ -20,41 +20,41 @@ loop-names-init c = record {
   spent = omega arith;
 }
 
-pub loop-names-preserved : goal.loop-names-preserved
-loop-names-preserved c =
-    let positive : 0 < c.loop-names.fuel = omega arith in
+pub loop-rest-preserved : goal.loop-rest-preserved
+loop-rest-preserved c =
+    let positive : 0 < c.loop-rest.fuel = omega arith in
     let item = c.in_ok-declaration.declaration in
-    let highest = height_pushed c.loop-names.all.items c.push.new.self.items item.tree c.in_ok-push.ensures.items in
+    let highest = height_pushed c.loop-rest.all.items c.push.new.self.items item.tree c.in_ok-push.ensures.items in
     record {
-      found = block_items-next (read (c.args.room - 1)) c.loop-names.names.now c.declaration_in_front.new.names.now c.loop-names.fuel (symbols_of c.loop-names.rest.now) (symbols_of item.rest.now) c.loop-names.all.items c.push.new.self.items item.tree _ positive (sym c.begins_declaration.ensures ∙ c.loop-names-test.true) c.in_ok-declaration.ensures.found.0 c.in_ok-declaration.ensures.now c.in_ok-push.ensures.items c.loop-names.invariant.found;
+      found = block_items-next (read (c.args.room - 1)) c.loop-rest.names.now c.declaration_in_front.new.names.now c.loop-rest.fuel (symbols_of c.loop-rest.rest.now) (symbols_of item.rest.now) c.loop-rest.all.items c.push.new.self.items item.tree _ positive (sym c.begins_declaration.ensures ∙ c.loop-rest-test.true) c.in_ok-declaration.ensures.found.0 c.in_ok-declaration.ensures.now c.in_ok-push.ensures.items c.loop-rest.invariant.found;
       height = omega (arith, c.in_ok-declaration.ensures.found.1, highest);
-      saved = c.in_ok-declaration.ensures.saved ∙ c.loop-names.invariant.saved;
-      rises = omega (arith, c.in_ok-declaration.ensures.ids.0, c.loop-names.invariant.rises);
-      stands = row-next c.loop-names.all.items c.push.new.self.items item.tree _ _ _ _ _ _ c.in_ok-push.ensures.items c.loop-names.invariant.stands c.in_ok-declaration.ensures.stands;
-      spent = omega (arith, c.in_ok-declaration.ensures.ids.1, c.loop-names.invariant.spent);
+      saved = c.in_ok-declaration.ensures.saved ∙ c.loop-rest.invariant.saved;
+      rises = omega (arith, c.in_ok-declaration.ensures.ids.0, c.loop-rest.invariant.rises);
+      stands = row-next c.loop-rest.all.items c.push.new.self.items item.tree _ _ _ _ _ _ c.in_ok-push.ensures.items c.loop-rest.invariant.stands c.in_ok-declaration.ensures.stands;
+      spent = omega (arith, c.in_ok-declaration.ensures.ids.1, c.loop-rest.invariant.spent);
     }
 
 pub loop-fuel-init : goal.loop-fuel-init
 loop-fuel-init c = record {
-  found = statements-start (read (c.args.room - 1)) c.loop-names.names.now c.loop-names.fuel (symbols_of c.loop-names.rest.now) c.loop-names.all.items _ (sym c.begins_declaration.ensures ∙ c.loop-names-test.false) c.loop-names.invariant.found;
-  height = c.loop-names.invariant.height;
-  saved = c.loop-names.invariant.saved;
-  rises = c.loop-names.invariant.rises;
-  stands = c.loop-names.invariant.stands;
-  spent = c.loop-names.invariant.spent;
+  found = statements-start (read (c.args.room - 1)) c.loop-rest.names.now c.loop-rest.fuel (symbols_of c.loop-rest.rest.now) c.loop-rest.all.items _ (sym c.begins_declaration.ensures ∙ c.loop-rest-test.false) c.loop-rest.invariant.found;
+  height = c.loop-rest.invariant.height;
+  saved = c.loop-rest.invariant.saved;
+  rises = c.loop-rest.invariant.rises;
+  stands = c.loop-rest.invariant.stands;
+  spent = c.loop-rest.invariant.spent;
 }
 
 pub loop-fuel-preserved : goal.loop-fuel-preserved
 loop-fuel-preserved c =
     let positive : 0 < c.loop-fuel.fuel = omega arith in
     let item = c.in_ok-statement.statement in
-    let highest = height_pushed c.loop-fuel.all.items c.push-in-loop-fuel.new.self.items item.tree c.in_ok-push-in-loop-fuel.ensures.items in
+    let highest = height_pushed c.loop-fuel.all.items c.push-in-loop-fuel.new.self.items item.tree c.in_ok-push-2.ensures.items in
     record {
-      found = statements-on (read (c.args.room - 1)) c.loop-fuel.names.now c.statement_in_front.new.names.now c.loop-fuel.fuel (symbols_of c.loop-fuel.rest.now) (symbols_of item.rest.now) c.loop-fuel.all.items c.push-in-loop-fuel.new.self.items item.tree _ positive c.in_ok-statement.ensures.names.0 (sym c.in_default.ensures.found) c.in_ok-statement.ensures.found.0 c.in_ok-push-in-loop-fuel.ensures.items c.loop-fuel.invariant.found;
+      found = statements-on (read (c.args.room - 1)) c.loop-fuel.names.now c.statement_in_front.new.names.now c.loop-fuel.fuel (symbols_of c.loop-fuel.rest.now) (symbols_of item.rest.now) c.loop-fuel.all.items c.push-in-loop-fuel.new.self.items item.tree _ positive c.in_ok-statement.ensures.names.0 (sym c.in_default.ensures.found) c.in_ok-statement.ensures.found.0 c.in_ok-push-2.ensures.items c.loop-fuel.invariant.found;
       height = omega (arith, c.in_ok-statement.ensures.found.1, highest);
       saved = c.in_ok-statement.ensures.names.1 ∙ c.loop-fuel.invariant.saved;
       rises = omega (arith, c.in_ok-statement.ensures.ids.0, c.loop-fuel.invariant.rises);
-      stands = row-next c.loop-fuel.all.items c.push-in-loop-fuel.new.self.items item.tree _ _ _ _ _ _ c.in_ok-push-in-loop-fuel.ensures.items c.loop-fuel.invariant.stands c.in_ok-statement.ensures.stands;
+      stands = row-next c.loop-fuel.all.items c.push-in-loop-fuel.new.self.items item.tree _ _ _ _ _ _ c.in_ok-push-2.ensures.items c.loop-fuel.invariant.stands c.in_ok-statement.ensures.stands;
       spent = omega (arith, c.in_ok-statement.ensures.ids.1, c.loop-fuel.invariant.spent);
     }
 

@@ -10,8 +10,8 @@ use Rattle.unit_grammar.specs.Reading.{read}
 use Rattle.c_expr.specs.Gives.{ending_with}
 use Rattle.c_parser.proofs.blocks.read_block_items.Given as goal
 
-abbrev pub invariant-loop-names : goal.invariant-loop-names
-invariant-loop-names l = record {
+abbrev pub invariant-loop-rest : goal.invariant-loop-rest
+invariant-loop-rest l = record {
   found : ending_with l.all.items (read_block_items (read (l.room - 1)) l.names.now l.fuel (symbols_of l.rest)) ≡ read_block_items (read (l.room - 1)) l.fn.names.now (length (symbols_of l.fn.tokens)) (symbols_of l.fn.tokens);
   height : l.highest ≡ height_in (view_all l.all.items);
   saved : l.names.saved ≡ l.fn.names.saved;
@@ -20,8 +20,8 @@ invariant-loop-names l = record {
   spent : l.next + 16 * length l.rest ≤ l.fn.next + 16 * length l.fn.tokens;
 }
 
-abbrev pub decreases-loop-names : goal.decreases-loop-names
-decreases-loop-names l = l.fuel
+abbrev pub decreases-loop-rest : goal.decreases-loop-rest
+decreases-loop-rest l = l.fuel
 
 abbrev pub invariant-loop-fuel : goal.invariant-loop-fuel
 invariant-loop-fuel l = record {

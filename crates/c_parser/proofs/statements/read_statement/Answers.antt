@@ -1,8 +1,7 @@
 use Rattle.std.proofs.Common.{refl, arith}
-use Rattle.c_expr.proofs.Standing.{front-kept, front-passes}
-use Rattle.c_expr.proofs.StandingParts.{keyword_symbol}
+use Rattle.c_expr.proofs.Standing.{front-kept, front-reserved}
 use Rattle.c_parser.proofs.StatementStanding.{passed-symbols}
-use Rattle.c_parser.proofs.statements.statement_at_front.Goals as goal
+use Rattle.c_parser.proofs.statements.read_statement.Goals as goal
 
 pub returns-in-Some-clause-stands : goal.returns-in-Some-clause-stands
 returns-in-Some-clause-stands c =
@@ -12,12 +11,9 @@ returns-in-Some-clause-stands c =
 pub read_by_keyword-requires-clause-passes : goal.read_by_keyword-requires-clause-passes
 read_by_keyword-requires-clause-passes c =
     let some = c.in-len1-up.len_at_least in
-    front-passes _ c.args.tokens.now _ (omega (arith, some)) (keyword_symbol _ _ _ c.in-Keyword.is refl)
+    front-reserved c.args.tokens.now _ _ _ (omega (arith, some)) c.in-Keyword.is refl
 
 pub read_by_keyword-requires-clause-front : goal.read_by_keyword-requires-clause-front
 read_by_keyword-requires-clause-front c =
     let some = c.in-len1-up.len_at_least in
-    passed-symbols _ c.args.tokens.now _ (front-passes _ c.args.tokens.now _ (omega (arith, some)) (keyword_symbol _ _ _ c.in-Keyword.is refl))
-
-pub returns-in-Some-after_sign-2-clause-stands : goal.returns-in-Some-after_sign-2-clause-stands
-returns-in-Some-after_sign-2-clause-stands c = c.read_block_rest.ensures.stands c.args.tokens.now c.place_of.ensures c.in-Some-after_sign-2.ensures.passes
+    passed-symbols _ c.args.tokens.now _ (front-reserved c.args.tokens.now _ _ _ (omega (arith, some)) c.in-Keyword.is refl)
