@@ -11,14 +11,16 @@ ghost use Rattle.c_expr.specs.Standing.{Over, Passes, IsFirst};
 ghost use Rattle.c_expr.specs.Gives.{Gives, GivesList, AsBefore, left, left_by_list, Spends};
 ghost use Rattle.c_parser.specs.Parts.{OverRowUpTo};
 
+use crate::declarations::declaration_in_front;
 use crate::front::begins_declaration;
-use crate::inner::{declaration_in_front, statement_in_front};
 use crate::statement_nodes::block_of;
+use crate::statements::statement_in_front;
 use c_expr::{ExprFault, Read, ReadList, TypeNames, after_sign, list_of, place_of};
 use c_tree::{Arena, Place, Punctuator, Token};
 
 /// Declarations and then statements, up to the brace that closes a block. What is declared stays in force.
 #[tactic(auto, using(crate::proofs::StatementSteps::blocks))]
+#[cycle(statements)]
 fn read_block_items<'a>(
     arena: &'a Arena,
     tokens: &'a [Token],
@@ -65,6 +67,7 @@ fn read_block_items<'a>(
 }
 
 /// What follows the brace that opens a block, of which `first` is the place.
+#[cycle(statements)]
 pub(crate) fn read_block_rest<'a>(
     arena: &'a Arena,
     first: Place,
@@ -89,7 +92,7 @@ pub(crate) fn read_block_rest<'a>(
 
 /// The block in front.
 #[tactic(auto, using(crate::proofs::StatementSteps::reads))]
-pub(crate) fn body_at_front<'a>(
+pub(crate) fn body_in_front<'a>(
     arena: &'a Arena,
     tokens: &'a [Token],
     names: &mut TypeNames,

@@ -20,7 +20,7 @@ ghost use Rattle.c_parser.specs.Behind.{declaration_behind, OverBoth};
 use crate::declaration_nodes::declaration_of;
 use crate::declared::makes_types;
 use crate::initialized::read_init_declarators;
-use crate::inner::specifiers_in_front;
+use crate::specifiers::specifiers_in_front;
 use c_expr::{
     ExprFault, Form, Read, ReadList, SpecifierPlace, TypeNames, after_sign, declarator_in_front,
     list_of,
@@ -76,7 +76,7 @@ pub(crate) fn read_declaration_rest<'a>(
 
 /// The declaration in front, in a block.
 #[tactic(auto, using(crate::proofs::InitialSteps::reads))]
-pub(crate) fn declaration_at_front<'a>(
+pub(crate) fn declaration_in_front<'a>(
     arena: &'a Arena,
     tokens: &'a [Token],
     names: &mut TypeNames,

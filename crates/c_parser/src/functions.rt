@@ -15,13 +15,14 @@ ghost use Rattle.c_expr.specs.Gives.{Gives, AsBefore, left, Spends};
 ghost use Rattle.c_expr.specs.Standing.{Over};
 ghost use Rattle.c_parser.specs.Behind.{function_behind, definition_behind, OverBoth};
 
+use crate::blocks::body_in_front;
 use crate::control::is_controlled;
 use crate::declaration_nodes::{empty_of, function_of};
 use crate::declarations::{bare_declaration_of, read_declaration_rest};
 use crate::declared::{declare, declare_all};
 use crate::definitions::{may_define, params_of};
 use crate::front::begins_sign;
-use crate::inner::{body_in_front, specifiers_in_front};
+use crate::specifiers::specifiers_in_front;
 use c_expr::{
     ExprFault, Form, Read, SpecifierPlace, TypeNames, after_sign, declarator_in_front, name_of,
     place_of,

@@ -12,7 +12,6 @@ ghost use Rattle.c_parser.specs.CommaLists.{GivesCommaList, OverCommaList, left_
 
 use crate::declaration_nodes::braces_of;
 use crate::front::begins_sign;
-use crate::inner::braces_in_front;
 use crate::parts::ReadCommaList;
 use c_expr::{
     ASSIGNMENT_LEVEL, ExprFault, Read, TypeNames, after_sign, expression_in_front, list_of,
@@ -21,6 +20,7 @@ use c_expr::{
 use c_tree::{Arena, Punctuator, Token};
 
 /// An expression, or initial values in braces.
+#[cycle(braces)]
 pub(crate) fn read_initial<'a>(
     arena: &'a Arena,
     tokens: &'a [Token],
@@ -43,6 +43,7 @@ pub(crate) fn read_initial<'a>(
 
 /// Initial values up to the brace, at least one.
 #[tactic(auto, using(crate::proofs::InitialSteps::initials))]
+#[cycle(braces)]
 fn read_initials<'a>(
     arena: &'a Arena,
     tokens: &'a [Token],
@@ -92,7 +93,8 @@ fn read_initials<'a>(
 
 /// The initial values in braces in front.
 #[tactic(auto, using(crate::proofs::InitialSteps::reads))]
-pub(crate) fn braces_at_front<'a>(
+#[cycle(braces)]
+pub(crate) fn braces_in_front<'a>(
     arena: &'a Arena,
     tokens: &'a [Token],
     names: &mut TypeNames,

@@ -10,13 +10,13 @@ ghost use Rattle.unit_grammar.specs.Reading.{read};
 ghost use Rattle.c_expr.specs.Standing.{Over, Passes, IsFirst};
 ghost use Rattle.c_expr.specs.Gives.{Gives, AsBefore, left, Spends};
 
-use crate::inner::statement_in_front;
 use crate::statement_nodes::{do_of, for_of, while_of};
-use crate::statements::{read_condition, read_maybe_expression};
+use crate::statements::{read_condition, read_maybe_expression, statement_in_front};
 use c_expr::{ExprFault, Read, TypeNames, after_keyword, after_sign};
 use c_tree::{Arena, Keyword, Place, Punctuator, Token};
 
 /// What follows `while` (6.6.5.1).
+#[cycle(statements)]
 pub(crate) fn read_while<'a>(
     arena: &'a Arena,
     first: Place,
@@ -38,6 +38,7 @@ pub(crate) fn read_while<'a>(
 }
 
 /// What follows `do` (6.6.5.2).
+#[cycle(statements)]
 pub(crate) fn read_do<'a>(
     arena: &'a Arena,
     first: Place,
@@ -65,6 +66,7 @@ pub(crate) fn read_do<'a>(
 }
 
 /// What follows `for` (6.6.5.3).
+#[cycle(statements)]
 pub(crate) fn read_for<'a>(
     arena: &'a Arena,
     first: Place,
@@ -84,8 +86,22 @@ pub(crate) fn read_for<'a>(
         return Err(ExprFault::NoTree);
     };
     let start = read_maybe_expression(arena, Punctuator::Semicolon, inside, names, room, next)?;
-    let condition = read_maybe_expression(arena, Punctuator::Semicolon, start.rest, names, room, next)?;
-    let step = read_maybe_expression(arena, Punctuator::CloseParen, condition.rest, names, room, next)?;
+    let condition = read_maybe_expression(
+        arena,
+        Punctuator::Semicolon,
+        start.rest,
+        names,
+        room,
+        next,
+    )?;
+    let step = read_maybe_expression(
+        arena,
+        Punctuator::CloseParen,
+        condition.rest,
+        names,
+        room,
+        next,
+    )?;
     let body = statement_in_front(arena, step.rest, names, room - 1, next)?;
     for_of(arena, first, start, condition, step, body, room, next)
 }

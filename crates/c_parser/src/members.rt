@@ -18,7 +18,7 @@ ghost use Rattle.c_expr.specs.Standing.{Over, OverBehind};
 ghost use Rattle.c_parser.specs.Parts.{OverListUpTo};
 ghost use Rattle.c_parser.specs.Tags.{read_declared};
 
-use crate::inner::specifiers_in_front;
+use crate::specifiers::specifiers_in_front;
 use crate::tagged_nodes::{bare_field_of, field_of, members_of};
 use c_expr::{
     CONDITIONAL_LEVEL, ExprFault, Form, Read, ReadList, SpecifierPlace, TypeNames, after_sign,
@@ -167,7 +167,8 @@ fn read_declared_members<'a>(
 
 /// The line in front of a body of a structure or union.
 #[tactic(auto, using(crate::proofs::TaggedSteps::reads))]
-pub(crate) fn member_at_front<'a>(
+#[cycle(tags)]
+pub(crate) fn member_in_front<'a>(
     arena: &'a Arena,
     tokens: &'a [Token],
     names: &mut TypeNames,

@@ -11,13 +11,15 @@ ghost use Rattle.unit_grammar.specs.Reading.{read};
 ghost use Rattle.c_expr.specs.Standing.{Over, Passes, Keeps, IsFirst};
 ghost use Rattle.c_expr.specs.Gives.{Gives, AsBefore, left, Spends};
 
-use crate::inner::statement_in_front;
 use crate::statement_nodes::{case_of, default_of, if_else_of, if_of, label_of, switch_of};
-use crate::statements::read_condition;
-use c_expr::{CONDITIONAL_LEVEL, ExprFault, Read, TypeNames, after_keyword, after_sign, expression_in_front};
+use crate::statements::{read_condition, statement_in_front};
+use c_expr::{
+    CONDITIONAL_LEVEL, ExprFault, Read, TypeNames, after_keyword, after_sign, expression_in_front,
+};
 use c_tree::{Arena, Keyword, Place, Punctuator, Token};
 
 /// What follows a label and its colon (6.6.1).
+#[cycle(statements)]
 pub(crate) fn read_label<'a>(
     arena: &'a Arena,
     label: &'a Token,
@@ -38,6 +40,7 @@ pub(crate) fn read_label<'a>(
 }
 
 /// What follows `case` (6.6.1).
+#[cycle(statements)]
 pub(crate) fn read_case<'a>(
     arena: &'a Arena,
     first: Place,
@@ -62,6 +65,7 @@ pub(crate) fn read_case<'a>(
 }
 
 /// What follows `default` (6.6.1).
+#[cycle(statements)]
 pub(crate) fn read_default<'a>(
     arena: &'a Arena,
     first: Place,
@@ -85,6 +89,7 @@ pub(crate) fn read_default<'a>(
 }
 
 /// What follows `if` (6.6.4.1). An `else` belongs to the nearest `if` before it.
+#[cycle(statements)]
 pub(crate) fn read_if<'a>(
     arena: &'a Arena,
     first: Place,
@@ -110,6 +115,7 @@ pub(crate) fn read_if<'a>(
 }
 
 /// What follows `switch` (6.6.4.2).
+#[cycle(statements)]
 pub(crate) fn read_switch<'a>(
     arena: &'a Arena,
     first: Place,

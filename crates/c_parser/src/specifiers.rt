@@ -15,7 +15,7 @@ ghost use Rattle.c_expr.specs.SpecifierPlaces.{place_of};
 ghost use Rattle.c_expr.specs.Standing.{Over, OverRow};
 ghost use Rattle.c_parser.specs.TypedOnce.{read_typed_once};
 
-use crate::inner::tagged_in_front;
+use crate::tagged::tagged_in_front;
 use c_expr::{
     ExprFault, Read, ReadList, SpecifierPlace, TypeNames, begins_tag, fit, goes_on, list_of, node,
     part, place_of, says_type,
@@ -50,6 +50,7 @@ fn begins_second(typed: bool, front: &Token) -> bool
 }
 
 /// The specifier that begins with the token in front.
+#[cycle(tags)]
 fn read_item<'a>(
     arena: &'a Arena,
     front: &'a Token,
@@ -83,6 +84,7 @@ fn read_item<'a>(
 /// One specifier after the other, as long as the next token goes on with them. No structure, union or enumeration stands behind
 /// a type, since no place has both: so the names in force make no difference once there is a type.
 #[tactic(auto, using(crate::proofs::TypedOnce::items))]
+#[cycle(tags)]
 fn read_items<'a>(
     arena: &'a Arena,
     tokens: &'a [Token],
@@ -126,7 +128,8 @@ fn read_items<'a>(
 
 /// All specifiers in front, with their bodies.
 #[tactic(auto, using(crate::proofs::TypedOnce::specifiers))]
-pub(crate) fn specifiers_at_front<'a>(
+#[cycle(tags)]
+pub(crate) fn specifiers_in_front<'a>(
     arena: &'a Arena,
     place: SpecifierPlace,
     tokens: &'a [Token],

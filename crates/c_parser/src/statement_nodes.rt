@@ -259,7 +259,11 @@ pub(crate) fn for_of<'a>(
     ensures node { Makes result next.old next.new first (nodes.Iteration (nodes.For (option_node start.entry.tree) (option_node condition.entry.tree) (option_node step.entry.tree) (node_of body.entry.tree))) body.entry.rest.now }
     ensures ids { (next.old ≤ next.new) × (next.new ≤ next.old + 1) × (left result ≤ length body.entry.rest.now) }
 {
-    let highest = start.height.max(condition.height).max(step.height).max(body.height);
+    let highest = start
+        .height
+        .max(condition.height)
+        .max(step.height)
+        .max(body.height);
     let kind = Kind::Iteration(Iteration::For {
         first: start.tree,
         condition: condition.tree,

@@ -17,7 +17,9 @@ use crate::loops::{read_do, read_for, read_while};
 use crate::parts::MaybeRead;
 use crate::selections::{read_case, read_default, read_if, read_label, read_switch};
 use crate::statement_nodes::expression_statement_of;
-use c_expr::{COMMA_LEVEL, ExprFault, Read, TypeNames, after_sign, expression_in_front, keep, place_of};
+use c_expr::{
+    COMMA_LEVEL, ExprFault, Read, TypeNames, after_sign, expression_in_front, keep, place_of,
+};
 use c_tree::{Arena, Keyword, Punctuator, Token, TokenKind};
 
 /// An expression and this punctuator behind it, or the punctuator alone.
@@ -103,6 +105,7 @@ fn read_expression_statement<'a>(
 }
 
 /// The statement that this keyword begins; `rest` follows it. Where it begins none, it may begin an expression.
+#[cycle(statements)]
 fn read_by_keyword<'a>(
     arena: &'a Arena,
     word: Keyword,
@@ -196,7 +199,8 @@ fn read_statement<'a>(
 
 /// The statement in front.
 #[tactic(auto, using(crate::proofs::StatementSteps::reads))]
-pub(crate) fn statement_at_front<'a>(
+#[cycle(statements)]
+pub(crate) fn statement_in_front<'a>(
     arena: &'a Arena,
     tokens: &'a [Token],
     names: &mut TypeNames,

@@ -21,7 +21,7 @@ ghost use Rattle.c_parser.specs.CommaLists.{GivesCommaList, OverCommaList, left_
 ghost use Rattle.c_parser.specs.Parts.{OverRowUpTo};
 ghost use Rattle.c_parser.specs.Tags.{Opens};
 
-use crate::inner::member_in_front;
+use crate::members::member_in_front;
 use crate::parts::ReadCommaList;
 use crate::tagged_nodes::{enum_body_of, enum_tag_of, struct_body_of, struct_tag_of};
 use c_expr::{
@@ -187,6 +187,7 @@ fn read_enum<'a>(
 
 /// Members up to the brace. The enumerators among their specifiers stay in force.
 #[tactic(auto, using(crate::proofs::TaggedSteps::members))]
+#[cycle(tags)]
 fn read_members<'a>(
     arena: &'a Arena,
     tokens: &'a [Token],
@@ -224,6 +225,7 @@ fn read_members<'a>(
 }
 
 /// What follows the brace of a structure or union.
+#[cycle(tags)]
 fn read_struct_body<'a>(
     arena: &'a Arena,
     first: Place,
@@ -247,6 +249,7 @@ fn read_struct_body<'a>(
 }
 
 /// What follows `struct` or `union`, of which `first` is the place: a tag, a body, or both (6.5.2.1).
+#[cycle(tags)]
 fn read_struct<'a>(
     arena: &'a Arena,
     first: Place,
@@ -278,7 +281,8 @@ fn read_struct<'a>(
 
 /// The specifier in front that begins with `struct`, `union` or `enum`.
 #[tactic(auto, using(crate::proofs::TaggedSteps::reads))]
-pub(crate) fn tagged_at_front<'a>(
+#[cycle(tags)]
+pub(crate) fn tagged_in_front<'a>(
     arena: &'a Arena,
     tokens: &'a [Token],
     names: &mut TypeNames,

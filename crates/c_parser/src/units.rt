@@ -17,7 +17,7 @@ ghost use Rattle.c_parser.specs.declared.fault.ParseFault.TheVariants.{Syntax as
 ghost use Rattle.c_parser.specs.Units.{IsParseIn, AreTheTrees, IsFirstBadAt};
 
 use crate::fault::ParseFault;
-use crate::inner::read_chunk;
+use crate::functions::read_chunk;
 use c_expr::{ExprFault, Read, TypeNames, list_of, place_of};
 use c_lexer::{Tokens, chunks, is_cut};
 use c_tree::{Arena, Token, Tree};

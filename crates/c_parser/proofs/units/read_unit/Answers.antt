@@ -56,11 +56,11 @@ returns-in_err-tree-clause-refused c =
     let bad = subst (λ x. BadGoesOn ts bounds index names x) cut v.bad in
     let refused = c.in_err-tree.ensures.refused in
     handed-on _ _ (λ place. (chunks : List (ℕ × ℕ)) → AreChunks c.args.tokens.now.all chunks → IsFirstBadAt c.args.tokens.now.all chunks place)
-      (λ place n chunks h.
-        let theirs : AreChunks ts chunks = rw c.all-all.ensures.all h in
-        let begins = subst (λ k. IsFirst place (drop k ts)) (sym follow.0) (refused place n).0 in
-        rw (← c.all-all.ensures.all) (bad-there ts chunks bounds (drop (index + 1) bounds) names index chunk place theirs ours there begins (λ e p. (refused place n).1 e (parse-here ts names e c.reading.start chunk follow.0 p)) bad))
-      c.from_residual-in_err-tree.ensures.1
+    (λ place n chunks h.
+    let theirs : AreChunks ts chunks = rw c.all-all.ensures.all h in
+    let begins = subst (λ k. IsFirst place (drop k ts)) (sym follow.0) (refused place n).0 in
+    rw (← c.all-all.ensures.all) (bad-there ts chunks bounds (drop (index + 1) bounds) names index chunk place theirs ours there begins (λ e p. (refused place n).1 e (parse-here ts names e c.reading.start chunk follow.0 p)) bad))
+    c.from_residual-in_err-tree.ensures.1
 
 pub returns-in_err-push-clause-refused : goal.returns-in_err-push-clause-refused
 returns-in_err-push-clause-refused c = without_memory _ _ c.from_residual-in_err-push.ensures.1

@@ -6,7 +6,7 @@ use Rattle.c_places.specs.Stands.{OfNothing, OfBoth}
 use Rattle.c_expr.proofs.Standing.{made, at_node}
 use Rattle.c_parser.proofs.InitialSteps.{declarator-height}
 use Rattle.c_parser.proofs.DeclarationPlaces.{declares}
-use Rattle.c_parser.proofs.declarations.declaration_at_front.Goals as goal
+use Rattle.c_parser.proofs.declarations.declaration_in_front.Goals as goal
 
 pub read_declaration_rest-requires-clause-low : goal.read_declaration_rest-requires-clause-low
 read_declaration_rest-requires-clause-low c =

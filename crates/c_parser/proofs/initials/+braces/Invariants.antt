@@ -8,10 +8,19 @@ use Rattle.unit_grammar.specs.DeclarationSteps.{read_initials}
 use Rattle.unit_grammar.specs.Reading.{read}
 use Rattle.c_expr.proofs.Standing.{led_line}
 use Rattle.c_parser.specs.CommaLists.{commas_after}
-use Rattle.c_parser.proofs.initials.read_initials.Given as goal
+use Rattle.c_parser.proofs.initials.+braces.Given as goal
 
-abbrev pub invariant-loop-fuel : goal.invariant-loop-fuel
-invariant-loop-fuel l = record {
+abbrev pub decreases-braces_in_front : goal.decreases-braces_in_front
+decreases-braces_in_front l = l.room * 16 + 10
+
+abbrev pub decreases-read_initials : goal.decreases-read_initials
+decreases-read_initials l = l.room * 16 + 9
+
+abbrev pub decreases-read_initial : goal.decreases-read_initial
+decreases-read_initial l = l.room * 16 + 8
+
+abbrev pub invariant-read_initials-loop-fuel : goal.invariant-read_initials-loop-fuel
+invariant-read_initials-loop-fuel l = record {
   found : commas_after l.all.items (read_initials (read_expressions (l.room - 1)) (read (l.room - 1)) l.fn.names.now l.fuel (symbols_of l.rest)) ≡ read_initials (read_expressions (l.room - 1)) (read (l.room - 1)) l.fn.names.now (length (symbols_of l.fn.tokens)) (symbols_of l.fn.tokens);
   height : l.highest ≡ height_in (view_all l.all.items);
   now : l.names.now ≡ l.fn.names.now;
@@ -21,5 +30,5 @@ invariant-loop-fuel l = record {
   spent : l.next + 16 * length l.rest ≤ l.fn.next + 16 * length l.fn.tokens;
 }
 
-abbrev pub decreases-loop-fuel : goal.decreases-loop-fuel
-decreases-loop-fuel l = l.fuel
+abbrev pub decreases-read_initials-loop-fuel : goal.decreases-read_initials-loop-fuel
+decreases-read_initials-loop-fuel l = l.fuel

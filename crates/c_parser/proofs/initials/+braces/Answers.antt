@@ -1,18 +1,30 @@
+use Rattle.c_places.specs.Stands.{OfNothing, OfBoth}
+use Rattle.c_tree.specs.Views.{nodes_of}
+use Rattle.c_expr.proofs.Standing.{made, at_passed, list-next, list-last, led-start}
+use Rattle.c_expr.proofs.StandingParts.{list-done, list-start, height-start}
+use Rattle.c_parser.proofs.DeclarationPlaces.{braces_behind}
 use Rattle.std.proofs.Common.{◌-◌, ◌<◌, ◌∙◌, sym, arith, rules}
 use Rattle.c_tree.specs.Symbol.{symbols_of}
 use Rattle.c_grammar.specs.Reading.{read as read_expressions}
 use Rattle.unit_grammar.specs.DeclarationSteps.{read_initials}
 use Rattle.unit_grammar.specs.Reading.{read}
-use Rattle.c_places.specs.Stands.{OfNothing, OfBoth}
 use Rattle.c_expr.proofs.Items.{height_pushed}
-use Rattle.c_expr.proofs.Standing.{list-next, list-last, led-start}
-use Rattle.c_expr.proofs.StandingParts.{list-done, height-start}
 use Rattle.c_parser.proofs.ListSteps.{initials-next}
 use Rattle.c_parser.proofs.InitialSteps.{commas-start}
-use Rattle.c_parser.proofs.initials.read_initials.Goals as goal
+use Rattle.c_parser.proofs.initials.+braces.Goals as goal
 
-pub loop-fuel-preserved : goal.loop-fuel-preserved
-loop-fuel-preserved c =
+pub braces_in_front-returns-in-Some-after_sign-clause-stands : goal.braces_in_front-returns-in-Some-after_sign-clause-stands
+braces_in_front-returns-in-Some-after_sign-clause-stands t c =
+    made c.braces_of.result _ _ _ _ _ _ _ c.braces_of.ensures.node (at_passed _ _ _ _ _ c.place_of.ensures c.in-Some.ensures.passes)
+    (OfBoth (OfBoth (OfBoth (c.in-Some.ensures.passes _) (list-done c.list_of.result c.new.result.items _ _ _ _ c.list_of.ensures.nodes (list-start c.new.result.items _ _ c.new.ensures.items))) OfNothing) (c.in-Some-after_sign.ensures.passes _))
+
+pub braces_in_front-returns-clause-stands : goal.braces_in_front-returns-clause-stands
+braces_in_front-returns-clause-stands t c =
+    made c.braces_of-2.result _ _ _ _ _ _ _ c.braces_of-2.ensures.node (at_passed _ _ _ _ _ c.place_of-2.ensures c.in-Some.ensures.passes)
+    (braces_behind (nodes_of c.in_ok-elements.elements.trees) c.in_ok-elements.elements.comma _ _ _ _ _ c.in-Some.ensures.passes c.in_ok-elements.ensures.stands)
+
+pub read_initials-loop-fuel-preserved : goal.read_initials-loop-fuel-preserved
+read_initials-loop-fuel-preserved t c =
     let positive : 0 < c.loop-fuel.fuel = omega arith in
     let item = c.in_ok-element.element in
     let highest = height_pushed c.loop-fuel.all.items c.push.new.self.items item.tree c.in_ok-push.ensures.items in
@@ -26,8 +38,8 @@ loop-fuel-preserved c =
       spent = omega (arith, c.in_ok-element.ensures.ids.1, c.in-Some.ensures.shorter, c.loop-fuel.invariant.spent);
     }
 
-pub loop-fuel-init : goal.loop-fuel-init
-loop-fuel-init c = record {
+pub read_initials-loop-fuel-init : goal.read_initials-loop-fuel-init
+read_initials-loop-fuel-init t c = record {
   found = commas-start (λ n. read_initials (read_expressions (c.args.room - 1)) (read (c.args.room - 1)) c.args.names.now.now n (symbols_of c.args.tokens.now)) c.new-all.result.items c.args.tokens.now c.new-all.ensures.items;
   height = height-start c.new-all.result.items c.new-all.ensures.items;
   now = search rules;
@@ -37,10 +49,10 @@ loop-fuel-init c = record {
   spent = omega arith;
 }
 
-pub returns-in_default-clause-stands : goal.returns-in_default-clause-stands
-returns-in_default-clause-stands c =
+pub read_initials-returns-in_default-clause-stands : goal.read_initials-returns-in_default-clause-stands
+read_initials-returns-in_default-clause-stands t c =
     OfBoth (OfBoth (list-done c.list_of.result c.push.new.self.items _ _ _ _ c.list_of.ensures.nodes (list-last c.loop-fuel.all.items c.push.new.self.items c.in_ok-element.element.tree _ _ _ _ _ _ c.in_ok-push.ensures.items c.loop-fuel.invariant.stands c.in_ok-element.ensures.stands)) OfNothing) (c.in-Some-after_sign.ensures.passes _)
 
-pub returns-in-Some-after_sign-2-clause-stands : goal.returns-in-Some-after_sign-2-clause-stands
-returns-in-Some-after_sign-2-clause-stands c =
+pub read_initials-returns-in-Some-after_sign-2-clause-stands : goal.read_initials-returns-in-Some-after_sign-2-clause-stands
+read_initials-returns-in-Some-after_sign-2-clause-stands t c =
     OfBoth (OfBoth (list-done c.list_of-in-Some-after_sign-2.result c.push.new.self.items _ _ _ _ c.list_of-in-Some-after_sign-2.ensures.nodes (list-last c.loop-fuel.all.items c.push.new.self.items c.in_ok-element.element.tree _ _ _ _ _ _ c.in_ok-push.ensures.items c.loop-fuel.invariant.stands c.in_ok-element.ensures.stands)) (c.in-Some.ensures.passes _)) (c.in-Some-after_sign-2.ensures.passes _)

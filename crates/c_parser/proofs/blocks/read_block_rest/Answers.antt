@@ -1,5 +1,0 @@
-use Rattle.c_expr.proofs.Standing.{made, at_passed, then_both}
-use Rattle.c_parser.proofs.blocks.read_block_rest.Goals as goal
-
-pub returns-clause-stands : goal.returns-clause-stands
-returns-clause-stands c ts f p = made c.block_of.result _ _ _ _ _ _ _ c.block_of.ensures.node (at_passed _ _ _ _ _ f p) (then_both _ _ _ _ _ _ _ _ _ (p _) c.in_ok-items.ensures.stands)
