@@ -1,3 +1,4 @@
+pub mod Chunks
 pub mod DeclarationPlaces
 pub mod Equations
 pub mod FunctionForms
@@ -5,11 +6,10 @@ pub mod Gathering
 pub mod InitialSteps
 pub mod ListSteps
 pub mod Lists
-pub mod Typedefs
+pub mod PartStands
+pub mod StatementStanding
+pub mod StatementSteps
 pub mod TaggedPlaces
 pub mod TaggedSteps
 pub mod TypedOnce
-pub mod StatementStanding
-pub mod StatementSteps
-pub mod Chunks
-pub mod PartStands
+pub mod Typedefs

@@ -261,7 +261,7 @@ fn all_may_stand(trees: &Trees, around: Around, labels: &Labels) -> bool
 }
 
 /// Whether all labels in a function's body differ, and each jump and each label of a `switch` stands where it may.
-pub fn is_controlled(alloc: Global, body: &Tree) -> Result<bool, AllocError>
+pub(crate) fn is_controlled(alloc: Global, body: &Tree) -> Result<bool, AllocError>
     ensures { IfOk result (λ controlled. controlled ≡ is_controlled (view body.now)) }
 {
     let mut labels = Labels::new(alloc);

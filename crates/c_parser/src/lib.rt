@@ -25,6 +25,5 @@ mod tagged;
 mod tagged_nodes;
 mod units;
 
-pub use control::is_controlled;
 pub use fault::ParseFault;
 pub use units::read_unit;
