@@ -64,26 +64,62 @@ static UNITS: [(&str, u32, u32); 86] = [
     ("void f() { }", 0, 0),
     ("void f(void) { ; }", 0, 0),
     ("void f(void) { { int x; x = 1; } }", 0, 0),
-    ("void f(int x) { if (x) ; else if (x) x = 1; else { } }", 0, 0),
+    (
+        "void f(int x) { if (x) ; else if (x) x = 1; else { } }",
+        0,
+        0,
+    ),
     ("void f(int x) { while (x) x--; do x++; while (x); }", 0, 0),
-    ("void f(int x) { for (;;) break; for (x = 0; x < 3; x++) continue; }", 0, 0),
+    (
+        "void f(int x) { for (;;) break; for (x = 0; x < 3; x++) continue; }",
+        0,
+        0,
+    ),
     ("void f(int x) { switch (x) case 1: ; }", 0, 0),
-    ("void f(int x) { switch (x) { case 1: case 2: break; default: x = 1; } }", 0, 0),
-    ("void f(int x) { switch (x) { default: switch (x) { default: ; } } }", 0, 0),
+    (
+        "void f(int x) { switch (x) { case 1: case 2: break; default: x = 1; } }",
+        0,
+        0,
+    ),
+    (
+        "void f(int x) { switch (x) { default: switch (x) { default: ; } } }",
+        0,
+        0,
+    ),
     ("void f(void) { a: goto b; b: goto a; }", 0, 0),
     ("typedef int T; void f(void) { T: goto T; }", 0, 0),
     ("typedef int T; void f(void) { T *x; }", 0, 0),
     ("typedef int T; void f(int T) { T * 1; }", 0, 0),
     ("typedef int T; void f(void) { int T; T = 1; }", 0, 0),
-    ("typedef int T; void f(void) { { int T; T = 1; } T x; }", 1, 16),
-    ("typedef int T; void f(void) { { int T; T = 1; } { T x; } }", 0, 0),
+    (
+        "typedef int T; void f(void) { { int T; T = 1; } T x; }",
+        1,
+        16,
+    ),
+    (
+        "typedef int T; void f(void) { { int T; T = 1; } { T x; } }",
+        0,
+        0,
+    ),
     ("typedef int T; void f(int T) { } T x;", 0, 0),
     ("void f(void) { typedef int T; T x; }", 0, 0),
     ("void f(void) { enum { A }; A; }", 0, 0),
-    ("__extension__ typedef int T; T f(T x) __attribute__((const)); T f(T x) { __asm__ volatile (\"nop\"); return x; }", 0, 0),
-    ("extern __inline__ int f(__const char *__restrict x); __signed__ char y;", 0, 0),
+    (
+        "__extension__ typedef int T; T f(T x) __attribute__((const)); T f(T x) { __asm__ volatile (\"nop\"); return x; }",
+        0,
+        0,
+    ),
+    (
+        "extern __inline__ int f(__const char *__restrict x); __signed__ char y;",
+        0,
+        0,
+    ),
     ("# 7 \"b.h\"\nint x;\nint int;", 8, 1),
-    ("int f(void);\n\nvoid g(void){ f() }\nvoid h(void){ g() }", 3, 1),
+    (
+        "int f(void);\n\nvoid g(void){ f() }\nvoid h(void){ g() }",
+        3,
+        1,
+    ),
     ("void f(void){ goto a; }", 1, 1),
     ("int x", 1, 1),
     ("int x; int y", 1, 8),
@@ -117,7 +153,11 @@ static UNITS: [(&str, u32, u32); 86] = [
     ("void f(int x) { switch (x) continue; }", 1, 1),
     ("void f(void) { case 1: ; }", 1, 1),
     ("void f(void) { default: ; }", 1, 1),
-    ("void f(int x) { switch (x) { default: ; default: ; } }", 1, 1),
+    (
+        "void f(int x) { switch (x) { default: ; default: ; } }",
+        1,
+        1,
+    ),
     ("void f(void) { a: ; a: ; }", 1, 1),
     ("void f(void) { a: }", 1, 1),
     ("void f(void) { else ; }", 1, 1),
@@ -165,12 +205,21 @@ fn what_is(tree: &Tree) -> First {
         Kind::Statement(Statement::ExprStmt { value: Some(value) }) => match &value.kind {
             Kind::Operation(Operation::Call { .. }) => First::Call,
             Kind::Operation(Operation::Cast { .. }) => First::Cast,
-            Kind::Operation(Operation::Binary { op: BinaryOp::Multiply, .. }) => First::Product,
+            Kind::Operation(
+                Operation::Binary {
+                    op: BinaryOp::Multiply,
+                    ..
+                },
+            ) => First::Product,
             _ => First::Other,
         },
-        Kind::Statement(Statement::If { then, otherwise: None, .. }) if has_else(then) => {
-            First::InnerElse
-        }
+        Kind::Statement(
+            Statement::If {
+                then,
+                otherwise: None,
+                ..
+            },
+        ) if has_else(then) => { First::InnerElse }
         _ => First::Other,
     }
 }
@@ -203,7 +252,10 @@ fn first_in_last(alloc: Global, text: &[u8]) -> Result<First, LexFault> {
 
 /// Functions, with what stands first in the body of the last.
 static BODIES: [(&str, First); 10] = [
-    ("typedef char *T;\nvoid g(int (*T)(char *), char *x){ (T)(x); }", First::Call),
+    (
+        "typedef char *T;\nvoid g(int (*T)(char *), char *x){ (T)(x); }",
+        First::Call,
+    ),
     ("typedef char *T;\nvoid h(char *x){ (T)(x); }", First::Cast),
     (
         "typedef char *T;\nvoid g(int (*T)(char *), char *x){ (T)(x); }\nvoid h(char *x){ (T)(x); }",
@@ -212,9 +264,18 @@ static BODIES: [(&str, First); 10] = [
     ("void f(int x){ if (x) if (x) ; else ; }", First::InnerElse),
     ("typedef int T; void f(void) { T * x; }", First::Declaration),
     ("int T; void f(int x) { T * x; }", First::Product),
-    ("typedef int T; void f(int T, int x) { T * x; }", First::Product),
-    ("typedef int T; void f(int T) { } void g(void) { T * x; }", First::Declaration),
-    ("typedef int T; enum { T }; void f(int x) { T * x; }", First::Product),
+    (
+        "typedef int T; void f(int T, int x) { T * x; }",
+        First::Product,
+    ),
+    (
+        "typedef int T; void f(int T) { } void g(void) { T * x; }",
+        First::Declaration,
+    ),
+    (
+        "typedef int T; enum { T }; void f(int x) { T * x; }",
+        First::Product,
+    ),
     ("typedef int T; void f(int x) { (T)(x); }", First::Cast),
 ];
 
