@@ -143,6 +143,7 @@ fn read_by_keyword<'a>(
 }
 
 /// A block, or an expression as a statement.
+#[cycle(statements)]
 fn read_block_or_expression<'a>(
     arena: &'a Arena,
     tokens: &'a [Token],
@@ -164,6 +165,7 @@ fn read_block_or_expression<'a>(
 }
 
 /// A statement of height at most `room`, by its first token.
+#[cycle(statements)]
 fn read_statement<'a>(
     arena: &'a Arena,
     tokens: &'a [Token],

@@ -1,7 +1,7 @@
-use Rattle.c_parser.proofs.StatementStanding.{passes-as, then_three, at_kept}
+use Rattle.std.proofs.Common.{refl, arith, ◌-◌, ◌<◌, ◌∙◌, sym}
+use Rattle.c_expr.proofs.Standing.{front-kept, front-reserved, made, at_passed, then_both, row-next, row-start}
+use Rattle.c_parser.proofs.StatementStanding.{passed-symbols, passes-as, then_three, at_kept}
 use Rattle.c_places.specs.Stands.{OfNothing, OfBoth}
-use Rattle.c_expr.proofs.Standing.{made, at_passed, then_both, row-next, row-start}
-use Rattle.std.proofs.Common.{◌-◌, ◌<◌, refl, ◌∙◌, sym, arith}
 use Rattle.c_tree.specs.Symbol.{symbols_of}
 use Rattle.unit_grammar.specs.StatementSteps.{read_block_items}
 use Rattle.unit_grammar.specs.Reading.{read}
@@ -10,6 +10,24 @@ use Rattle.c_expr.proofs.StandingParts.{row-done, ending-start, height-start}
 use Rattle.c_parser.proofs.ListSteps.{block_items-next}
 use Rattle.c_parser.proofs.StatementSteps.{statements-on, statements-start}
 use Rattle.c_parser.proofs.+statements.Goals as goal
+
+pub statements::read_statement-returns-in-Some-clause-stands : goal.statements::read_statement-returns-in-Some-clause-stands
+statements::read_statement-returns-in-Some-clause-stands t c =
+    let some = c.in-len1-up.len_at_least in
+    c.read_label.ensures.stands c.args.tokens.now _ (front-kept c.args.tokens.now _ (omega (arith, some))) c.in-Some.ensures.passes
+
+pub statements::read_statement-read_by_keyword-requires-clause-passes : goal.statements::read_statement-read_by_keyword-requires-clause-passes
+statements::read_statement-read_by_keyword-requires-clause-passes t c =
+    let some = c.in-len1-up.len_at_least in
+    front-reserved c.args.tokens.now _ _ _ (omega (arith, some)) c.in-Keyword.is refl
+
+pub statements::read_statement-read_by_keyword-requires-clause-front : goal.statements::read_statement-read_by_keyword-requires-clause-front
+statements::read_statement-read_by_keyword-requires-clause-front t c =
+    let some = c.in-len1-up.len_at_least in
+    passed-symbols _ c.args.tokens.now _ (front-reserved c.args.tokens.now _ _ _ (omega (arith, some)) c.in-Keyword.is refl)
+
+pub statements::read_block_or_expression-returns-in-Some-clause-stands : goal.statements::read_block_or_expression-returns-in-Some-clause-stands
+statements::read_block_or_expression-returns-in-Some-clause-stands t c = c.read_block_rest.ensures.stands c.args.tokens.now c.place_of.ensures c.in-Some.ensures.passes
 
 pub statements::read_by_keyword-returns-in-If-clause-stands : goal.statements::read_by_keyword-returns-in-If-clause-stands
 statements::read_by_keyword-returns-in-If-clause-stands t c = c.read_if.ensures.stands c.args.tokens.now c.place_of-first.ensures (passes-as _ _ _ _ c.in-If.is c.requires.passes)

@@ -11,10 +11,16 @@ use Rattle.c_expr.specs.Gives.{ending_with}
 use Rattle.c_parser.proofs.+statements.Given as goal
 
 abbrev pub decreases-statements::statement_in_front : goal.decreases-statements::statement_in_front
-decreases-statements::statement_in_front l = l.room * 16 + 10
+decreases-statements::statement_in_front l = l.room * 16 + 12
+
+abbrev pub decreases-statements::read_statement : goal.decreases-statements::read_statement
+decreases-statements::read_statement l = l.room * 16 + 11
+
+abbrev pub decreases-statements::read_block_or_expression : goal.decreases-statements::read_block_or_expression
+decreases-statements::read_block_or_expression l = l.room * 16 + 10
 
 abbrev pub decreases-statements::read_by_keyword : goal.decreases-statements::read_by_keyword
-decreases-statements::read_by_keyword l = l.room * 16 + 9
+decreases-statements::read_by_keyword l = l.room * 16 + 10
 
 abbrev pub decreases-selections::read_if : goal.decreases-selections::read_if
 decreases-selections::read_if l = l.room * 16 + 8
