@@ -50,7 +50,7 @@ static ROWS: [(&str, &str, u32); 8] = [
     ("", " + x", 999),
     ("x = ", "", 999),
     ("x ? x : ", "", 999),
-    ("__builtin_offsetof(struct s, a[", "])", 999),
+    ("__builtin_offsetof(struct s, a[", "])", 997),
 ];
 
 #[test]
