@@ -1,4 +1,5 @@
 use Rattle.std.proofs.Common.{refl, arith, ◌-◌, ◌<◌, ◌∙◌, sym}
+use Rattle.std.proofs.lemmas.Grind.{common_steps}
 use Rattle.c_expr.proofs.Standing.{front-kept, front-reserved, made, at_passed, then_both, row-next, row-start}
 use Rattle.c_parser.proofs.StatementStanding.{passed-symbols, passes-as, then_three, at_kept}
 use Rattle.c_places.specs.Stands.{OfNothing, OfBoth}
@@ -16,15 +17,16 @@ statements::read_statement-returns-in-Some-clause-stands t c =
     let some = c.in-len1-up.len_at_least in
     c.read_label.ensures.stands c.args.tokens.now _ (front-kept c.args.tokens.now _ (omega (arith, some))) c.in-Some.ensures.passes
 
-pub statements::read_statement-read_by_keyword-requires-clause-passes : goal.statements::read_statement-read_by_keyword-requires-clause-passes
-statements::read_statement-read_by_keyword-requires-clause-passes t c =
+pub statements::read_statement-read_by_keyword-requires : goal.statements::read_statement-read_by_keyword-requires
+statements::read_statement-read_by_keyword-requires t c =
     let some = c.in-len1-up.len_at_least in
-    front-reserved c.args.tokens.now _ _ _ (omega (arith, some)) c.in-Keyword.is refl
-
-pub statements::read_statement-read_by_keyword-requires-clause-front : goal.statements::read_statement-read_by_keyword-requires-clause-front
-statements::read_statement-read_by_keyword-requires-clause-front t c =
-    let some = c.in-len1-up.len_at_least in
-    passed-symbols _ c.args.tokens.now _ (front-reserved c.args.tokens.now _ _ _ (omega (arith, some)) c.in-Keyword.is refl)
+    (grind (arith, common_steps), record {
+      positive = c.requires.positive;
+      front = passed-symbols _ c.args.tokens.now _ (front-reserved c.args.tokens.now _ _ _ (omega (arith, some)) c.in-Keyword.is refl);
+      passes = front-reserved c.args.tokens.now _ _ _ (omega (arith, some)) c.in-Keyword.is refl;
+      shorter = grind (arith, common_steps, some);
+      ids = c.requires.ids;
+    })
 
 pub statements::read_block_or_expression-returns-in-Some-clause-stands : goal.statements::read_block_or_expression-returns-in-Some-clause-stands
 statements::read_block_or_expression-returns-in-Some-clause-stands t c = c.read_block_rest.ensures.stands c.args.tokens.now c.place_of.ensures c.in-Some.ensures.passes
