@@ -19,9 +19,16 @@ statements::read_statement-returns-in-Some-clause-stands t c =
 
 pub statements::read_statement-read_by_keyword-requires : goal.statements::read_statement-read_by_keyword-requires
 statements::read_statement-read_by_keyword-requires t c =
-    let some = c.in-len1-up.len_at_least in
-    (grind (arith, common_steps), (c.requires.positive, (passed-symbols _ c.args.tokens.now _ (front-reserved c.args.tokens.now _ _ _ (omega (arith, some)) c.in-Keyword.is refl),
-      (front-reserved c.args.tokens.now _ _ _ (omega (arith, some)) c.in-Keyword.is refl, (grind (arith, common_steps, some), c.requires.ids)))))
+    let some = c.in-len1-up.len_at_least in (
+      grind (arith, common_steps),
+      (
+        c.requires.positive,
+        (
+          passed-symbols _ c.args.tokens.now _ (front-reserved c.args.tokens.now _ _ _ (omega (arith, some)) c.in-Keyword.is refl),
+          (front-reserved c.args.tokens.now _ _ _ (omega (arith, some)) c.in-Keyword.is refl, (grind (arith, common_steps, some), c.requires.ids)),
+        ),
+      ),
+    )
 
 pub statements::read_block_or_expression-returns-in-Some-clause-stands : goal.statements::read_block_or_expression-returns-in-Some-clause-stands
 statements::read_block_or_expression-returns-in-Some-clause-stands t c = c.read_block_rest.ensures.stands c.args.tokens.now c.place_of.ensures c.in-Some.ensures.passes
