@@ -1,9 +1,10 @@
 //! Translation units of C that are known, and where they are refused (ISO 9899:1990, 6.5 to 6.7).
 
 use bumpalo::Bump;
-use c_lexer::{LexFault, Mode, lex, strip};
+use c_lexer::{LexFault, Mode, Tokens, lex, strip};
 use c_parser::{ParseFault, read_unit};
-use c_tree::{BinaryOp, Kind, Operation, Outer, Statement, Tree};
+use c_tree::{Arena, BinaryOp, Kind, Operation, Outer, Statement, Tree};
+use c_unit::Unit;
 use mx_base::Names;
 use std::alloc::Global;
 use std::process::Abort;
@@ -16,15 +17,33 @@ enum Answer {
     Refused(u32, u32),
 }
 
+/// The tokens of a short text, as a parser takes them; a long one is too much for these tests.
+fn tokens_of(alloc: Global, text: &[u8], names: &mut Names) -> Result<Tokens, LexFault> {
+    if text.len() > 10000 || names.len() > 100000 {
+        return Err(LexFault::NoMemory);
+    }
+    let tokens = lex(alloc, text, Mode::C, 0, b"a.c", names)?;
+    Ok(strip(alloc, &tokens)?)
+}
+
+/// The unit that these tokens are.
+fn unit_of<'a>(
+    arena: &'a Arena,
+    alloc: Global,
+    tokens: &'a Tokens,
+) -> Result<Unit<'a>, ParseFault> {
+    if tokens.all().len() > 10000 {
+        return Err(ParseFault::NoMemory);
+    }
+    read_unit(arena, alloc, tokens)
+}
+
 /// What is said of a text.
 fn answer_to(alloc: Global, text: &[u8]) -> Result<Answer, LexFault> {
     let arena = Bump::new(alloc);
     let mut names = Names::new(alloc);
-    if text.len() > 10000 || names.len() > 100000 {
-        return Err(LexFault::NoMemory);
-    }
-    let tokens = strip(alloc, &lex(alloc, text, Mode::C, 0, b"a.c", &mut names)?)?;
-    match read_unit(&arena, alloc, &tokens) {
+    let tokens = tokens_of(alloc, text, &mut names)?;
+    match unit_of(&arena, alloc, &tokens) {
         Ok(_) => Ok(Answer::Read),
         Err(ParseFault::Syntax(place)) => {
             let (_, line, column) = tokens.line_of(place);
@@ -228,11 +247,8 @@ fn what_is(tree: &Tree) -> First {
 fn first_in_last(alloc: Global, text: &[u8]) -> Result<First, LexFault> {
     let arena = Bump::new(alloc);
     let mut names = Names::new(alloc);
-    if text.len() > 10000 || names.len() > 100000 {
-        return Err(LexFault::NoMemory);
-    }
-    let tokens = strip(alloc, &lex(alloc, text, Mode::C, 0, b"a.c", &mut names)?)?;
-    let Ok(unit) = read_unit(&arena, alloc, &tokens) else {
+    let tokens = tokens_of(alloc, text, &mut names)?;
+    let Ok(unit) = unit_of(&arena, alloc, &tokens) else {
         return Ok(First::Other);
     };
     let Some(last) = unit.chunks.all.last() else {
