@@ -47,10 +47,10 @@ specifiers::read_items-loop-front-preserved t c =
     let highest = height_pushed c.loop-front.all.items c.push.new.self.items item.tree c.in_ok-push.ensures.items in
     let counted = count_pushed c.loop-front.all.items c.push.new.self.items item.tree c.in_ok-push.ensures.items in
     record {
-      found = once-next (read (c.args.room - 1) TaggedType) c.args.names.now.now c.loop-front.names.now c.loop-front.fuel c.loop-front.typed c.types-typed.result (symbols_of c.loop-front.rest.now) (symbol_of c.in-Some.front.now) (symbols_of c.in-Some.behind.now) (symbols_of item.rest.now) c.loop-front.all.items c.push.new.self.items item.tree _ positive c.loop-front.invariant.plain (sym c.in-Some.ensures.found) (sym c.begins_second.ensures ∙ c.if-begins_second.false) c.in_ok-item.ensures.found.0 c.types-typed.ensures c.in_ok-push.ensures.items c.loop-front.invariant.found;
+      found = once-next (read (c.args.room - 1) TaggedType) c.args.names.now.now c.loop-front.names.now c.loop-front.fuel c.loop-front.typed c.says_type-typed.result (symbols_of c.loop-front.rest.now) (symbol_of c.in-Some.front.now) (symbols_of c.in-Some.behind.now) (symbols_of item.rest.now) c.loop-front.all.items c.push.new.self.items item.tree _ positive c.loop-front.invariant.plain (sym c.in-Some.ensures.found) (sym c.begins_second.ensures ∙ c.if-begins_second.false) c.in_ok-item.ensures.found.0 c.says_type-typed.ensures c.in_ok-push.ensures.items c.loop-front.invariant.found;
       height = omega (arith, c.in_ok-item.ensures.found.1, highest);
       now = declared-next c.loop-front.all.items c.push.new.self.items item.tree c.args.names.now.now c.loop-front.names.now c.read_item.new.names.now c.in_ok-push.ensures.items c.loop-front.invariant.now c.in_ok-item.ensures.now;
-      plain = plain-next (c.args.room - 1) c.loop-front.typed c.types-typed.result c.args.names.now.now c.loop-front.names.now c.read_item.new.names.now (symbol_of c.in-Some.front.now) (symbols_of c.in-Some.behind.now) (view item.tree) (symbols_of item.rest.now) c.loop-front.invariant.plain c.in_ok-item.ensures.found.0 c.types-typed.ensures c.in_ok-item.ensures.now;
+      plain = plain-next (c.args.room - 1) c.loop-front.typed c.says_type-typed.result c.args.names.now.now c.loop-front.names.now c.read_item.new.names.now (symbol_of c.in-Some.front.now) (symbols_of c.in-Some.behind.now) (view item.tree) (symbols_of item.rest.now) c.loop-front.invariant.plain c.in_ok-item.ensures.found.0 c.says_type-typed.ensures c.in_ok-item.ensures.now;
       saved = c.in_ok-item.ensures.saved ∙ c.loop-front.invariant.saved;
       stands = row-next _ _ item.tree _ _ _ _ _ _ c.in_ok-push.ensures.items c.loop-front.invariant.stands c.in_ok-item.ensures.stands;
       rises = omega arith;
