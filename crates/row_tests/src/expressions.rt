@@ -8,21 +8,8 @@ use mx_base::Names;
 use std::alloc::{AllocError, Global};
 use std::process::Abort;
 use std::test::Fail;
-use tree_copies::copy_tree;
-use tree_equality::same_tree;
 
-/// How two texts are read. `T` is the name of a type, and no other name is.
-#[derive(Clone, Copy, Debug, PartialEq, Eq)]
-enum Answer {
-    /// As the same tree, parentheses aside.
-    Same,
-    /// As two trees.
-    Other,
-    /// At least one of them isn't read.
-    Refused,
-}
-
-/// What a text is read as.
+/// What a text is read as. `T` is the name of a type in it, and no other name is.
 #[derive(Clone, Copy, PartialEq, Eq)]
 enum Phrase {
     Expression,
@@ -57,28 +44,6 @@ fn tree_of<'a>(
     }
 }
 
-/// How two texts are read as expressions.
-fn how_they_are_read(alloc: Global, text: &[u8], other: &[u8]) -> Result<Answer, LexFault> {
-    let arena = Bump::new(alloc);
-    let mut names = Names::new(alloc);
-    let type_name = names.intern(b"T")?;
-    let tokens = tokens_of(alloc, text, &mut names)?;
-    let others = tokens_of(alloc, other, &mut names)?;
-    let mut types = TypeNames::new(alloc);
-    types.declare(type_name, true)?;
-    let Ok(tree) = tree_of(&arena, Phrase::Expression, &tokens, &mut types) else {
-        return Ok(Answer::Refused);
-    };
-    let Ok(tree_of_other) = tree_of(&arena, Phrase::Expression, &others, &mut types) else {
-        return Ok(Answer::Refused);
-    };
-    Ok(if same_tree(tree, tree_of_other) {
-        Answer::Same
-    } else {
-        Answer::Other
-    })
-}
-
 /// Whether the text is read as this phrase.
 fn is_read(alloc: Global, phrase: Phrase, text: &[u8]) -> Result<bool, LexFault> {
     let arena = Bump::new(alloc);
@@ -92,80 +57,6 @@ fn is_read(alloc: Global, phrase: Phrase, text: &[u8]) -> Result<bool, LexFault>
         Err(_) => Ok(false),
     }
 }
-
-/// Texts that are read alike, parentheses aside.
-static ALIKE: [(&str, &str); 52] = [
-    ("a->b.c[d](e)++", "((((a->b).c)[d])(e))++"),
-    ("f(a, b)(c)", "(f(a, b))(c)"),
-    ("-a++", "-(a++)"),
-    ("*p++", "*(p++)"),
-    ("++a.b", "++(a.b)"),
-    ("sizeof a[b]", "sizeof (a[b])"),
-    ("&a->b[c]", "&((a->b)[c])"),
-    ("(T)a++", "(T)(a++)"),
-    ("(T)-a", "(T)(-a)"),
-    ("(T)a * b", "((T)a) * b"),
-    ("-a * b", "(-a) * b"),
-    ("!a == b", "(!a) == b"),
-    ("~a + b", "(~a) + b"),
-    ("*a - *b", "(*a) - (*b)"),
-    ("a * b + c", "(a * b) + c"),
-    ("a + b * c", "a + (b * c)"),
-    ("a + b << c", "(a + b) << c"),
-    ("a << b + c", "a << (b + c)"),
-    ("a << b < c", "(a << b) < c"),
-    ("a < b == c", "(a < b) == c"),
-    ("a == b & c", "(a == b) & c"),
-    ("a & b ^ c", "(a & b) ^ c"),
-    ("a ^ b | c", "(a ^ b) | c"),
-    ("a | b && c", "(a | b) && c"),
-    ("a && b || c", "(a && b) || c"),
-    ("a || b && c", "a || (b && c)"),
-    ("a || b ? c : d", "(a || b) ? c : d"),
-    ("a = b ? c : d", "a = (b ? c : d)"),
-    ("a, b = c", "a, (b = c)"),
-    ("a ? b, c : d", "a ? (b, c) : d"),
-    ("a ? b = c : d", "a ? (b = c) : d"),
-    ("a - b - c", "(a - b) - c"),
-    ("a / b * c % d", "((a / b) * c) % d"),
-    ("a << b >> c", "(a << b) >> c"),
-    ("a < b >= c", "(a < b) >= c"),
-    ("a == b != c", "(a == b) != c"),
-    ("a & b & c", "(a & b) & c"),
-    ("a && b && c", "(a && b) && c"),
-    ("a, b, c", "(a, b), c"),
-    ("a = b = c", "a = (b = c)"),
-    ("a += b <<= c", "a += (b <<= c)"),
-    ("a ? b : c ? d : e", "a ? b : (c ? d : e)"),
-    ("- - a", "-(-a)"),
-    ("!~a", "!(~a)"),
-    ("(T)(x)", "(T)x"),
-    ("(x)(y)", "x(y)"),
-    ("sizeof (T)*x", "(sizeof (T)) * x"),
-    ("sizeof (x)*y", "(sizeof x) * y"),
-    ("(T)(x)(y)", "(T)(x(y))"),
-    ("(T *)x", "((T *)(x))"),
-    ("(*a) = b", "*a = b"),
-    ("\"a\" \"b\" + c", "(\"a\" \"b\") + c"),
-];
-
-/// Texts that are read as different trees.
-static DIFFERENT: [(&str, &str); 14] = [
-    ("(a = b) = c", "a = b = c"),
-    ("(a ? b : c) ? d : e", "a ? b : c ? d : e"),
-    ("(*p)++", "*p++"),
-    ("a - (b - c)", "a - b - c"),
-    ("(a + b) * c", "a + b * c"),
-    ("sizeof ((T)*x)", "sizeof (T)*x"),
-    ("(T)(x)", "(y)(x)"),
-    ("a < b", "a <= b"),
-    ("a = b", "a += b"),
-    ("a.b", "a->b"),
-    ("a++", "++a"),
-    ("-a", "+a"),
-    ("a[b]", "b[a]"),
-    ("f(a, b)", "f((a, b))"),
-];
 
 /// Expressions.
 static EXPRESSIONS: [&str; 17] = [
@@ -365,26 +256,6 @@ static OF_PARAMETERS: [&str; 11] = [
 /// What is no declarator of a parameter.
 static NOT_OF_PARAMETERS: [&str; 5] = ["", "(x", "3", "x y", "(T, x"];
 
-/// Whether the two texts of each row are read so.
-fn compare(
-    rt: &impl Abort,
-    alloc: Global,
-    rows: &[(&str, &str)],
-    wanted: Answer,
-) -> Result<(), Fail> {
-    for (text, other) in rows {
-        let seen = how_they_are_read(alloc, text.as_bytes(), other.as_bytes())?;
-        assert_eq!(rt; seen, wanted, "{text}");
-    }
-    Ok(())
-}
-
-#[test]
-fn operators_bind_as_the_standard_says(rt: HostRuntime) -> Result<(), Fail> {
-    compare(&rt, rt.alloc(), &ALIKE, Answer::Same)?;
-    compare(&rt, rt.alloc(), &DIFFERENT, Answer::Other)
-}
-
 /// Whether each of these texts is read as this phrase, or none is.
 fn expect(
     rt: &impl Abort,
@@ -480,18 +351,5 @@ fn long_expressions_are_read(rt: HostRuntime) -> Result<(), Fail> {
     append(&mut text, b" + x", 1000)?;
     let seen = is_read(rt.alloc(), Phrase::Expression, &text)?;
     assert!(rt; !seen, "a tree higher than 1000");
-    Ok(())
-}
-
-#[test]
-fn a_tree_that_was_read_is_copied(rt: HostRuntime) -> Result<(), Fail> {
-    let mut names = Names::new(rt.alloc());
-    let tokens = tokens_of(rt.alloc(), b"a + b * c", &mut names)?;
-    let arena = Bump::new(rt.alloc());
-    let mut types = TypeNames::new(rt.alloc());
-    let sum = tree_of(&arena, Phrase::Expression, &tokens, &mut types)?;
-    let other_arena = Bump::new(rt.alloc());
-    let copy = copy_tree(&other_arena, sum)?;
-    assert!(rt; same_tree(sum, copy));
     Ok(())
 }
