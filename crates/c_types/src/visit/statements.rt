@@ -1,0 +1,87 @@
+//! The visit of statements (ISO 9899:1990, 6.6.1 to 6.6.4).
+
+ghost use Rattle.std.specs.Prelude.{◌≡◌, IfOk};
+ghost use Rattle.c_tree.specs.declared.place.Place.{Place};
+ghost use Rattle.c_tree.specs.Node as nodes;
+ghost use Rattle.c_tree.specs.Views.{statement_shape};
+ghost use Rattle.c_typing.specs.Moves.{closed, opened_block};
+ghost use Rattle.c_typing.specs.ScopesByCase.{within_statement};
+ghost use Rattle.c_typing.specs.TablesByCase.{filled_statement};
+ghost use Rattle.c_typing.specs.TypesByCase.{typed_statement};
+ghost use Rattle.typed_unit.specs.Tables.{table_of};
+ghost use Rattle.c_types.specs.Faults.{Gives};
+ghost use Rattle.c_types.specs.Roles.{role_of};
+ghost use Rattle.c_types.specs.Scopes.{IsMark, scopes_of};
+
+use super::{type_each, type_maybe, type_tree};
+use crate::faults::TypeFault;
+use crate::roles::Role;
+use crate::scopes::{Mark, Scopes};
+use c_tree::{Arena, Statement};
+use c_typing::scopes_stay;
+use c_unit::Ty;
+use std::alloc::AllocError;
+use typed_unit::Table;
+
+/// Begins the scope of a block. In the body of a function its parameters are in force.
+fn enter_block<'a>(scopes: &mut Scopes<'a>, role: Role<'a>) -> Result<Mark, AllocError>
+    ensures mark { IfOk result (λ mark. IsMark mark (scopes_of scopes.old)) }
+    ensures scopes { IfOk result (λ _. scopes_of scopes.new ≡ opened_block (scopes_of scopes.old) (role_of role.entry)) }
+{
+    match role {
+        Role::Body => scopes.enter_body(),
+        _ => scopes.enter(),
+    }
+}
+
+/// Types a statement. What a block declares is in force in that block alone.
+#[cycle(typing)]
+pub(crate) fn type_statement<'a>(
+    arena: &'a Arena,
+    scopes: &mut Scopes<'a>,
+    role: Role<'a>,
+    kind: &Statement<'a>,
+    table: &mut Table<'a>,
+) -> Result<Ty<'a>, TypeFault>
+    ensures gives { (p : Place) → Gives result (typed_statement (scopes_of scopes.old) (role_of role.entry) p (statement_shape kind.now)) }
+    ensures scopes { IfOk result (λ _. scopes_of scopes.new ≡ closed (scopes_of scopes.old) (role_of role.entry) (nodes.Statement (statement_shape kind.now)) (within_statement (scopes_of scopes.old) (role_of role.entry) (statement_shape kind.now))) }
+    ensures table { IfOk result (λ _. table_of table.new ≡ filled_statement (scopes_of scopes.old) (role_of role.entry) (statement_shape kind.now) (table_of table.old)) }
+{
+    match kind {
+        Statement::Block { items } => {
+            scopes_stay();
+            let mark = enter_block(scopes, role)?;
+            type_each(arena, scopes, Role::Plain, items, table)?;
+            scopes.leave(mark);
+            Ok(Ty::Void)
+        }
+        Statement::ExprStmt { value } => {
+            type_maybe(arena, scopes, Role::Plain, *value, table)?;
+            Ok(Ty::Void)
+        }
+        Statement::If {
+            condition,
+            then,
+            otherwise,
+        } => {
+            type_tree(arena, scopes, Role::Plain, condition, table)?;
+            type_tree(arena, scopes, Role::Plain, then, table)?;
+            type_maybe(arena, scopes, Role::Plain, *otherwise, table)?;
+            Ok(Ty::Void)
+        }
+        Statement::Switch { value, body } => {
+            type_tree(arena, scopes, Role::Plain, value, table)?;
+            type_tree(arena, scopes, Role::Plain, body, table)?;
+            Ok(Ty::Void)
+        }
+        Statement::Case { value, body } => {
+            type_tree(arena, scopes, Role::Plain, value, table)?;
+            type_tree(arena, scopes, Role::Plain, body, table)?;
+            Ok(Ty::Void)
+        }
+        Statement::Default { body } | Statement::Label { body, .. } => {
+            type_tree(arena, scopes, Role::Plain, body, table)?;
+            Ok(Ty::Void)
+        }
+    }
+}
