@@ -25,7 +25,7 @@ left_formals mark v w m names tags =
     rw (ns, ts, m.depth, m.names, m.tags) refl
 
 begins-trans : {A : Type 0} (xs ys zs : List A) → Begins xs ys → Begins ys zs → Begins xs zs
-begins-trans xs ys zs h k = (h.0 ++ k.0, k.1 ∙ ap (λ (ws : List A). ws ++ k.0) h.1 ∙ append_assoc xs h.0 k.0)
+begins-trans {A = A} xs ys zs h k = (h.0 ++ k.0, k.1 ∙ ap (λ (ws : List A). ws ++ k.0) h.1 ∙ append_assoc xs h.0 k.0)
 
 stays-trans : (u v w : Scopes) → Stays u v → Stays v w → Stays u w
 stays-trans u v w h k = record {

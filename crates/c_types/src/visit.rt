@@ -4,7 +4,7 @@
 
 ghost use Rattle.std.specs.Prelude.{◌≡◌, Ok, IfOk};
 ghost use Rattle.c_tree.specs.Views.{node_of, nodes_of, option_node};
-ghost use Rattle.c_typing.specs.Options.{◌>>=◌};
+ghost use Rattle.c_typing.specs.Options.{◌>>=◌ as and_then};
 ghost use Rattle.c_typing.specs.Roles.{Plain};
 ghost use Rattle.c_typing.specs.ScopesByCase.{scoped, scoped_maybe, scoped_each, scoped_beside};
 ghost use Rattle.c_typing.specs.TablesByCase.{filled, filled_maybe, filled_each, filled_beside};
@@ -121,7 +121,7 @@ fn type_both<'a>(
     second: &Tree<'a>,
     table: &mut Table<'a>,
 ) -> Result<Ty<'a>, TypeFault>
-    ensures gives { let v = scopes_of scopes.old in Gives result (typed v Plain (node_of first.now) >>= λ _. typed (scoped v Plain (node_of first.now)) Plain (node_of second.now) >>= λ _. Ok Void) }
+    ensures gives { let v = scopes_of scopes.old in Gives result (and_then (typed v Plain (node_of first.now)) (λ _. and_then (typed (scoped v Plain (node_of first.now)) Plain (node_of second.now)) (λ _. Ok Void))) }
     ensures scopes { IfOk result (λ _. let v = scopes_of scopes.old in scopes_of scopes.new ≡ scoped (scoped v Plain (node_of first.now)) Plain (node_of second.now)) }
     ensures table { IfOk result (λ _. let v = scopes_of scopes.old in table_of table.new ≡ filled (scoped v Plain (node_of first.now)) Plain (node_of second.now) (filled v Plain (node_of first.now) (table_of table.old))) }
 {

@@ -5,7 +5,7 @@ ghost use Rattle.c_tree.specs.declared.place.Place.{Place};
 ghost use Rattle.c_tree.specs.Node as nodes;
 ghost use Rattle.c_tree.specs.Views.{iteration_shape, node_of, option_node};
 ghost use Rattle.c_typing.specs.Moves.{closed};
-ghost use Rattle.c_typing.specs.Options.{◌>>=◌};
+ghost use Rattle.c_typing.specs.Options.{◌>>=◌ as and_then};
 ghost use Rattle.c_typing.specs.Roles.{Plain};
 ghost use Rattle.c_typing.specs.Scopes.{deeper, leave};
 ghost use Rattle.c_typing.specs.ScopesByCase.{scoped, scoped_maybe, within_iteration};
@@ -68,7 +68,7 @@ fn type_for<'a>(
     body: &Tree<'a>,
     table: &mut Table<'a>,
 ) -> Result<Ty<'a>, TypeFault>
-    ensures gives { let v = scopes_of scopes.old in Gives result (typed_maybe v Plain (option_node first.entry) >>= λ _. typed_maybe (scoped_maybe v Plain (option_node first.entry)) Plain (option_node condition.entry) >>= λ _. typed_maybe (scoped_maybe (scoped_maybe v Plain (option_node first.entry)) Plain (option_node condition.entry)) Plain (option_node step.entry) >>= λ _. typed (scoped_maybe (scoped_maybe (scoped_maybe v Plain (option_node first.entry)) Plain (option_node condition.entry)) Plain (option_node step.entry)) Plain (node_of body.now) >>= λ _. Ok Void) }
+    ensures gives { let v = scopes_of scopes.old in Gives result (and_then (typed_maybe v Plain (option_node first.entry)) (λ _. and_then (typed_maybe (scoped_maybe v Plain (option_node first.entry)) Plain (option_node condition.entry)) (λ _. and_then (typed_maybe (scoped_maybe (scoped_maybe v Plain (option_node first.entry)) Plain (option_node condition.entry)) Plain (option_node step.entry)) (λ _. and_then (typed (scoped_maybe (scoped_maybe (scoped_maybe v Plain (option_node first.entry)) Plain (option_node condition.entry)) Plain (option_node step.entry)) Plain (node_of body.now)) (λ _. Ok Void))))) }
     ensures scopes { IfOk result (λ _. let v = scopes_of scopes.old in scopes_of scopes.new ≡ scoped (scoped_maybe (scoped_maybe (scoped_maybe v Plain (option_node first.entry)) Plain (option_node condition.entry)) Plain (option_node step.entry)) Plain (node_of body.now)) }
     ensures table { IfOk result (λ _. let v = scopes_of scopes.old in table_of table.new ≡ filled (scoped_maybe (scoped_maybe (scoped_maybe v Plain (option_node first.entry)) Plain (option_node condition.entry)) Plain (option_node step.entry)) Plain (node_of body.now) (filled_maybe (scoped_maybe (scoped_maybe v Plain (option_node first.entry)) Plain (option_node condition.entry)) Plain (option_node step.entry) (filled_maybe (scoped_maybe v Plain (option_node first.entry)) Plain (option_node condition.entry) (filled_maybe v Plain (option_node first.entry) (table_of table.old))))) }
 {
@@ -90,7 +90,7 @@ fn type_for_declaration<'a>(
     body: &Tree<'a>,
     table: &mut Table<'a>,
 ) -> Result<Ty<'a>, TypeFault>
-    ensures gives { let v = scopes_of scopes.old in Gives result (typed (deeper v) Plain (node_of declaration.now) >>= λ _. typed_maybe (scoped (deeper v) Plain (node_of declaration.now)) Plain (option_node condition.entry) >>= λ _. typed_maybe (scoped_maybe (scoped (deeper v) Plain (node_of declaration.now)) Plain (option_node condition.entry)) Plain (option_node step.entry) >>= λ _. typed (scoped_maybe (scoped_maybe (scoped (deeper v) Plain (node_of declaration.now)) Plain (option_node condition.entry)) Plain (option_node step.entry)) Plain (node_of body.now) >>= λ _. Ok Void) }
+    ensures gives { let v = scopes_of scopes.old in Gives result (and_then (typed (deeper v) Plain (node_of declaration.now)) (λ _. and_then (typed_maybe (scoped (deeper v) Plain (node_of declaration.now)) Plain (option_node condition.entry)) (λ _. and_then (typed_maybe (scoped_maybe (scoped (deeper v) Plain (node_of declaration.now)) Plain (option_node condition.entry)) Plain (option_node step.entry)) (λ _. and_then (typed (scoped_maybe (scoped_maybe (scoped (deeper v) Plain (node_of declaration.now)) Plain (option_node condition.entry)) Plain (option_node step.entry)) Plain (node_of body.now)) (λ _. Ok Void))))) }
     ensures scopes { IfOk result (λ _. let v = scopes_of scopes.old in scopes_of scopes.new ≡ leave v (scoped (scoped_maybe (scoped_maybe (scoped (deeper v) Plain (node_of declaration.now)) Plain (option_node condition.entry)) Plain (option_node step.entry)) Plain (node_of body.now))) }
     ensures table { IfOk result (λ _. let v = scopes_of scopes.old in table_of table.new ≡ filled (scoped_maybe (scoped_maybe (scoped (deeper v) Plain (node_of declaration.now)) Plain (option_node condition.entry)) Plain (option_node step.entry)) Plain (node_of body.now) (filled_maybe (scoped_maybe (scoped (deeper v) Plain (node_of declaration.now)) Plain (option_node condition.entry)) Plain (option_node step.entry) (filled_maybe (scoped (deeper v) Plain (node_of declaration.now)) Plain (option_node condition.entry) (filled (deeper v) Plain (node_of declaration.now) (table_of table.old))))) }
 {

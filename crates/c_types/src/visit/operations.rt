@@ -3,7 +3,7 @@
 ghost use Rattle.std.specs.Prelude.{◌≡◌, Ok, IfOk};
 ghost use Rattle.c_tree.specs.Node as nodes;
 ghost use Rattle.c_tree.specs.Views.{node_of, operation_shape};
-ghost use Rattle.c_typing.specs.Options.{◌>>=◌};
+ghost use Rattle.c_typing.specs.Options.{◌>>=◌ as and_then};
 ghost use Rattle.c_typing.specs.Roles.{Plain};
 ghost use Rattle.c_typing.specs.Rows as lines;
 ghost use Rattle.c_typing.specs.ScopesByCase.{scoped, within_operation};
@@ -100,7 +100,7 @@ fn type_cast<'a>(
     operand: &Tree<'a>,
     table: &mut Table<'a>,
 ) -> Result<Ty<'a>, TypeFault>
-    ensures gives { let v = scopes_of scopes.old in Gives result (typed v Plain (node_of to.now) >>= λ t. typed (scoped v Plain (node_of to.now)) Plain (node_of operand.now) >>= λ _. Ok t) }
+    ensures gives { let v = scopes_of scopes.old in Gives result (and_then (typed v Plain (node_of to.now)) (λ t. and_then (typed (scoped v Plain (node_of to.now)) Plain (node_of operand.now)) (λ _. Ok t))) }
     ensures scopes { IfOk result (λ _. let v = scopes_of scopes.old in scopes_of scopes.new ≡ scoped (scoped v Plain (node_of to.now)) Plain (node_of operand.now)) }
     ensures table { IfOk result (λ _. let v = scopes_of scopes.old in table_of table.new ≡ filled (scoped v Plain (node_of to.now)) Plain (node_of operand.now) (filled v Plain (node_of to.now) (table_of table.old))) }
 {
@@ -119,7 +119,7 @@ fn type_binary<'a>(
     right: &Tree<'a>,
     table: &mut Table<'a>,
 ) -> Result<Ty<'a>, TypeFault>
-    ensures gives { let v = scopes_of scopes.old in Gives result (typed v Plain (node_of left.now) >>= λ s. typed (scoped v Plain (node_of left.now)) Plain (node_of right.now) >>= λ t. Ok (combined op s t)) }
+    ensures gives { let v = scopes_of scopes.old in Gives result (and_then (typed v Plain (node_of left.now)) (λ s. and_then (typed (scoped v Plain (node_of left.now)) Plain (node_of right.now)) (λ t. Ok (combined op s t)))) }
     ensures scopes { IfOk result (λ _. let v = scopes_of scopes.old in scopes_of scopes.new ≡ scoped (scoped v Plain (node_of left.now)) Plain (node_of right.now)) }
     ensures table { IfOk result (λ _. let v = scopes_of scopes.old in table_of table.new ≡ filled (scoped v Plain (node_of left.now)) Plain (node_of right.now) (filled v Plain (node_of left.now) (table_of table.old))) }
 {
@@ -128,24 +128,24 @@ fn type_binary<'a>(
     Ok(combined(op, first, second))
 }
 
-/// `condition ? then : otherwise` (6.3.15).
+/// `condition ? second : third` (6.3.15).
 #[cycle(typing)]
 fn type_cond<'a>(
     arena: &'a Arena,
     scopes: &mut Scopes<'a>,
     condition: &Tree<'a>,
-    then: &Tree<'a>,
-    otherwise: &Tree<'a>,
+    second: &Tree<'a>,
+    third: &Tree<'a>,
     table: &mut Table<'a>,
 ) -> Result<Ty<'a>, TypeFault>
-    ensures gives { let v = scopes_of scopes.old in Gives result (typed v Plain (node_of condition.now) >>= λ _. typed (scoped v Plain (node_of condition.now)) Plain (node_of then.now) >>= λ s. typed (scoped (scoped v Plain (node_of condition.now)) Plain (node_of then.now)) Plain (node_of otherwise.now) >>= λ t. Ok (chosen s t)) }
-    ensures scopes { IfOk result (λ _. let v = scopes_of scopes.old in scopes_of scopes.new ≡ scoped (scoped (scoped v Plain (node_of condition.now)) Plain (node_of then.now)) Plain (node_of otherwise.now)) }
-    ensures table { IfOk result (λ _. let v = scopes_of scopes.old in table_of table.new ≡ filled (scoped (scoped v Plain (node_of condition.now)) Plain (node_of then.now)) Plain (node_of otherwise.now) (filled (scoped v Plain (node_of condition.now)) Plain (node_of then.now) (filled v Plain (node_of condition.now) (table_of table.old)))) }
+    ensures gives { let v = scopes_of scopes.old in Gives result (and_then (typed v Plain (node_of condition.now)) (λ _. and_then (typed (scoped v Plain (node_of condition.now)) Plain (node_of second.now)) (λ s. and_then (typed (scoped (scoped v Plain (node_of condition.now)) Plain (node_of second.now)) Plain (node_of third.now)) (λ t. Ok (chosen s t))))) }
+    ensures scopes { IfOk result (λ _. let v = scopes_of scopes.old in scopes_of scopes.new ≡ scoped (scoped (scoped v Plain (node_of condition.now)) Plain (node_of second.now)) Plain (node_of third.now)) }
+    ensures table { IfOk result (λ _. let v = scopes_of scopes.old in table_of table.new ≡ filled (scoped (scoped v Plain (node_of condition.now)) Plain (node_of second.now)) Plain (node_of third.now) (filled (scoped v Plain (node_of condition.now)) Plain (node_of second.now) (filled v Plain (node_of condition.now) (table_of table.old)))) }
 {
     type_tree(arena, scopes, Role::Plain, condition, table)?;
-    let first = type_tree(arena, scopes, Role::Plain, then, table)?;
-    let second = type_tree(arena, scopes, Role::Plain, otherwise, table)?;
-    Ok(chosen(first, second))
+    let ty = type_tree(arena, scopes, Role::Plain, second, table)?;
+    let other = type_tree(arena, scopes, Role::Plain, third, table)?;
+    Ok(chosen(ty, other))
 }
 
 /// An assignment (6.3.16). Whether the left side is an lvalue is asked before it is visited.
@@ -158,7 +158,7 @@ fn type_assign<'a>(
     right: &Tree<'a>,
     table: &mut Table<'a>,
 ) -> Result<Ty<'a>, TypeFault>
-    ensures gives { let v = scopes_of scopes.old in Gives result (typed v Plain (node_of left.now) >>= λ t. typed (scoped v Plain (node_of left.now)) Plain (node_of right.now) >>= λ _. lines.if_lvalue v place (node_of left.now) t) }
+    ensures gives { let v = scopes_of scopes.old in Gives result (and_then (typed v Plain (node_of left.now)) (λ t. and_then (typed (scoped v Plain (node_of left.now)) Plain (node_of right.now)) (λ _. lines.if_lvalue v place (node_of left.now) t))) }
     ensures scopes { IfOk result (λ _. let v = scopes_of scopes.old in scopes_of scopes.new ≡ scoped (scoped v Plain (node_of left.now)) Plain (node_of right.now)) }
     ensures table { IfOk result (λ _. let v = scopes_of scopes.old in table_of table.new ≡ filled (scoped v Plain (node_of left.now)) Plain (node_of right.now) (filled v Plain (node_of left.now) (table_of table.old))) }
 {

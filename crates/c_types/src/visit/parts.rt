@@ -6,7 +6,7 @@ ghost use Rattle.c_tree.specs.Node as nodes;
 ghost use Rattle.c_tree.specs.Views.{nodes_of, option_node, part_shape};
 ghost use Rattle.c_typing.specs.Moves.{closed, left_params};
 ghost use Rattle.c_typing.specs.Declarators as declared;
-ghost use Rattle.c_typing.specs.Options.{◌>>=◌};
+ghost use Rattle.c_typing.specs.Options.{◌>>=◌ as and_then};
 ghost use Rattle.c_typing.specs.Roles.{Plain};
 ghost use Rattle.c_typing.specs.Rows.{name_row};
 ghost use Rattle.c_typing.specs.Scopes.{deeper, with_name};
@@ -58,7 +58,7 @@ fn type_params<'a>(
     params: &Trees<'a>,
     table: &mut Table<'a>,
 ) -> Result<Ty<'a>, TypeFault>
-    ensures gives { let v = scopes_of scopes.old in Gives result (typed_each (deeper v) Plain (nodes_of params.now) >>= λ _. Ok Void) }
+    ensures gives { let v = scopes_of scopes.old in Gives result (and_then (typed_each (deeper v) Plain (nodes_of params.now)) (λ _. Ok Void)) }
     ensures scopes { IfOk result (λ _. let v = scopes_of scopes.old in scopes_of scopes.new ≡ left_params (role_of role.entry) v (scoped_each (deeper v) Plain (nodes_of params.now))) }
     ensures table { IfOk result (λ _. let v = scopes_of scopes.old in table_of table.new ≡ filled_each (deeper v) Plain (nodes_of params.now) (table_of table.old)) }
 {
@@ -78,7 +78,7 @@ fn type_enumerator<'a>(
     value: Option<&Tree<'a>>,
     table: &mut Table<'a>,
 ) -> Result<Ty<'a>, TypeFault>
-    ensures gives { let v = scopes_of scopes.old in Gives result (typed_maybe v Plain (option_node value.entry) >>= λ _. name_row (scoped_maybe v Plain (option_node value.entry)) name.now.place (declared.enumerator (scoped_maybe v Plain (option_node value.entry)) name.now)) }
+    ensures gives { let v = scopes_of scopes.old in Gives result (and_then (typed_maybe v Plain (option_node value.entry)) (λ _. name_row (scoped_maybe v Plain (option_node value.entry)) name.now.place (declared.enumerator (scoped_maybe v Plain (option_node value.entry)) name.now))) }
     ensures scopes { IfOk result (λ _. let v = scopes_of scopes.old in scopes_of scopes.new ≡ with_name (scoped_maybe v Plain (option_node value.entry)) (declared.enumerator (scoped_maybe v Plain (option_node value.entry)) name.now)) }
     ensures table { IfOk result (λ _. let v = scopes_of scopes.old in table_of table.new ≡ filled_maybe v Plain (option_node value.entry) (table_of table.old)) }
 {

@@ -4,7 +4,7 @@ ghost use Rattle.std.specs.Prelude.{◌≡◌, IfOk};
 ghost use Rattle.c_tree.specs.Node as nodes;
 ghost use Rattle.c_tree.specs.Views.{node_of, nodes_of};
 ghost use Rattle.c_typing.specs.Faults.{NotFunction};
-ghost use Rattle.c_typing.specs.Options.{or_fault, ◌>>=◌};
+ghost use Rattle.c_typing.specs.Options.{or_fault, ◌>>=◌ as and_then};
 ghost use Rattle.c_typing.specs.Roles.{Callee, Plain};
 ghost use Rattle.c_typing.specs.ScopesByCase.{scoped, scoped_each, within_operation};
 ghost use Rattle.c_typing.specs.TablesByCase.{filled, filled_each, filled_operation};
@@ -53,7 +53,7 @@ pub(crate) fn type_call<'a>(
     arguments: &Trees<'a>,
     table: &mut Table<'a>,
 ) -> Result<Ty<'a>, TypeFault>
-    ensures gives { let v = scopes_of scopes.old in Gives result (typed v Callee (node_of callee.now) >>= λ t. typed_each (scoped v Callee (node_of callee.now)) Plain (nodes_of arguments.now) >>= λ _. or_fault (called t) (NotFunction place)) }
+    ensures gives { let v = scopes_of scopes.old in Gives result (and_then (typed v Callee (node_of callee.now)) (λ t. and_then (typed_each (scoped v Callee (node_of callee.now)) Plain (nodes_of arguments.now)) (λ _. or_fault (called t) (NotFunction place)))) }
     ensures scopes { IfOk result (λ _. let v = scopes_of scopes.old in scopes_of scopes.new ≡ scoped_each (scoped v Callee (node_of callee.now)) Plain (nodes_of arguments.now)) }
     ensures table { IfOk result (λ _. let v = scopes_of scopes.old in table_of table.new ≡ filled_each (scoped v Callee (node_of callee.now)) Plain (nodes_of arguments.now) (filled v Callee (node_of callee.now) (table_of table.old))) }
 {

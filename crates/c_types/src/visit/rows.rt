@@ -3,7 +3,7 @@
 ghost use Rattle.std.specs.Prelude.{◌≡◌, ◌||◌, Ok, Err, cond};
 ghost use Rattle.c_tree.specs.Node.{Node};
 ghost use Rattle.c_typing.specs.Faults as fault;
-ghost use Rattle.c_typing.specs.Options.{or_fault, ◌>>=◌};
+ghost use Rattle.c_typing.specs.Options.{or_fault, ◌>>=◌ as and_then};
 ghost use Rattle.c_typing.specs.Rows as lines;
 ghost use Rattle.c_typing.specs.Scopes as held;
 ghost use Rattle.c_typing.specs.Types as types;
@@ -44,7 +44,7 @@ pub(crate) fn arrow_row<'a>(
     name: &Token,
     ty: Ty<'a>,
 ) -> Result<Ty<'a>, TypeFault>
-    ensures { Gives result (or_fault (types.element (ctype_of ty.entry)) (fault.NotPointer place) >>= λ t. lines.member (scopes_of scopes.now) place name.now t) }
+    ensures { Gives result (and_then (or_fault (types.element (ctype_of ty.entry)) (fault.NotPointer place)) (λ t. lines.member (scopes_of scopes.now) place name.now t)) }
 {
     match ty.element() {
         Some(to) => member(scopes, place, name, *to),

@@ -5,7 +5,7 @@ ghost use Rattle.c_tree.specs.declared.place.Place.{Place};
 ghost use Rattle.c_tree.specs.Node as nodes;
 ghost use Rattle.c_tree.specs.Views.{node_of, nodes_of, option_node, statement_shape};
 ghost use Rattle.c_typing.specs.Moves.{closed, opened_block};
-ghost use Rattle.c_typing.specs.Options.{◌>>=◌};
+ghost use Rattle.c_typing.specs.Options.{◌>>=◌ as and_then};
 ghost use Rattle.c_typing.specs.Roles.{Plain};
 ghost use Rattle.c_typing.specs.Scopes.{leave};
 ghost use Rattle.c_typing.specs.ScopesByCase.{scoped, scoped_each, scoped_maybe, within_statement};
@@ -47,7 +47,7 @@ fn type_block<'a>(
     items: &Trees<'a>,
     table: &mut Table<'a>,
 ) -> Result<Ty<'a>, TypeFault>
-    ensures gives { let v = scopes_of scopes.old in Gives result (typed_each (opened_block v (role_of role.entry)) Plain (nodes_of items.now) >>= λ _. Ok Void) }
+    ensures gives { let v = scopes_of scopes.old in Gives result (and_then (typed_each (opened_block v (role_of role.entry)) Plain (nodes_of items.now)) (λ _. Ok Void)) }
     ensures scopes { IfOk result (λ _. let v = scopes_of scopes.old in scopes_of scopes.new ≡ leave v (scoped_each (opened_block v (role_of role.entry)) Plain (nodes_of items.now))) }
     ensures table { IfOk result (λ _. let v = scopes_of scopes.old in table_of table.new ≡ filled_each (opened_block v (role_of role.entry)) Plain (nodes_of items.now) (table_of table.old)) }
 {
@@ -58,22 +58,22 @@ fn type_block<'a>(
     Ok(Ty::Void)
 }
 
-/// Types `if (condition) then else otherwise` (6.6.4.1).
+/// Types `if (condition) body else otherwise` (6.6.4.1).
 #[cycle(typing)]
 fn type_if<'a>(
     arena: &'a Arena,
     scopes: &mut Scopes<'a>,
     condition: &Tree<'a>,
-    then: &Tree<'a>,
+    body: &Tree<'a>,
     otherwise: Option<&Tree<'a>>,
     table: &mut Table<'a>,
 ) -> Result<Ty<'a>, TypeFault>
-    ensures gives { let v = scopes_of scopes.old in Gives result (typed v Plain (node_of condition.now) >>= λ _. typed (scoped v Plain (node_of condition.now)) Plain (node_of then.now) >>= λ _. typed_maybe (scoped (scoped v Plain (node_of condition.now)) Plain (node_of then.now)) Plain (option_node otherwise.entry) >>= λ _. Ok Void) }
-    ensures scopes { IfOk result (λ _. let v = scopes_of scopes.old in scopes_of scopes.new ≡ scoped_maybe (scoped (scoped v Plain (node_of condition.now)) Plain (node_of then.now)) Plain (option_node otherwise.entry)) }
-    ensures table { IfOk result (λ _. let v = scopes_of scopes.old in table_of table.new ≡ filled_maybe (scoped (scoped v Plain (node_of condition.now)) Plain (node_of then.now)) Plain (option_node otherwise.entry) (filled (scoped v Plain (node_of condition.now)) Plain (node_of then.now) (filled v Plain (node_of condition.now) (table_of table.old)))) }
+    ensures gives { let v = scopes_of scopes.old in Gives result (and_then (typed v Plain (node_of condition.now)) (λ _. and_then (typed (scoped v Plain (node_of condition.now)) Plain (node_of body.now)) (λ _. and_then (typed_maybe (scoped (scoped v Plain (node_of condition.now)) Plain (node_of body.now)) Plain (option_node otherwise.entry)) (λ _. Ok Void)))) }
+    ensures scopes { IfOk result (λ _. let v = scopes_of scopes.old in scopes_of scopes.new ≡ scoped_maybe (scoped (scoped v Plain (node_of condition.now)) Plain (node_of body.now)) Plain (option_node otherwise.entry)) }
+    ensures table { IfOk result (λ _. let v = scopes_of scopes.old in table_of table.new ≡ filled_maybe (scoped (scoped v Plain (node_of condition.now)) Plain (node_of body.now)) Plain (option_node otherwise.entry) (filled (scoped v Plain (node_of condition.now)) Plain (node_of body.now) (filled v Plain (node_of condition.now) (table_of table.old)))) }
 {
     type_tree(arena, scopes, Role::Plain, condition, table)?;
-    type_tree(arena, scopes, Role::Plain, then, table)?;
+    type_tree(arena, scopes, Role::Plain, body, table)?;
     type_maybe(arena, scopes, Role::Plain, otherwise, table)?;
     Ok(Ty::Void)
 }
