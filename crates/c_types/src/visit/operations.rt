@@ -45,9 +45,11 @@ pub(crate) fn type_operation<'a>(
         Operation::Index { array, index } => {
             type_index(arena, scopes, place, array, index, table)
         }
-        Operation::Call { callee, arguments, .. } => {
-            type_call(arena, scopes, place, callee, arguments, table)
-        }
+        Operation::Call {
+            callee,
+            arguments,
+            ..
+        } => { type_call(arena, scopes, place, callee, arguments, table) }
         Operation::Member { operand, member } => {
             type_member(arena, scopes, place, operand, member, table)
         }
@@ -61,10 +63,14 @@ pub(crate) fn type_operation<'a>(
             Ok(Ty::Arith(Arithmetic::UnsignedLong))
         }
         Operation::Cast { to, operand } => type_cast(arena, scopes, to, operand, table),
-        Operation::Binary { op, left, right } => type_binary(arena, scopes, *op, left, right, table),
-        Operation::Cond { condition, then, otherwise } => {
-            type_cond(arena, scopes, condition, then, otherwise, table)
-        }
+        Operation::Binary { op, left, right } => type_binary(
+            arena, scopes, *op, left, right, table,
+        ),
+        Operation::Cond {
+            condition,
+            then,
+            otherwise,
+        } => { type_cond(arena, scopes, condition, then, otherwise, table) }
         Operation::Assign { left, right, .. } => {
             type_assign(arena, scopes, place, left, right, table)
         }
