@@ -5,3 +5,4 @@ mod Seen
 mod Steps
 mod Bare
 mod Marks
+mod StaticNames

@@ -35,14 +35,14 @@ pub struct TypedUnit<'a> {
     // The tag of each structure and union, if it has one, by its number.
     tags: Vec<Option<u32>>,
 
+    // What stands for the type of a node that has none.
+    no_type: Ty<'a>,
+
     ghost typing: { IsTyping (nodes_of unit.chunks) (table_of table) },
     ghost sparse: { HasEmptyCells (nodes_of unit.chunks) (table_of table) },
     ghost tagged: { tags.items ≡ structs_of (nodes_of unit.chunks) },
     ghost defined: { map function_of functions.items ≡ functions_of (nodes_of unit.chunks) },
 }
-
-// What stands for the type of a node that has none.
-static NO_TYPE: Ty<'static> = Ty::Void;
 
 // The tag at a number, if there is one.
 fn tag_at(tags: &[Option<u32>], number: u32) -> Option<u32>
@@ -74,6 +74,7 @@ impl<'a> TypedUnit<'a> {
             functions,
             table,
             tags,
+            no_type: Ty::Void,
         }
     }
 
@@ -83,10 +84,10 @@ impl<'a> TypedUnit<'a> {
     {
         cells_are_right();
         places_are_typed();
-        match self.table.cell(tree.id) {
-            Some(cell) => &cell.ty,
-            None => &NO_TYPE,
+        if let Some(cell) = self.table.cell(tree.id) {
+            return &cell.ty;
         }
+        &self.no_type
     }
 
     /// The variable that an identifier of the unit stands for, or that a declarator declares. A function is none.
