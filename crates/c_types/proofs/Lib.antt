@@ -6,3 +6,5 @@ mod Steps
 mod Bare
 mod Marks
 mod StaticNames
+mod UnitSteps
+mod UnnamedMembers

@@ -18,7 +18,7 @@ ghost use Rattle.c_unit.specs.Vars.{cvar_of};
 use crate::functions::TypedFunction;
 use crate::table::Table;
 use c_unit::{Ty, Unit, Var};
-use c_tree::{Kind, Primary, Tree};
+use c_tree::Tree;
 use c_typing::{cells_are_right, places_are_typed};
 
 /// A translation unit without a fault of typing: the types of its expressions, the variables behind its names, and the tags of
@@ -96,15 +96,9 @@ impl<'a> TypedUnit<'a> {
     {
         cells_are_right();
         places_are_typed();
-        match &tree.kind {
-            Kind::Primary(Primary::Ident { .. }) | Kind::Declarator(_) => match self
-                .table
-                .cell(tree.id)
-            {
-                Some(cell) => cell.var,
-                None => None,
-            },
-            _ => None,
+        match self.table.cell(tree.id) {
+            Some(cell) => cell.var,
+            None => None,
         }
     }
 

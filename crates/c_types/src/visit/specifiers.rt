@@ -65,7 +65,7 @@ fn pass_members_on<'a>(scopes: &mut Scopes<'a>, owner: u32, ty: Ty<'a>) -> Resul
 }
 
 /// Ends a declaration of members with specifiers of this type: where it declares none by name, it may be one itself.
-#[tactic(auto, using(crate::proofs::Bare::counted))]
+#[tactic(auto, using(crate::proofs::UnnamedMembers::unnamed))]
 fn end_members<'a>(
     scopes: &mut Scopes<'a>,
     role: Role<'a>,
