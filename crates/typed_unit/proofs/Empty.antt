@@ -1,5 +1,6 @@
 -- The table that is filled has nothing where a node has no type, since the numbers differ.
-use Rattle.std.proofs.Common.{◌≡◌, ℕ, zero, suc, List, [], ◌∷◌, ◌⊎◌, inl, inr, Option, None, Some, Bool, true, false, Result, Ok, Err, ⊤, ap, refl, ◌∙◌, sym, subst}
+use Rattle.std.proofs.Common.{◌≡◌, ℕ, zero, suc, List, [], ◌∷◌, ◌⊎◌, inl, inr, Option, None, Some, Bool, true, false, Result, Ok, Err, ap, refl, ◌∙◌, sym, subst}
+use Rattle.std.specs.Bool.{⊤}
 use Rattle.c_tree.specs.Node.{Nodes}
 use Rattle.c_typing.specs.Definition.{behind_parts, after, Meeting, In, Out, meetings_then, meetings_all_then, Cell, Table, at, number_of, is_kept, IsAmong}
 use Rattle.c_typing.specs.Faults.{Fault}

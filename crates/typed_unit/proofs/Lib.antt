@@ -1,3 +1,4 @@
 pub mod Cells
 pub mod Empty
 pub mod Placed
+pub mod Sets

@@ -33,6 +33,7 @@ impl<'a> Table<'a> {
     }
 
     /// Keeps this of the node with a number.
+    #[tactic(auto, using(crate::proofs::Cells::puts))]
     pub fn put(&mut self, number: u32, cell: Cell<'a>) -> Result<(), AllocError>
         ensures { IfOk result (λ _. table_of self.new ≡ put number (cell_of cell.entry) (table_of self.old)) }
     {
@@ -50,7 +51,8 @@ impl<'a> Table<'a> {
     {
         match self.cells.get(number as usize) {
             Some(Some(cell)) => Some(cell),
-            _ => None,
+            Some(None) => None,
+            None => None,
         }
     }
 }

@@ -38,10 +38,10 @@ pub struct TypedUnit<'a> {
     // What stands for the type of a node that has none.
     no_type: Ty<'a>,
 
-    ghost typing: { IsTyping (nodes_of unit.chunks) (table_of table) },
-    ghost sparse: { HasEmptyCells (nodes_of unit.chunks) (table_of table) },
+    ghost typing: { ∥ IsTyping (nodes_of unit.chunks) (table_of table) ∥₁ },
+    ghost sparse: { ∥ HasEmptyCells (nodes_of unit.chunks) (table_of table) ∥₁ },
     ghost tagged: { tags.items ≡ structs_of (nodes_of unit.chunks) },
-    ghost defined: { map function_of functions.items ≡ functions_of (nodes_of unit.chunks) },
+    ghost defined: { ∥ map function_of functions.items ≡ functions_of (nodes_of unit.chunks) ∥₁ },
 }
 
 // The tag at a number, if there is one.
@@ -68,6 +68,7 @@ impl<'a> TypedUnit<'a> {
         requires tagged { tags.items ≡ structs_of (nodes_of unit.chunks) }
         requires defined { map function_of functions.items ≡ functions_of (nodes_of unit.chunks) }
         ensures unit { result.unit ≡ unit.entry }
+        ensures functions { result.functions ≡ functions.entry }
     {
         TypedUnit {
             unit,
