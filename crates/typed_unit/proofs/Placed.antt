@@ -60,3 +60,7 @@ var-found unit table v r e right typed h sparse m = by (is_kept v r e) refl
     by : (b : Bool) → is_kept v r e ≡ b → var_in (at (number_of e) table) ≡ var_at v r e
     by true k = let x = cell-at unit table v r e right typed h m k in ap var_in x.2
     by false k = ap var_in (sparse v r e m k) ∙ sym (not-kept v r e k)
+
+pub nothing : (o : Option Cell) (x : Cell) → None ≡ o → o ≡ Some x → ⊥
+nothing None x h k = cc
+nothing (Some y) x h k = cc
