@@ -1,4 +1,3 @@
 pub mod Cells
-pub mod Empty
 pub mod Placed
 pub mod Sets
