@@ -11,8 +11,9 @@ ghost use Rattle.c_typing.specs.Scopes as names;
 ghost use Rattle.c_typing.specs.ScopesByCase.{scoped};
 ghost use Rattle.c_typing.specs.TablesByCase.{filled};
 ghost use Rattle.c_typing.specs.TypesByCase.{typed};
-ghost use Rattle.c_typing.specs.Unit.{AreNumbered, IsFirstFault, places_of};
+ghost use Rattle.c_typing.specs.Unit.{IsFirstFault, places_of};
 ghost use Rattle.typed_unit.specs.Functions.{function_of};
+ghost use Rattle.typed_unit.specs.Places.{StandOver};
 ghost use Rattle.typed_unit.specs.Tables.{table_of};
 ghost use Rattle.c_types.specs.Faults.{Gives, fault_of};
 ghost use Rattle.c_types.specs.Scopes.{scopes_of};
@@ -25,7 +26,7 @@ use crate::scopes::Scopes;
 use crate::statics::Statics;
 use crate::visit::type_tree;
 use c_tree::{Arena, Tree};
-use c_typing::{functions_by_case, scopes_stay, units_by_case};
+use c_typing::{functions_by_case, numbers_differ, scopes_stay, units_by_case};
 use c_unit::{Ty, Unit};
 use std::alloc::{AllocError, Global};
 use typed_unit::{Table, TypedFunction, TypedUnit};
@@ -66,7 +67,7 @@ fn type_external<'a>(
     Ok(ty)
 }
 
-/// Types a unit whose nodes have different numbers: the type of each expression, type name and declared name, the variables
+/// Types a unit whose trees stand over its tokens: the type of each expression, type name and declared name, the variables
 /// behind the names, the tags, and the functions that it defines.
 ///
 /// Each of the seven faults comes exactly where it is the first in the order of the text.
@@ -75,7 +76,7 @@ pub fn type_unit<'a>(
     alloc: Global,
     unit: Unit<'a>,
 ) -> Result<TypedUnit<'a>, TypeFault>
-    requires numbers { AreNumbered (nodes_of unit.chunks) }
+    requires standing { StandOver (nodes_of unit.chunks) unit.tokens.now }
     ensures unit { IfOk result (λ typed. typed.unit ≡ unit.entry) }
     ensures fine { IfOk result (λ _. first_fault (places_of (nodes_of unit.entry.chunks)) ≡ None) }
     ensures functions { IfOk result (λ typed. map function_of typed.functions.items ≡ functions_by.functions_of (nodes_of unit.entry.chunks)) }
@@ -83,6 +84,7 @@ pub fn type_unit<'a>(
 {
     units_by_case();
     functions_by_case();
+    numbers_differ();
     let mut scopes = Scopes::new(alloc);
     let mut statics = Statics::new(alloc);
     let mut table = Table::new(alloc);

@@ -5,4 +5,4 @@ use Rattle.c_types.proofs.statics.Statics.add.Given as goal
 
 -- the names so far, and then those of the entries that are left
 abbrev pub invariant-loop-entry : goal.invariant-loop-entry
-invariant-loop-entry l = l.self ++ statics_in (map name_entry (drop l.entry-index l.entries)) ≡ l.fn.self ++ statics_in (map name_entry l.entries)
+invariant-loop-entry l = l.self-inside.names ++ statics_in (map name_entry (drop l.entry-index l.entries)) ≡ l.fn.self ++ statics_in (map name_entry l.entries)
