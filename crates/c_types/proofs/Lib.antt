@@ -8,3 +8,4 @@ mod Marks
 mod StaticNames
 mod UnitSteps
 mod UnnamedMembers
+mod Formals
