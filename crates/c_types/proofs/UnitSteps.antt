@@ -1,13 +1,13 @@
 -- How a unit is gone over: one external definition more.
 use Rattle.std.proofs.Common.{◌≡◌, ℕ, ◌+◌, ◌<◌, ◌≤◌, List, [], ◌∷◌, ◌++◌, length, drop, get_or, Option, None, Some, Result, Ok, Err, ap, refl, ◌∙◌, subst, sym, append_assoc}
 use Rattle.std.specs.Result.{IsErrAnd}
-use Rattle.std.proofs.lemmas.List.{drop_all}
+use Rattle.std.proofs.lemmas.List.{append-nil, drop_all}
 use Rattle.c_tree.proofs.Rows.{nodes_drop}
 use Rattle.c_tree.specs.declared.token.Token.{Token}
 use Rattle.c_tree.specs.declared.tree.Tree.{Tree}
 use Rattle.c_tree.specs.Node.{Node, Nodes, no_more, more}
 use Rattle.c_tree.specs.Views.{node_of, nodes_in}
-use Rattle.c_typing.specs.Definition.{Table}
+use Rattle.c_typing.specs.Definition.{Table, first_fault}
 use Rattle.c_typing.specs.Faults.{Fault}
 use Rattle.c_typing.specs.Functions.{Defined, defined_each, defined_in}
 use Rattle.c_typing.specs.Options.{if_there, ◌>>=◌}
@@ -18,16 +18,16 @@ use Rattle.c_typing.specs.TablesByCase.{filled, filled_each}
 use Rattle.c_typing.specs.Theorems.{NumbersDiffer, UnitsByCase}
 use Rattle.c_typing.specs.Types.{CType}
 use Rattle.c_typing.specs.TypesByCase.{typed, typed_each}
-use Rattle.c_typing.specs.Unit.{IsTyping}
+use Rattle.c_typing.specs.Unit.{IsTyping, places_of}
 use Rattle.c_unit.specs.declared.types.Ty.{Ty}
 use Rattle.typed_unit.specs.Places.{StandOver}
 use Rattle.c_types.specs.declared.faults.TypeFault.{TypeFault}
 use Rattle.c_types.specs.Faults.{Gives, fault_of}
 
 -- the functions so far, with the one that is defined here
-pub one-more : (fs more : List Defined) (d : Option Defined) (rest : List Defined) → more ≡ fs ++ if_there d [] (λ f. f ∷ []) → more ++ rest ≡ fs ++ if_there d rest (λ f. f ∷ rest)
-one-more fs more None rest h = ap (λ (xs : List Defined). xs ++ rest) h ∙ append_assoc fs [] rest
-one-more fs more (Some f) rest h = ap (λ (xs : List Defined). xs ++ rest) h ∙ append_assoc fs (f ∷ []) rest
+pub one-more : (fs gs : List Defined) (d : Option Defined) (rest : List Defined) → gs ≡ fs ++ if_there d [] (λ f. f ∷ []) → gs ++ rest ≡ fs ++ if_there d rest (λ f. f ∷ rest)
+one-more fs gs None rest h = ap (λ (xs : List Defined). xs ++ rest) h ∙ append_assoc fs [] rest
+one-more fs gs (Some f) rest h = ap (λ (xs : List Defined). xs ++ rest) h ∙ append_assoc fs (f ∷ []) rest
 
 pub then-fine : (a : Result CType Fault) (t : CType) (k : Result CType Fault) → a ≡ Ok t → (a >>= λ _. k) ≡ k
 then-fine (Ok u) t k h = refl
@@ -89,3 +89,9 @@ still-faulty (Err x) e found all h g k = λ f l. k f (g f (ap fault_of (sym h) �
 -- a unit without a fault
 pub unit-typed : (unit : Nodes) (tokens : List Token) (table : Table) (t : CType) → UnitsByCase → NumbersDiffer → StandOver unit tokens → typed_each at_start Plain unit ≡ Ok t → table ≡ filled_each at_start Plain unit [] → IsTyping unit table
 unit-typed unit tokens table t by apart s g k = subst (λ (x : Table). IsTyping unit x) (sym k) (by unit (Ok t) g (apart unit 0 s.0 tokens [] s.1))
+
+pub all-defined : (v : Scopes) (unit : Nodes) (table : Table) (fs : List Defined) (w : Scopes) (here : Table) (gs : List Defined) → GoesOn v unit table fs w no_more here gs → gs ≡ fs ++ defined_each v unit
+all-defined v unit table fs w here gs g = sym (append-nil gs) ∙ g.functions
+
+pub unit-fine : (unit : Nodes) (tokens : List Token) (t : CType) → UnitsByCase → NumbersDiffer → StandOver unit tokens → typed_each at_start Plain unit ≡ Ok t → first_fault (places_of unit) ≡ None
+unit-fine unit tokens t by apart s g = (unit-typed unit tokens (filled_each at_start Plain unit []) t by apart s g refl).no_fault

@@ -1,26 +1,29 @@
 //! The visit of type names, specifiers and members (ISO 9899:1990, 6.5.2, 6.5.5).
 
-ghost use Rattle.std.specs.Prelude.{◌≡◌, Bool, IfOk};
+ghost use Rattle.std.specs.Prelude.{◌≡◌, Ok, IfOk};
 ghost use Rattle.c_tree.specs.declared.place.Place.{Place};
 ghost use Rattle.c_tree.specs.Node.{Node};
 ghost use Rattle.c_tree.specs.Node as nodes;
 ghost use Rattle.c_tree.specs.Views.{maybe_token, node_of, nodes_of, option_node, specifier_shape};
+ghost use Rattle.c_typing.specs.Declarators as declaring;
 ghost use Rattle.c_typing.specs.Moves.{behind_members, behind_specifier, closed};
 ghost use Rattle.c_typing.specs.Moves as moves;
+ghost use Rattle.c_typing.specs.Options.{◌>>=◌ as and_then, unless_fault};
 ghost use Rattle.c_typing.specs.Roles as held_roles;
 ghost use Rattle.c_typing.specs.Rows.{fine_unless, first_clash, members_row};
 ghost use Rattle.c_typing.specs.Scopes as held;
-ghost use Rattle.c_typing.specs.ScopesByCase.{within_specifier};
+ghost use Rattle.c_typing.specs.ScopesByCase.{scoped, scoped_each, scoped_maybe, within_specifier};
 ghost use Rattle.c_typing.specs.Specified as specified;
-ghost use Rattle.c_typing.specs.TablesByCase.{filled_specifier};
-ghost use Rattle.c_typing.specs.Tags.{mentioned, tag_fault};
-ghost use Rattle.c_typing.specs.TypesByCase.{typed_specifier};
+ghost use Rattle.c_typing.specs.TablesByCase.{filled, filled_each, filled_maybe, filled_specifier};
+ghost use Rattle.c_typing.specs.Tags.{body_fault, body_number, body_opened, mentioned, sort_of, tag_fault};
+ghost use Rattle.c_typing.specs.TypesByCase.{typed, typed_each, typed_maybe, typed_specifier};
+ghost use Rattle.c_typing.specs.Types.{Void};
 ghost use Rattle.typed_unit.specs.Tables.{table_of};
 ghost use Rattle.c_unit.specs.Types.{ctype_of};
 ghost use Rattle.c_types.specs.Faults.{Gives};
 ghost use Rattle.c_types.specs.Mentions.{mention_of};
 ghost use Rattle.c_types.specs.Roles.{role_of};
-ghost use Rattle.c_types.specs.Scopes.{scopes_of, with_members};
+ghost use Rattle.c_types.specs.Scopes.{completed, scopes_of, with_members};
 ghost use Rattle.c_types.specs.Views.{tag_sort};
 
 use super::{type_each, type_maybe, type_tree};
@@ -91,9 +94,9 @@ fn type_body<'a>(
     members: &Trees<'a>,
     table: &mut Table<'a>,
 ) -> Result<Ty<'a>, TypeFault>
-    ensures gives { (p : Place) (r : held_roles.Role) → Gives result (typed_specifier (scopes_of scopes.old) r p (nodes.StructBody which (maybe_token tag.entry) (nodes_of members.now))) }
-    ensures scopes { IfOk result (λ _. (r : held_roles.Role) → scopes_of scopes.new ≡ behind_specifier (scopes_of scopes.old) r (nodes.StructBody which (maybe_token tag.entry) (nodes_of members.now)) (within_specifier (scopes_of scopes.old) r (nodes.StructBody which (maybe_token tag.entry) (nodes_of members.now)))) }
-    ensures table { IfOk result (λ _. (r : held_roles.Role) → table_of table.new ≡ filled_specifier (scopes_of scopes.old) r (nodes.StructBody which (maybe_token tag.entry) (nodes_of members.now)) (table_of table.old)) }
+    ensures gives { let v = scopes_of scopes.old in Gives result (unless_fault (body_fault v (sort_of which) (maybe_token tag.entry)) (and_then (typed_each (body_opened v (sort_of which) (maybe_token tag.entry)) (held_roles.Inside (body_number v (sort_of which) (maybe_token tag.entry))) (nodes_of members.now)) (λ _. Ok Void))) }
+    ensures scopes { IfOk result (λ _. let v = scopes_of scopes.old in scopes_of scopes.new ≡ completed (scoped_each (body_opened v (sort_of which) (maybe_token tag.entry)) (held_roles.Inside (body_number v (sort_of which) (maybe_token tag.entry))) (nodes_of members.now)) (body_number v (sort_of which) (maybe_token tag.entry))) }
+    ensures table { IfOk result (λ _. let v = scopes_of scopes.old in table_of table.new ≡ filled_each (body_opened v (sort_of which) (maybe_token tag.entry)) (held_roles.Inside (body_number v (sort_of which) (maybe_token tag.entry))) (nodes_of members.now) (table_of table.old)) }
 {
     let sort = sort_of(which);
     let owner = body_number(scopes, sort, tag);
@@ -140,9 +143,9 @@ fn type_type_name<'a>(
     declarator: Option<&Tree<'a>>,
     table: &mut Table<'a>,
 ) -> Result<Ty<'a>, TypeFault>
-    ensures gives { (p : Place) (r : held_roles.Role) → Gives result (typed_specifier (scopes_of scopes.old) r p (nodes.TypeName (node_of specs.now) (option_node declarator.entry))) }
-    ensures scopes { IfOk result (λ _. (r : held_roles.Role) → scopes_of scopes.new ≡ within_specifier (scopes_of scopes.old) r (nodes.TypeName (node_of specs.now) (option_node declarator.entry))) }
-    ensures table { IfOk result (λ _. (r : held_roles.Role) → table_of table.new ≡ filled_specifier (scopes_of scopes.old) r (nodes.TypeName (node_of specs.now) (option_node declarator.entry)) (table_of table.old)) }
+    ensures gives { let v = scopes_of scopes.old in Gives result (and_then (typed v held_roles.Plain (node_of specs.now)) (λ _. and_then (typed_maybe (scoped v held_roles.Plain (node_of specs.now)) held_roles.Plain (option_node declarator.entry)) (λ _. Ok (declaring.around_maybe (option_node declarator.entry) (specified.specified_type v (node_of specs.now)))))) }
+    ensures scopes { IfOk result (λ _. let v = scopes_of scopes.old in scopes_of scopes.new ≡ scoped_maybe (scoped v held_roles.Plain (node_of specs.now)) held_roles.Plain (option_node declarator.entry)) }
+    ensures table { IfOk result (λ _. let v = scopes_of scopes.old in table_of table.new ≡ filled_maybe (scoped v held_roles.Plain (node_of specs.now)) held_roles.Plain (option_node declarator.entry) (filled v held_roles.Plain (node_of specs.now) (table_of table.old))) }
 {
     let ty = specified_type(arena, scopes, specs)?;
     type_tree(arena, scopes, Role::Plain, specs, table)?;
@@ -159,9 +162,9 @@ fn type_param<'a>(
     declarator: Option<&Tree<'a>>,
     table: &mut Table<'a>,
 ) -> Result<Ty<'a>, TypeFault>
-    ensures gives { (p : Place) (r : held_roles.Role) → Gives result (typed_specifier (scopes_of scopes.old) r p (nodes.Param (node_of specs.now) (option_node declarator.entry))) }
-    ensures scopes { IfOk result (λ _. (r : held_roles.Role) → scopes_of scopes.new ≡ within_specifier (scopes_of scopes.old) r (nodes.Param (node_of specs.now) (option_node declarator.entry))) }
-    ensures table { IfOk result (λ _. (r : held_roles.Role) → table_of table.new ≡ filled_specifier (scopes_of scopes.old) r (nodes.Param (node_of specs.now) (option_node declarator.entry)) (table_of table.old)) }
+    ensures gives { let v = scopes_of scopes.old in Gives result (and_then (typed v held_roles.Plain (node_of specs.now)) (λ _. and_then (typed_maybe (scoped v held_roles.Plain (node_of specs.now)) (held_roles.Formal (specified.specified_type v (node_of specs.now))) (option_node declarator.entry)) (λ _. Ok Void))) }
+    ensures scopes { IfOk result (λ _. let v = scopes_of scopes.old in scopes_of scopes.new ≡ scoped_maybe (scoped v held_roles.Plain (node_of specs.now)) (held_roles.Formal (specified.specified_type v (node_of specs.now))) (option_node declarator.entry)) }
+    ensures table { IfOk result (λ _. let v = scopes_of scopes.old in table_of table.new ≡ filled_maybe (scoped v held_roles.Plain (node_of specs.now)) (held_roles.Formal (specified.specified_type v (node_of specs.now))) (option_node declarator.entry) (filled v held_roles.Plain (node_of specs.now) (table_of table.old))) }
 {
     let ty = specified_type(arena, scopes, specs)?;
     type_tree(arena, scopes, Role::Plain, specs, table)?;
@@ -178,9 +181,9 @@ fn type_enumeration<'a>(
     enumerators: &Trees<'a>,
     table: &mut Table<'a>,
 ) -> Result<Ty<'a>, TypeFault>
-    ensures gives { (p : Place) (r : held_roles.Role) (comma : Bool) → Gives result (typed_specifier (scopes_of scopes.old) r p (nodes.EnumBody (maybe_token tag.entry) (nodes_of enumerators.now) comma)) }
-    ensures scopes { IfOk result (λ _. (r : held_roles.Role) (comma : Bool) → scopes_of scopes.new ≡ within_specifier (scopes_of scopes.old) r (nodes.EnumBody (maybe_token tag.entry) (nodes_of enumerators.now) comma)) }
-    ensures table { IfOk result (λ _. (r : held_roles.Role) (comma : Bool) → table_of table.new ≡ filled_specifier (scopes_of scopes.old) r (nodes.EnumBody (maybe_token tag.entry) (nodes_of enumerators.now) comma) (table_of table.old)) }
+    ensures gives { let v = scopes_of scopes.old in Gives result (unless_fault (body_fault v held.Enums (maybe_token tag.entry)) (and_then (typed_each (body_opened v held.Enums (maybe_token tag.entry)) held_roles.Plain (nodes_of enumerators.now)) (λ _. Ok Void))) }
+    ensures scopes { IfOk result (λ _. let v = scopes_of scopes.old in scopes_of scopes.new ≡ scoped_each (body_opened v held.Enums (maybe_token tag.entry)) held_roles.Plain (nodes_of enumerators.now)) }
+    ensures table { IfOk result (λ _. let v = scopes_of scopes.old in table_of table.new ≡ filled_each (body_opened v held.Enums (maybe_token tag.entry)) held_roles.Plain (nodes_of enumerators.now) (table_of table.old)) }
 {
     check_body(scopes, Sort::Enums, tag)?;
     open_body(scopes, Sort::Enums, tag)?;

@@ -5,7 +5,7 @@ use Rattle.c_tree.specs.Views.{nodes_in, nodes_of}
 use Rattle.typed_unit.specs.Functions.{function_of}
 use Rattle.typed_unit.specs.Tables.{table_of}
 use Rattle.c_types.specs.Scopes.{scopes_of}
-use Rattle.c_types.proofs.UnitSteps.{begins, ends, fails-there, one-further, still-faulty}
+use Rattle.c_types.proofs.UnitSteps.{all-defined, begins, ends, fails-there, one-further, still-faulty}
 use Rattle.c_types.proofs.units.type_definitions.Goals as goal
 
 pub loop-tree-init : goal.loop-tree-init
@@ -33,3 +33,6 @@ returns-clause-scopes c = (ends _ _ _ _ _ (out-Trees c.args.chunks.now).all.now 
 
 pub returns-clause-table : goal.returns-clause-table
 returns-clause-table c = (ends _ _ _ _ _ (out-Trees c.args.chunks.now).all.now c.loop-tree.tree-index _ _ c.loop-tree-test.false c.loop-tree.invariant.left).cells
+
+pub returns-clause-functions : goal.returns-clause-functions
+returns-clause-functions c = all-defined _ _ _ _ _ _ _ (ends _ _ _ _ _ (out-Trees c.args.chunks.now).all.now c.loop-tree.tree-index _ _ c.loop-tree-test.false c.loop-tree.invariant.left)
