@@ -6,3 +6,7 @@ mod Steps
 mod Bare
 mod Marks
 mod Kept
+mod StaticNames
+mod UnitSteps
+mod UnnamedMembers
+mod Formals

@@ -87,10 +87,9 @@ impl<T: Named + Copy> Entries<T> {
         ensures { result.now ≡ drop len self.now }
     {
         if len < self.all.len() {
-            &self.all[len..]
-        } else {
-            &[]
+            return &self.all[len..];
         }
+        &[]
     }
 
     /// Copies of the entries behind the first `len` in place of what was there.

@@ -60,6 +60,16 @@ impl<'a> Role<'a> {
         }
     }
 
+    // Whether the parameters of the function that is defined are on the way to the name.
+    fn leads_to_formals(self) -> bool
+        ensures { inner_role (role_of self.entry) ≡ cond result held.Formals held.Plain }
+    {
+        match self {
+            Role::Defines { .. } | Role::Formals => true,
+            _ => false,
+        }
+    }
+
     /// The role of what stands nearer to the name: the own parameters of a function are those beside it.
     pub fn inner(self) -> Role<'a>
         ensures { role_of result ≡ inner_role (role_of self.entry) }
@@ -74,10 +84,10 @@ impl<'a> Role<'a> {
     pub fn toward(self, inner: &Tree) -> Role<'a>
         ensures { role_of result ≡ cond (is_bare (node_of inner.now)) held.Plain (inner_role (role_of self.entry)) }
     {
-        if is_bare(inner) {
-            Role::Plain
+        if self.leads_to_formals() && !is_bare(inner) {
+            Role::Formals
         } else {
-            self.inner()
+            Role::Plain
         }
     }
 
@@ -85,8 +95,8 @@ impl<'a> Role<'a> {
     pub fn beside(self, inner: &Tree) -> Role<'a>
         ensures { role_of result ≡ cond (is_bare (node_of inner.now)) (inner_role (role_of self.entry)) held.Plain }
     {
-        if is_bare(inner) {
-            self.inner()
+        if self.leads_to_formals() && is_bare(inner) {
+            Role::Formals
         } else {
             Role::Plain
         }

@@ -7,7 +7,7 @@ ghost use Rattle.c_typing.specs.Options.{if_there};
 ghost use Rattle.c_typing.specs.Specified.{basic_in, basic_type, keyword_in, one_type_word, type_words, named_type, tagged_type, item_type, other_type, items_type, specified_type};
 ghost use Rattle.c_unit.specs.Types.{ctype_of};
 ghost use Rattle.c_types.specs.Scopes.{scopes_of};
-ghost use Rattle.c_types.specs.Specified.{lines_of};
+ghost use Rattle.c_types.specs.Specified.{basic_of, lines_of};
 
 use crate::mentions::{Mention, aggregate, body_number, sort_of, tag_number};
 use crate::scopes::Scopes;
@@ -18,85 +18,93 @@ use c_tree::{Arena, Keyword, Kind, Part, Specifier, Token, Tree, Trees};
 use c_unit::{Arithmetic, Ty};
 use std::alloc::AllocError;
 
+/// A type that is written with keywords alone.
+#[derive(Clone, Copy)]
+enum Basic {
+    Void,
+    Arith(Arithmetic),
+    VaList,
+}
+
 /// The basic types, each by its words in one order. They may stand in any order.
-const BASIC_TYPES: &[(&[Keyword], Ty<'static>)] = &[
-    (&[Keyword::Int], Ty::Arith(Arithmetic::Int)),
-    (&[Keyword::Char], Ty::Arith(Arithmetic::Char)),
-    (&[Keyword::Void], Ty::Void),
+const BASIC_TYPES: &[(&[Keyword], Basic)] = &[
+    (&[Keyword::Int], Basic::Arith(Arithmetic::Int)),
+    (&[Keyword::Char], Basic::Arith(Arithmetic::Char)),
+    (&[Keyword::Void], Basic::Void),
     (
         &[Keyword::Unsigned, Keyword::Long],
-        Ty::Arith(Arithmetic::UnsignedLong),
+        Basic::Arith(Arithmetic::UnsignedLong),
     ),
     (
         &[Keyword::Unsigned, Keyword::Int],
-        Ty::Arith(Arithmetic::UnsignedInt),
+        Basic::Arith(Arithmetic::UnsignedInt),
     ),
     (
         &[Keyword::Unsigned, Keyword::Char],
-        Ty::Arith(Arithmetic::UnsignedChar),
+        Basic::Arith(Arithmetic::UnsignedChar),
     ),
-    (&[Keyword::Long], Ty::Arith(Arithmetic::Long)),
-    (&[Keyword::Double], Ty::Arith(Arithmetic::Double)),
-    (&[Keyword::Unsigned], Ty::Arith(Arithmetic::UnsignedInt)),
+    (&[Keyword::Long], Basic::Arith(Arithmetic::Long)),
+    (&[Keyword::Double], Basic::Arith(Arithmetic::Double)),
+    (&[Keyword::Unsigned], Basic::Arith(Arithmetic::UnsignedInt)),
     (
         &[Keyword::Signed, Keyword::Char],
-        Ty::Arith(Arithmetic::SignedChar),
+        Basic::Arith(Arithmetic::SignedChar),
     ),
-    (&[Keyword::Short], Ty::Arith(Arithmetic::Short)),
+    (&[Keyword::Short], Basic::Arith(Arithmetic::Short)),
     (
         &[Keyword::Short, Keyword::Int],
-        Ty::Arith(Arithmetic::Short),
+        Basic::Arith(Arithmetic::Short),
     ),
     (
         &[Keyword::Signed, Keyword::Short],
-        Ty::Arith(Arithmetic::Short),
+        Basic::Arith(Arithmetic::Short),
     ),
     (
         &[Keyword::Signed, Keyword::Short, Keyword::Int],
-        Ty::Arith(Arithmetic::Short),
+        Basic::Arith(Arithmetic::Short),
     ),
     (
         &[Keyword::Unsigned, Keyword::Short],
-        Ty::Arith(Arithmetic::UnsignedShort),
+        Basic::Arith(Arithmetic::UnsignedShort),
     ),
     (
         &[Keyword::Unsigned, Keyword::Short, Keyword::Int],
-        Ty::Arith(Arithmetic::UnsignedShort),
+        Basic::Arith(Arithmetic::UnsignedShort),
     ),
-    (&[Keyword::Signed], Ty::Arith(Arithmetic::Int)),
-    (&[Keyword::Signed, Keyword::Int], Ty::Arith(Arithmetic::Int)),
-    (&[Keyword::Long, Keyword::Int], Ty::Arith(Arithmetic::Long)),
+    (&[Keyword::Signed], Basic::Arith(Arithmetic::Int)),
+    (&[Keyword::Signed, Keyword::Int], Basic::Arith(Arithmetic::Int)),
+    (&[Keyword::Long, Keyword::Int], Basic::Arith(Arithmetic::Long)),
     (
         &[Keyword::Signed, Keyword::Long],
-        Ty::Arith(Arithmetic::Long),
+        Basic::Arith(Arithmetic::Long),
     ),
     (
         &[Keyword::Signed, Keyword::Long, Keyword::Int],
-        Ty::Arith(Arithmetic::Long),
+        Basic::Arith(Arithmetic::Long),
     ),
     (
         &[Keyword::Unsigned, Keyword::Long, Keyword::Int],
-        Ty::Arith(Arithmetic::UnsignedLong),
+        Basic::Arith(Arithmetic::UnsignedLong),
     ),
     (
         &[Keyword::Long, Keyword::Long],
-        Ty::Arith(Arithmetic::LongLong),
+        Basic::Arith(Arithmetic::LongLong),
     ),
     (
         &[Keyword::Long, Keyword::Long, Keyword::Int],
-        Ty::Arith(Arithmetic::LongLong),
+        Basic::Arith(Arithmetic::LongLong),
     ),
     (
         &[Keyword::Signed, Keyword::Long, Keyword::Long],
-        Ty::Arith(Arithmetic::LongLong),
+        Basic::Arith(Arithmetic::LongLong),
     ),
     (
         &[Keyword::Signed, Keyword::Long, Keyword::Long, Keyword::Int],
-        Ty::Arith(Arithmetic::LongLong),
+        Basic::Arith(Arithmetic::LongLong),
     ),
     (
         &[Keyword::Unsigned, Keyword::Long, Keyword::Long],
-        Ty::Arith(Arithmetic::UnsignedLongLong),
+        Basic::Arith(Arithmetic::UnsignedLongLong),
     ),
     (
         &[
@@ -105,49 +113,53 @@ const BASIC_TYPES: &[(&[Keyword], Ty<'static>)] = &[
             Keyword::Long,
             Keyword::Int,
         ],
-        Ty::Arith(Arithmetic::UnsignedLongLong),
+        Basic::Arith(Arithmetic::UnsignedLongLong),
     ),
-    (&[Keyword::Int128], Ty::Arith(Arithmetic::Int128)),
+    (&[Keyword::Int128], Basic::Arith(Arithmetic::Int128)),
     (
         &[Keyword::Signed, Keyword::Int128],
-        Ty::Arith(Arithmetic::Int128),
+        Basic::Arith(Arithmetic::Int128),
     ),
     (
         &[Keyword::Unsigned, Keyword::Int128],
-        Ty::Arith(Arithmetic::UnsignedInt128),
+        Basic::Arith(Arithmetic::UnsignedInt128),
     ),
-    (&[Keyword::Float], Ty::Arith(Arithmetic::Float)),
+    (&[Keyword::Float], Basic::Arith(Arithmetic::Float)),
     (
         &[Keyword::Long, Keyword::Double],
-        Ty::Arith(Arithmetic::LongDouble),
+        Basic::Arith(Arithmetic::LongDouble),
     ),
-    (&[Keyword::Bool], Ty::Arith(Arithmetic::Boolean)),
-    (&[Keyword::Float32], Ty::Arith(Arithmetic::Float32)),
-    (&[Keyword::Float32x], Ty::Arith(Arithmetic::Float32x)),
-    (&[Keyword::Float64], Ty::Arith(Arithmetic::Float64)),
-    (&[Keyword::Float64x], Ty::Arith(Arithmetic::Float64x)),
-    (&[Keyword::Float128], Ty::Arith(Arithmetic::Float128)),
-    (&[Keyword::GnuFloat128], Ty::Arith(Arithmetic::Float128)),
-    (&[Keyword::BuiltinVaList], Ty::VaList),
+    (&[Keyword::Bool], Basic::Arith(Arithmetic::Boolean)),
+    (&[Keyword::Float32], Basic::Arith(Arithmetic::Float32)),
+    (&[Keyword::Float32x], Basic::Arith(Arithmetic::Float32x)),
+    (&[Keyword::Float64], Basic::Arith(Arithmetic::Float64)),
+    (&[Keyword::Float64x], Basic::Arith(Arithmetic::Float64x)),
+    (&[Keyword::Float128], Basic::Arith(Arithmetic::Float128)),
+    (&[Keyword::GnuFloat128], Basic::Arith(Arithmetic::Float128)),
+    (&[Keyword::BuiltinVaList], Basic::VaList),
 ];
 
 /// The type of the first line with these words, in any order.
-fn basic_in<'a>(words: &[Keyword], lines: &[(&[Keyword], Ty<'a>)]) -> Ty<'a>
-    ensures { ctype_of result ≡ basic_in words.now (lines_of lines.now) }
+fn basic_in(words: &[Keyword], lines: &[(&[Keyword], Basic)]) -> Basic
+    ensures { basic_of result ≡ basic_in words.now (lines_of lines.now) }
 {
     for line in lines {
         if same_words(words, line.0) {
             return line.1;
         }
     }
-    Ty::Void
+    Basic::Void
 }
 
 /// The basic type that is written with these words.
 fn basic_type<'a>(words: &[Keyword]) -> Ty<'a>
     ensures { ctype_of result ≡ basic_type words.now }
 {
-    basic_in(words, BASIC_TYPES)
+    match basic_in(words, BASIC_TYPES) {
+        Basic::Void => Ty::Void,
+        Basic::Arith(kind) => Ty::Arith(kind),
+        Basic::VaList => Ty::VaList,
+    }
 }
 
 /// Adds the word of a basic type that a specifier is.

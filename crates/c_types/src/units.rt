@@ -8,11 +8,12 @@ ghost use Rattle.c_typing.specs.Functions as functions_by;
 ghost use Rattle.c_typing.specs.Options.{if_there};
 ghost use Rattle.c_typing.specs.Roles as held;
 ghost use Rattle.c_typing.specs.Scopes as names;
-ghost use Rattle.c_typing.specs.ScopesByCase.{scoped};
-ghost use Rattle.c_typing.specs.TablesByCase.{filled};
-ghost use Rattle.c_typing.specs.TypesByCase.{typed};
-ghost use Rattle.c_typing.specs.Unit.{AreNumbered, IsFirstFault, places_of};
+ghost use Rattle.c_typing.specs.ScopesByCase.{scoped, scoped_each};
+ghost use Rattle.c_typing.specs.TablesByCase.{filled, filled_each};
+ghost use Rattle.c_typing.specs.TypesByCase.{typed, typed_each};
+ghost use Rattle.c_typing.specs.Unit.{IsFirstFault, places_of};
 ghost use Rattle.typed_unit.specs.Functions.{function_of};
+ghost use Rattle.typed_unit.specs.Places.{StandOver};
 ghost use Rattle.typed_unit.specs.Tables.{table_of};
 ghost use Rattle.c_types.specs.Faults.{Gives, fault_of};
 ghost use Rattle.c_types.specs.Scopes.{scopes_of};
@@ -24,8 +25,8 @@ use crate::roles::Role;
 use crate::scopes::Scopes;
 use crate::statics::Statics;
 use crate::visit::type_tree;
-use c_tree::{Arena, Tree};
-use c_typing::{functions_by_case, scopes_stay, units_by_case};
+use c_tree::{Arena, Tree, Trees};
+use c_typing::{functions_by_case, numbers_differ, scopes_stay, units_by_case};
 use c_unit::{Ty, Unit};
 use std::alloc::{AllocError, Global};
 use typed_unit::{Table, TypedFunction, TypedUnit};
@@ -66,7 +67,50 @@ fn type_external<'a>(
     Ok(ty)
 }
 
-/// Types a unit whose nodes have different numbers: the type of each expression, type name and declared name, the variables
+/// Types an external definition, notes the names that it makes `static`, and adds the function that it defines, if it is one.
+fn type_definition<'a>(
+    arena: &'a Arena,
+    alloc: Global,
+    scopes: &mut Scopes<'a>,
+    statics: &mut Statics,
+    tree: &Tree<'a>,
+    table: &mut Table<'a>,
+    functions: &mut Vec<TypedFunction<'a>>,
+) -> Result<Ty<'a>, TypeFault>
+    requires statics { KnowsStatics statics.old (scopes_of scopes.old) }
+    ensures gives { Gives result (typed (scopes_of scopes.old) held.Plain (node_of tree.now)) }
+    ensures scopes { IfOk result (λ _. scopes_of scopes.new ≡ scoped (scopes_of scopes.old) held.Plain (node_of tree.now)) }
+    ensures table { IfOk result (λ _. table_of table.new ≡ filled (scopes_of scopes.old) held.Plain (node_of tree.now) (table_of table.old)) }
+    ensures statics { IfOk result (λ _. KnowsStatics statics.new (scopes_of scopes.new)) }
+    ensures functions { IfOk result (λ _. map function_of functions.new.items ≡ map function_of functions.old.items ++ if_there (functions_by.defined_in (scopes_of scopes.old) (node_of tree.now)) [] (λ f. f ∷ [])) }
+{
+    add_function(alloc, statics, tree, functions)?;
+    type_external(arena, scopes, statics, tree, table)
+}
+
+/// Types external definitions one after the other.
+fn type_definitions<'a>(
+    arena: &'a Arena,
+    alloc: Global,
+    scopes: &mut Scopes<'a>,
+    statics: &mut Statics,
+    chunks: &Trees<'a>,
+    table: &mut Table<'a>,
+    functions: &mut Vec<TypedFunction<'a>>,
+) -> Result<Ty<'a>, TypeFault>
+    requires statics { KnowsStatics statics.old (scopes_of scopes.old) }
+    ensures gives { Gives result (typed_each (scopes_of scopes.old) held.Plain (nodes_of chunks.now)) }
+    ensures scopes { IfOk result (λ _. scopes_of scopes.new ≡ scoped_each (scopes_of scopes.old) held.Plain (nodes_of chunks.now)) }
+    ensures table { IfOk result (λ _. table_of table.new ≡ filled_each (scopes_of scopes.old) held.Plain (nodes_of chunks.now) (table_of table.old)) }
+    ensures functions { IfOk result (λ _. map function_of functions.new.items ≡ map function_of functions.old.items ++ functions_by.defined_each (scopes_of scopes.old) (nodes_of chunks.now)) }
+{
+    for tree in chunks.all {
+        type_definition(arena, alloc, scopes, statics, tree, table, functions)?;
+    }
+    Ok(Ty::Void)
+}
+
+/// Types a unit whose trees stand over its tokens: the type of each expression, type name and declared name, the variables
 /// behind the names, the tags, and the functions that it defines.
 ///
 /// Each of the seven faults comes exactly where it is the first in the order of the text.
@@ -75,7 +119,7 @@ pub fn type_unit<'a>(
     alloc: Global,
     unit: Unit<'a>,
 ) -> Result<TypedUnit<'a>, TypeFault>
-    requires numbers { AreNumbered (nodes_of unit.chunks) }
+    requires standing { StandOver (nodes_of unit.chunks) unit.tokens.now }
     ensures unit { IfOk result (λ typed. typed.unit ≡ unit.entry) }
     ensures fine { IfOk result (λ _. first_fault (places_of (nodes_of unit.entry.chunks)) ≡ None) }
     ensures functions { IfOk result (λ typed. map function_of typed.functions.items ≡ functions_by.functions_of (nodes_of unit.entry.chunks)) }
@@ -83,13 +127,21 @@ pub fn type_unit<'a>(
 {
     units_by_case();
     functions_by_case();
+    numbers_differ();
     let mut scopes = Scopes::new(alloc);
     let mut statics = Statics::new(alloc);
     let mut table = Table::new(alloc);
     let mut functions = Vec::new(alloc);
-    for tree in unit.chunks.all {
-        add_function(alloc, &statics, tree, &mut functions)?;
-        type_external(arena, &mut scopes, &mut statics, tree, &mut table)?;
+    match type_definitions(
+        arena,
+        alloc,
+        &mut scopes,
+        &mut statics,
+        &unit.chunks,
+        &mut table,
+        &mut functions,
+    ) {
+        Err(fault) => Err(fault),
+        Ok(_) => Ok(TypedUnit::new(unit, functions, table, scopes.into_tags())),
     }
-    Ok(TypedUnit::new(unit, functions, table, scopes.into_tags()))
 }

@@ -1,6 +1,6 @@
 use Rattle.std.proofs.Common.{ap, ◌≡◌, rules}
 use Rattle.std.specs.Option.{option_map}
-use Rattle.c_tree.specs.Views.{shape_of, primary_shape, nodes_of, statement_shape, node_of, option_node, iteration_shape}
+use Rattle.c_tree.specs.Views.{shape_of, primary_shape, nodes_of, statement_shape, node_of, option_node, iteration_shape, specifier_shape}
 use Rattle.c_unit.specs.Types.{ctype_of}
 use Rattle.c_unit.specs.Vars.{cvar_of}
 use Rattle.typed_unit.specs.Tables.{table_of}
@@ -8,7 +8,7 @@ use Rattle.c_types.specs.Roles.{role_of}
 use Rattle.c_types.specs.Scopes.{scopes_of}
 use Rattle.c_types.proofs.Kept.{primary-kept}
 use Rattle.c_types.proofs.Marks.{block_end, for_end, params_end}
-use Rattle.c_tree.specs.Node.{If, For, ForDeclaration}
+use Rattle.c_tree.specs.Node.{If, For, ForDeclaration, TypeName, Param}
 use Rattle.c_types.proofs.visit.+typing.Goals as goal
 
 pub type_tree-returns-in_ok-keep-in-Primary-clause-table : goal.type_tree-returns-in_ok-keep-in-Primary-clause-table
@@ -58,3 +58,22 @@ operations::type_operation-returns-in-Cond-clause-gives t c = rw c.in-Cond.is c.
 
 pub operations::type_operation-returns-in-Assign-clause-gives : goal.operations::type_operation-returns-in-Assign-clause-gives
 operations::type_operation-returns-in-Assign-clause-gives t c = rw c.in-Assign.is c.type_assign.ensures.gives
+
+pub specifiers::type_specifier-returns-in-TypeName-clause-gives : goal.specifiers::type_specifier-returns-in-TypeName-clause-gives
+specifiers::type_specifier-returns-in-TypeName-clause-gives t c p =
+    let e : specifier_shape c.args.kind.now ≡ TypeName (node_of c.in-TypeName.specs.now) (option_node c.in-TypeName.declarator) = search rules in
+    rw e c.type_type_name.ensures.gives
+
+pub specifiers::type_specifier-returns-in-Param-clause-gives : goal.specifiers::type_specifier-returns-in-Param-clause-gives
+specifiers::type_specifier-returns-in-Param-clause-gives t c p =
+    let e : specifier_shape c.args.kind.now ≡ Param (node_of c.in-Param.specs.now) (option_node c.in-Param.declarator) = search rules in
+    rw e c.type_param.ensures.gives
+
+pub specifiers::type_specifier-returns-in-StructBody-clause-gives : goal.specifiers::type_specifier-returns-in-StructBody-clause-gives
+specifiers::type_specifier-returns-in-StructBody-clause-gives t c p = rw c.in-StructBody.is c.type_body.ensures.gives
+
+pub specifiers::type_specifier-returns-in-EnumBody-clause-gives : goal.specifiers::type_specifier-returns-in-EnumBody-clause-gives
+specifiers::type_specifier-returns-in-EnumBody-clause-gives t c p = rw c.in-EnumBody.is c.type_enumeration.ensures.gives
+
+pub specifiers::type_specifier-returns-in-StructDeclaration-clause-gives : goal.specifiers::type_specifier-returns-in-StructDeclaration-clause-gives
+specifiers::type_specifier-returns-in-StructDeclaration-clause-gives t c p = rw c.in-StructDeclaration.is (c.type_members.ensures.gives p)
