@@ -1,4 +1,4 @@
-use Rattle.std.proofs.Common.{◌≡◌, ℕ, ◌+◌, ◌*◌, drop, Option, None, Some}
+use Rattle.std.proofs.Common.{◌≡◌, ℕ, ◌+◌, ◌*◌, max, drop, Option, None, Some}
 use Rattle.std.specs.Borrow.{Bor}
 use Rattle.c_tree.specs.declared.tree.Tree.{Tree, size-Tree}
 use Rattle.c_tree.specs.declared.tree.Trees.{size-Trees}
@@ -21,6 +21,7 @@ use Rattle.c_types.specs.Roles.{role_of}
 use Rattle.c_types.specs.Scopes.{scopes_of}
 use Rattle.c_types.proofs.visit.+typing.Given as goal
 
+-- the size of a tree is its depth
 abbrev maybe_size : Option (Bor Tree) → ℕ
 maybe_size None = 0
 maybe_size (Some t) = 8 * size-Tree t.now + 1
@@ -29,10 +30,10 @@ abbrev pub decreases-initializers::type_initializer : goal.decreases-initializer
 decreases-initializers::type_initializer l = 8 * size-Initializer l.kind.now
 
 abbrev pub decreases-iterations::type_for : goal.decreases-iterations::type_for
-decreases-iterations::type_for l = 8 * size-Tree l.body.now + maybe_size l.first + maybe_size l.condition + maybe_size l.step + 1
+decreases-iterations::type_for l = max (8 * size-Tree l.body.now) (max (maybe_size l.first) (max (maybe_size l.condition) (maybe_size l.step))) + 1
 
 abbrev pub decreases-iterations::type_for_declaration : goal.decreases-iterations::type_for_declaration
-decreases-iterations::type_for_declaration l = 8 * (size-Tree l.declaration.now + size-Tree l.body.now) + maybe_size l.condition + maybe_size l.step + 1
+decreases-iterations::type_for_declaration l = max (8 * size-Tree l.declaration.now) (max (8 * size-Tree l.body.now) (max (maybe_size l.condition) (maybe_size l.step))) + 1
 
 abbrev pub decreases-iterations::type_iteration : goal.decreases-iterations::type_iteration
 decreases-iterations::type_iteration l = 8 * size-Iteration l.kind.now
@@ -41,16 +42,16 @@ abbrev pub decreases-jumps::type_jump : goal.decreases-jumps::type_jump
 decreases-jumps::type_jump l = 8 * size-Jump l.kind.now
 
 abbrev pub decreases-operations::type_assign : goal.decreases-operations::type_assign
-decreases-operations::type_assign l = 8 * (size-Tree l.left.now + size-Tree l.right.now) + 1
+decreases-operations::type_assign l = max (8 * size-Tree l.left.now) (8 * size-Tree l.right.now) + 1
 
 abbrev pub decreases-operations::type_binary : goal.decreases-operations::type_binary
-decreases-operations::type_binary l = 8 * (size-Tree l.left.now + size-Tree l.right.now) + 1
+decreases-operations::type_binary l = max (8 * size-Tree l.left.now) (8 * size-Tree l.right.now) + 1
 
 abbrev pub decreases-operations::type_cast : goal.decreases-operations::type_cast
-decreases-operations::type_cast l = 8 * (size-Tree l.to.now + size-Tree l.operand.now) + 1
+decreases-operations::type_cast l = max (8 * size-Tree l.to.now) (8 * size-Tree l.operand.now) + 1
 
 abbrev pub decreases-operations::type_cond : goal.decreases-operations::type_cond
-decreases-operations::type_cond l = 8 * (size-Tree l.condition.now + size-Tree l.second.now + size-Tree l.third.now) + 1
+decreases-operations::type_cond l = max (8 * size-Tree l.condition.now) (max (8 * size-Tree l.second.now) (8 * size-Tree l.third.now)) + 1
 
 abbrev pub decreases-operations::type_operation : goal.decreases-operations::type_operation
 decreases-operations::type_operation l = 8 * size-Operation l.kind.now
@@ -71,10 +72,10 @@ abbrev pub decreases-postfixes::type_arrow : goal.decreases-postfixes::type_arro
 decreases-postfixes::type_arrow l = 8 * size-Tree l.operand.now + 1
 
 abbrev pub decreases-postfixes::type_call : goal.decreases-postfixes::type_call
-decreases-postfixes::type_call l = 8 * (size-Tree l.callee.now + size-Trees l.arguments.now) + 1
+decreases-postfixes::type_call l = max (8 * size-Tree l.callee.now) (8 * size-Trees l.arguments.now) + 1
 
 abbrev pub decreases-postfixes::type_index : goal.decreases-postfixes::type_index
-decreases-postfixes::type_index l = 8 * (size-Tree l.array.now + size-Tree l.index.now) + 1
+decreases-postfixes::type_index l = max (8 * size-Tree l.array.now) (8 * size-Tree l.index.now) + 1
 
 abbrev pub decreases-postfixes::type_member : goal.decreases-postfixes::type_member
 decreases-postfixes::type_member l = 8 * size-Tree l.operand.now + 1
@@ -86,13 +87,13 @@ abbrev pub decreases-statements::type_block : goal.decreases-statements::type_bl
 decreases-statements::type_block l = 8 * size-Trees l.items.now + 1
 
 abbrev pub decreases-statements::type_if : goal.decreases-statements::type_if
-decreases-statements::type_if l = 8 * (size-Tree l.condition.now + size-Tree l.body.now) + maybe_size l.otherwise + 1
+decreases-statements::type_if l = max (8 * size-Tree l.condition.now) (max (8 * size-Tree l.body.now) (maybe_size l.otherwise)) + 1
 
 abbrev pub decreases-statements::type_statement : goal.decreases-statements::type_statement
 decreases-statements::type_statement l = 8 * size-Statement l.kind.now
 
 abbrev pub decreases-type_both : goal.decreases-type_both
-decreases-type_both l = 8 * (size-Tree l.first.now + size-Tree l.second.now) + 1
+decreases-type_both l = max (8 * size-Tree l.first.now) (8 * size-Tree l.second.now) + 1
 
 abbrev pub decreases-type_each : goal.decreases-type_each
 decreases-type_each l = 8 * size-Trees l.trees.now
@@ -116,13 +117,13 @@ abbrev pub decreases-specifiers::type_body : goal.decreases-specifiers::type_bod
 decreases-specifiers::type_body l = 8 * size-Trees l.members.now + 1
 
 abbrev pub decreases-specifiers::type_members : goal.decreases-specifiers::type_members
-decreases-specifiers::type_members l = 8 * (size-Tree l.specs.now + size-Trees l.declarators.now) + 1
+decreases-specifiers::type_members l = max (8 * size-Tree l.specs.now) (8 * size-Trees l.declarators.now) + 1
 
 abbrev pub decreases-specifiers::type_type_name : goal.decreases-specifiers::type_type_name
-decreases-specifiers::type_type_name l = 8 * size-Tree l.specs.now + maybe_size l.declarator + 1
+decreases-specifiers::type_type_name l = max (8 * size-Tree l.specs.now) (maybe_size l.declarator) + 1
 
 abbrev pub decreases-specifiers::type_param : goal.decreases-specifiers::type_param
-decreases-specifiers::type_param l = 8 * size-Tree l.specs.now + maybe_size l.declarator + 1
+decreases-specifiers::type_param l = max (8 * size-Tree l.specs.now) (maybe_size l.declarator) + 1
 
 abbrev pub decreases-specifiers::type_enumeration : goal.decreases-specifiers::type_enumeration
 decreases-specifiers::type_enumeration l = 8 * size-Trees l.enumerators.now + 1
