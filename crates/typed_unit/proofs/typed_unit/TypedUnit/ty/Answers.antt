@@ -1,4 +1,4 @@
-use Rattle.std.proofs.Common.{◌≡◌, ◌∙◌, ap, sym, Bor, Some}
+use Rattle.std.proofs.Common.{◌∙◌, ap, sym, Bor, Some}
 use Rattle.std.proofs.Math.Logic.{∥∥₁_elim}
 use Rattle.std.specs.Option.{option_map}
 use Rattle.c_tree.specs.Views.{node_of, nodes_of}
