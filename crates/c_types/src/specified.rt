@@ -72,8 +72,14 @@ const BASIC_TYPES: &[(&[Keyword], Basic)] = &[
         Basic::Arith(Arithmetic::UnsignedShort),
     ),
     (&[Keyword::Signed], Basic::Arith(Arithmetic::Int)),
-    (&[Keyword::Signed, Keyword::Int], Basic::Arith(Arithmetic::Int)),
-    (&[Keyword::Long, Keyword::Int], Basic::Arith(Arithmetic::Long)),
+    (
+        &[Keyword::Signed, Keyword::Int],
+        Basic::Arith(Arithmetic::Int),
+    ),
+    (
+        &[Keyword::Long, Keyword::Int],
+        Basic::Arith(Arithmetic::Long),
+    ),
     (
         &[Keyword::Signed, Keyword::Long],
         Basic::Arith(Arithmetic::Long),

@@ -18,7 +18,6 @@ data Around : Type 0 where
   ArrayOf : Around
   Giving : Around
 
-
 abbrev inside : CType → List Around × Base
 inside Void = ([], Nothing)
 inside (Arith k) = ([], Number k)

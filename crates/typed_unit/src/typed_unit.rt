@@ -17,9 +17,9 @@ ghost use Rattle.c_unit.specs.Vars.{cvar_of};
 
 use crate::functions::TypedFunction;
 use crate::table::Table;
-use c_unit::{Ty, Unit, Var};
 use c_tree::{Kind, Primary, Tree};
 use c_typing::{cells_are_right, places_are_typed};
+use c_unit::{Ty, Unit, Var};
 
 /// A translation unit without a fault of typing: the types of its expressions, the variables behind its names, and the tags of
 /// its structures and unions (ISO 9899:1990, 6.1.2).

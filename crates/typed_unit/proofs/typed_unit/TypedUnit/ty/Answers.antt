@@ -1,4 +1,4 @@
-use Rattle.std.proofs.Common.{◌≡◌, ◌∙◌, ap, sym, Bor, Some}
+use Rattle.std.proofs.Common.{◌∙◌, ap, sym, Bor, Some}
 use Rattle.std.proofs.Math.Logic.{∥∥₁_elim}
 use Rattle.std.specs.Option.{option_map}
 use Rattle.c_tree.specs.Views.{node_of, nodes_of}
@@ -16,8 +16,8 @@ returns-in-Some c v r h =
     let e = flat (node_of c.args.tree.now) in
     ∥∥₁_elim c.args.self.now.typing (maybe-type-set _ _)
     (λ t.
-        let x = cell-at (nodes_of c.args.self.now.unit.chunks) table v r e c.cells_are_right.ensures c.places_are_typed.ensures t h.stands h.kept in
-        x.1 ∙ ap Some (some-type (cell_of c.in-Some.cell.now) x.0 (var_at v r e) (sym (ap (option_map (λ (k : Bor Cell). cell_of k.now)) c.in-Some.is) ∙ c.cell.ensures ∙ x.2)))
+    let x = cell-at (nodes_of c.args.self.now.unit.chunks) table v r e c.cells_are_right.ensures c.places_are_typed.ensures t h.stands h.kept in
+    x.1 ∙ ap Some (some-type (cell_of c.in-Some.cell.now) x.0 (var_at v r e) (sym (ap (option_map (λ (k : Bor Cell). cell_of k.now)) c.in-Some.is) ∙ c.cell.ensures ∙ x.2)))
 
 pub returns : goal.returns
 returns c v r h =
@@ -25,5 +25,5 @@ returns c v r h =
     let e = flat (node_of c.args.tree.now) in
     ∥∥₁_elim c.args.self.now.typing (maybe-type-set _ _)
     (λ t.
-        let x = cell-at (nodes_of c.args.self.now.unit.chunks) table v r e c.cells_are_right.ensures c.places_are_typed.ensures t h.stands h.kept in
-        absurd (nothing _ _ (sym (ap (option_map (λ (k : Bor Cell). cell_of k.now)) c.in_default.is) ∙ c.cell.ensures) x.2))
+    let x = cell-at (nodes_of c.args.self.now.unit.chunks) table v r e c.cells_are_right.ensures c.places_are_typed.ensures t h.stands h.kept in
+    absurd (nothing _ _ (sym (ap (option_map (λ (k : Bor Cell). cell_of k.now)) c.in_default.is) ∙ c.cell.ensures) x.2))

@@ -15,4 +15,4 @@ returns-then-is_identifier c v r m =
     let named : is_identifier e ≡ true = sym c.is_identifier.ensures ∙ c.if-is_identifier.true in
     chosen (is_identifier e) (option_map cvar_of c.var.result) (var_at v r (flat e)) named
     (var-placed (nodes_of c.args.self.now.unit.chunks) (table_of c.args.self.now.table) v r (flat e) (option_map cvar_of c.var.result)
-        c.cells_are_right.ensures c.places_are_typed.ensures c.args.self.now.typing m (identifier-kept v r e named) c.var.ensures)
+    c.cells_are_right.ensures c.places_are_typed.ensures c.args.self.now.typing m (identifier-kept v r e named) c.var.ensures)
