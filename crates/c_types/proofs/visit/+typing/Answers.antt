@@ -14,13 +14,13 @@ use Rattle.c_types.proofs.visit.+typing.Goals as goal
 pub type_tree-returns-in_ok-keep-in-Primary-clause-table : goal.type_tree-returns-in_ok-keep-in-Primary-clause-table
 type_tree-returns-in_ok-keep-in-Primary-clause-table t c =
     primary-kept (scopes_of c.args.scopes.now) (role_of c.args.role) c.args.tree.now.id c.args.tree.now.first (shape_of c.args.tree.now.kind) (primary_shape c.in-Primary.kind) (table_of c.args.table.now) _ _
-      (ctype_of c.in_ok-ty-in-Primary.ty) (option_map cvar_of c.primary_var-var.result) (ap shape_of c.in-Primary.is) c.primary_var-var.ensures
-      c.in_ok-ty-in-Primary.ensures.gives c.in_ok-ty-in-Primary.ensures.table c.in_ok-keep-in-Primary.ensures
+    (ctype_of c.in_ok-ty-in-Primary.ty) (option_map cvar_of c.primary_var-var.result) (ap shape_of c.in-Primary.is) c.primary_var-var.ensures
+    c.in_ok-ty-in-Primary.ensures.gives c.in_ok-ty-in-Primary.ensures.table c.in_ok-keep-in-Primary.ensures
 
 pub statements::type_block-returns-clause-scopes : goal.statements::type_block-returns-clause-scopes
 statements::type_block-returns-clause-scopes t c =
     block_end c.scopes_stay.ensures _ (scopes_of c.args.scopes.now) (role_of c.args.role) (nodes_of c.args.items.now) _ _ _
-      c.in_ok-mark.ensures.mark c.in_ok-mark.ensures.scopes c.in_ok-type_each.ensures.scopes c.leave.ensures
+    c.in_ok-mark.ensures.mark c.in_ok-mark.ensures.scopes c.in_ok-type_each.ensures.scopes c.leave.ensures
 
 pub statements::type_statement-returns-in-If-clause-gives : goal.statements::type_statement-returns-in-If-clause-gives
 statements::type_statement-returns-in-If-clause-gives t c p =
@@ -30,7 +30,7 @@ statements::type_statement-returns-in-If-clause-gives t c p =
 pub iterations::type_for_declaration-returns-clause-scopes : goal.iterations::type_for_declaration-returns-clause-scopes
 iterations::type_for_declaration-returns-clause-scopes t c =
     for_end c.scopes_stay.ensures _ (scopes_of c.args.scopes.now) (node_of c.args.declaration.now) (option_node c.args.condition) (option_node c.args.step) (node_of c.args.body.now) _ _ _ _ _ _
-      c.in_ok-mark.ensures.mark c.in_ok-mark.ensures.scopes c.in_ok-type_tree.ensures.scopes c.in_ok-type_maybe.ensures.scopes c.in_ok-type_maybe-2.ensures.scopes c.in_ok-type_tree-2.ensures.scopes c.leave.ensures
+    c.in_ok-mark.ensures.mark c.in_ok-mark.ensures.scopes c.in_ok-type_tree.ensures.scopes c.in_ok-type_maybe.ensures.scopes c.in_ok-type_maybe-2.ensures.scopes c.in_ok-type_tree-2.ensures.scopes c.leave.ensures
 
 pub iterations::type_iteration-returns-in-For-clause-gives : goal.iterations::type_iteration-returns-in-For-clause-gives
 iterations::type_iteration-returns-in-For-clause-gives t c p =
@@ -45,7 +45,7 @@ iterations::type_iteration-returns-in-ForDeclaration-clause-gives t c p =
 pub parts::type_params-returns-clause-scopes : goal.parts::type_params-returns-clause-scopes
 parts::type_params-returns-clause-scopes t c =
     params_end c.scopes_stay.ensures _ (scopes_of c.args.scopes.now) (role_of c.args.role) (nodes_of c.args.params.now) _ _ _
-      c.in_ok-mark.ensures.mark c.in_ok-mark.ensures.scopes c.in_ok-type_each.ensures.scopes c.in_ok-leave_params.ensures
+    c.in_ok-mark.ensures.mark c.in_ok-mark.ensures.scopes c.in_ok-type_each.ensures.scopes c.in_ok-leave_params.ensures
 
 pub operations::type_operation-returns-in-Call-clause-gives : goal.operations::type_operation-returns-in-Call-clause-gives
 operations::type_operation-returns-in-Call-clause-gives t c = rw c.in-Call.is c.type_call.ensures.gives
