@@ -5,3 +5,8 @@ mod Seen
 mod Steps
 mod Bare
 mod Marks
+mod Kept
+mod StaticNames
+mod UnitSteps
+mod UnnamedMembers
+mod Formals

@@ -9,3 +9,7 @@ pub mod Mentions
 pub mod Storage
 pub mod Declarators
 pub mod Roles
+pub mod Specified
+pub mod Statics
+pub mod Units
+pub mod Keeping

@@ -20,7 +20,7 @@ use crate::roles::Role;
 use crate::scopes::Scopes;
 use c_tree::{Arena, Declarator, Place};
 use c_unit::Ty;
-use std::alloc::{AllocError, Global};
+use std::alloc::AllocError;
 
 /// The type of a name that is declared, unless it may not be declared here.
 pub fn check_name<'a>(
@@ -69,7 +69,6 @@ pub fn check_members(scopes: &Scopes, members: &[MemberEntry]) -> Result<(), Typ
 
 /// The members of a member without a name, as members of the outer structure or union. None where it is none itself.
 pub fn inner_members<'a>(
-    alloc: Global,
     scopes: &Scopes<'a>,
     owner: u32,
     ty: Ty<'a>,
@@ -79,7 +78,7 @@ pub fn inner_members<'a>(
     match ty {
         Ty::Struct(number) => scopes.given_to(owner, number),
         Ty::Union(number) => scopes.given_to(owner, number),
-        _ => Ok(Vec::new(alloc)),
+        _ => Ok(scopes.no_members()),
     }
 }
 

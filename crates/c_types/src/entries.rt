@@ -82,6 +82,16 @@ impl<T: Named + Copy> Entries<T> {
         }
     }
 
+    /// The entries behind the first `len`.
+    pub fn behind(&self, len: usize) -> &[T]
+        ensures { result.now ≡ drop len self.now }
+    {
+        if len < self.all.len() {
+            return &self.all[len..];
+        }
+        &[]
+    }
+
     /// Copies of the entries behind the first `len` in place of what was there.
     pub fn copy_behind(&self, len: usize, into: &mut Vec<T>) -> Result<(), AllocError>
         ensures { IfOk result (λ _. into.new.items ≡ drop len self.now) }

@@ -95,6 +95,13 @@ impl<'a> Members<'a> {
         Ok(())
     }
 
+    /// A list of members without any.
+    pub fn none(&self) -> Vec<MemberEntry<'a>>
+        ensures { result.items ≡ [] }
+    {
+        Vec::new(self.alloc)
+    }
+
     /// The members of a structure or union, as members of another.
     pub fn given_to(&self, owner: u32, number: u32) -> Result<Vec<MemberEntry<'a>>, AllocError>
         ensures { IfOk result (λ found. found.items ≡ given_by owner number self.now.all.items) }

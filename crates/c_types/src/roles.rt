@@ -1,16 +1,19 @@
 //! What a node is where it stands, as far as its kind doesn't say it.
 
-ghost use Rattle.std.specs.Prelude.{◌≡◌};
-ghost use Rattle.c_tree.specs.Views.{nodes_of};
+ghost use Rattle.std.specs.Prelude.{◌≡◌, cond};
+ghost use Rattle.c_tree.specs.Views.{node_of, nodes_of};
+ghost use Rattle.c_typing.specs.Declarators.{is_bare};
 ghost use Rattle.c_typing.specs.Moves.{mention};
 ghost use Rattle.c_typing.specs.Roles.{owner_of, inner_role, specs_role, item_role};
+ghost use Rattle.c_typing.specs.Roles as held;
 ghost use Rattle.c_typing.specs.Rows.{is_callee};
 ghost use Rattle.c_types.specs.Mentions.{mention_of};
 ghost use Rattle.c_types.specs.Roles.{role_of};
 
+use crate::declarators::is_bare;
 use crate::mentions::Mention;
 use crate::storage::Storage;
-use c_tree::Trees;
+use c_tree::{Tree, Trees};
 use c_unit::Ty;
 
 /// What a node is where it stands.
@@ -57,6 +60,16 @@ impl<'a> Role<'a> {
         }
     }
 
+    // Whether the parameters of the function that is defined are on the way to the name.
+    fn leads_to_formals(self) -> bool
+        ensures { inner_role (role_of self.entry) ≡ cond result held.Formals held.Plain }
+    {
+        match self {
+            Role::Defines { .. } | Role::Formals => true,
+            _ => false,
+        }
+    }
+
     /// The role of what stands nearer to the name: the own parameters of a function are those beside it.
     pub fn inner(self) -> Role<'a>
         ensures { role_of result ≡ inner_role (role_of self.entry) }
@@ -64,6 +77,28 @@ impl<'a> Role<'a> {
         match self {
             Role::Defines { .. } | Role::Formals => Role::Formals,
             _ => Role::Plain,
+        }
+    }
+
+    /// The role of a declarator in parentheses. Where that is a name alone, the parameters stand beside it.
+    pub fn toward(self, inner: &Tree) -> Role<'a>
+        ensures { role_of result ≡ cond (is_bare (node_of inner.now)) held.Plain (inner_role (role_of self.entry)) }
+    {
+        if self.leads_to_formals() && !is_bare(inner) {
+            Role::Formals
+        } else {
+            Role::Plain
+        }
+    }
+
+    /// The role of the suffix beside a declarator in parentheses.
+    pub fn beside(self, inner: &Tree) -> Role<'a>
+        ensures { role_of result ≡ cond (is_bare (node_of inner.now)) (inner_role (role_of self.entry)) held.Plain }
+    {
+        if self.leads_to_formals() && is_bare(inner) {
+            Role::Formals
+        } else {
+            Role::Plain
         }
     }
 

@@ -1,6 +1,6 @@
 //! What is in force at a place of a unit (ISO 9899:1990, 6.1.2.1 to 6.1.2.3): names, tags, and the structures and unions so far.
 
-ghost use Rattle.std.specs.Prelude.{◌≡◌, length, map, IfOk, MatchResult};
+ghost use Rattle.std.specs.Prelude.{◌≡◌, [], drop, length, map, IfOk, MatchResult};
 ghost use Rattle.std.specs.Option.{option_map};
 ghost use Rattle.c_typing.specs.Moves.{given_to};
 ghost use Rattle.c_typing.specs.Scopes.{at_start, latest, latest_tag, member_of, is_among, with_name, with_member, deeper, body_of};
@@ -97,6 +97,27 @@ impl<'a> Scopes<'a> {
         ensures { option_map member_entry result ≡ member_of owner name (scopes_of self.now).members }
     {
         self.members.first_named(owner, name)
+    }
+
+    /// The number of names that are in force or hidden.
+    pub fn count_names(&self) -> usize
+        ensures { result ≡ length (scopes_of self.now).names }
+    {
+        self.names.len()
+    }
+
+    /// The names that were declared behind the first `count`.
+    pub fn names_behind(&self, count: usize) -> &[NameEntry<'a>]
+        ensures { map name_entry result.now ≡ drop count (scopes_of self.now).names }
+    {
+        self.names.behind(count)
+    }
+
+    /// A list of members without any.
+    pub fn no_members(&self) -> Vec<MemberEntry<'a>>
+        ensures { result.items ≡ [] }
+    {
+        self.members.none()
     }
 
     /// The members of a structure or union, as members of another.
@@ -213,5 +234,12 @@ impl<'a> Scopes<'a> {
         self.tags.copy_behind(mark.tags, &mut self.formal_tags)?;
         self.leave(mark);
         Ok(())
+    }
+
+    /// The tags of the structures and unions, by their numbers.
+    pub fn into_tags(self) -> Vec<Option<u32>>
+        ensures { result.items ≡ (scopes_of self.entry).structs }
+    {
+        self.structs.into_tags()
     }
 }

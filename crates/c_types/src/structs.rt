@@ -48,4 +48,11 @@ impl Structs {
         self.tags.push(tag)?;
         Ok(())
     }
+
+    /// Their tags, by their numbers.
+    pub fn into_tags(self) -> Vec<Option<u32>>
+        ensures { result.items ≡ self }
+    {
+        self.tags
+    }
 }

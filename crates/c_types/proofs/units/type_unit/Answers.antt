@@ -1,0 +1,27 @@
+use Rattle.std.proofs.Common.{◌∙◌, ap, sym, Err}
+use Rattle.c_tree.specs.Views.{nodes_of}
+use Rattle.c_typing.specs.Roles.{Plain}
+use Rattle.c_typing.specs.Scopes.{Scopes, at_start}
+use Rattle.c_typing.specs.TablesByCase.{filled_each}
+use Rattle.c_typing.specs.TypesByCase.{typed_each}
+use Rattle.typed_unit.specs.Tables.{table_of}
+use Rattle.c_types.proofs.UnitSteps.{unit-fine, unit-typed}
+use Rattle.c_types.proofs.units.type_unit.Goals as goal
+
+pub returns-in-Err-clause-refused : goal.returns-in-Err-clause-refused
+returns-in-Err-clause-refused c f k =
+    let unit = nodes_of c.args.unit.chunks in
+    c.units_by_case.ensures unit (Err f) (sym (ap (λ (v : Scopes). typed_each v Plain unit) c.new-scopes.ensures) ∙ c.in-Err.ensures.gives f k)
+
+pub new-requires-clause-typing : goal.new-requires-clause-typing
+new-requires-clause-typing c =
+    let unit = nodes_of c.args.unit.chunks in
+    unit-typed unit c.args.unit.tokens.now (table_of c.type_definitions.new.table) _ c.units_by_case.ensures c.numbers_differ.ensures c.requires.standing
+    (sym (ap (λ (v : Scopes). typed_each v Plain unit) c.new-scopes.ensures) ∙ c.in-Ok.ensures.gives)
+    (c.in-Ok.ensures.table ∙ ap (λ (v : Scopes). filled_each v Plain unit (table_of c.new-table.result)) c.new-scopes.ensures ∙ ap (filled_each at_start Plain unit) c.new-table.ensures)
+
+pub returns-clause-fine : goal.returns-clause-fine
+returns-clause-fine c =
+    let unit = nodes_of c.args.unit.chunks in
+    unit-fine unit c.args.unit.tokens.now _ c.units_by_case.ensures c.numbers_differ.ensures c.requires.standing
+    (sym (ap (λ (v : Scopes). typed_each v Plain unit) c.new-scopes.ensures) ∙ c.in-Ok.ensures.gives)
