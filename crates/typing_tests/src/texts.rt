@@ -1,24 +1,43 @@
-//! Short texts of C, read and typed, and what is said of them.
+//! Short texts of C, read and typed, and what is said of them in words.
 
+use crate::found::{last_declarator, last_expression, last_type_name};
+use crate::shown::Shown;
 use bumpalo::Bump;
 use c_lexer::{LexFault, Mode, Tokens, lex, strip};
 use c_parser::{ParseFault, read_unit};
-use c_tree::{Arena, Place};
+use c_tree::{Arena, Place, Tree};
 use c_types::{TypeFault, type_unit};
 use mx_base::Names;
-use std::alloc::Global;
+use std::alloc::{AllocError, Global};
 use typed_unit::TypedUnit;
 
 /// Why a text has no types.
 #[derive(Clone, Copy, Debug, PartialEq, Eq)]
-pub enum Untyped {
+enum Untyped {
     Syntax(Place),
     Typing(TypeFault),
     NoMemory,
 }
 
+/// What is asked of a typed text.
+#[derive(Clone, Copy, Debug, PartialEq, Eq)]
+pub enum Question {
+    /// Whether it has types.
+    Fault,
+    /// The type of the last expression.
+    Type,
+    /// The type that the type name in the last expression names.
+    TypeName,
+    /// The variable that the last expression is.
+    Variable,
+    /// The type and variable of the last declarator.
+    Declarator,
+    /// The functions in order.
+    Functions,
+}
+
 /// The tokens of a short text, as a parser takes them; a long one is too much for these tests.
-pub fn tokens_of(alloc: Global, text: &[u8], names: &mut Names) -> Result<Tokens, LexFault> {
+fn tokens_of(alloc: Global, text: &[u8], names: &mut Names) -> Result<Tokens, LexFault> {
     if text.len() > 100000 || names.len() > 100000 {
         return Err(LexFault::NoMemory);
     }
@@ -27,7 +46,7 @@ pub fn tokens_of(alloc: Global, text: &[u8], names: &mut Names) -> Result<Tokens
 }
 
 /// The unit that these tokens are, with its types.
-pub fn typed_of<'a>(
+fn typed_of<'a>(
     arena: &'a Arena,
     alloc: Global,
     tokens: &'a Tokens,
@@ -46,45 +65,74 @@ pub fn typed_of<'a>(
     }
 }
 
-/// What is said of a text: that it has types, or its first fault with its line and column.
-#[derive(Clone, Copy, Debug, PartialEq, Eq)]
-pub enum Answer {
-    Typed,
-    Refused(&'static str, u32, u32),
+/// The type or variable of this tree, or both.
+fn say_of(
+    shown: &Shown,
+    typed: &TypedUnit,
+    question: Question,
+    tree: &Tree,
+) -> Result<String, AllocError> {
+    let mut text = String::new(shown.alloc);
+    if question != Question::Variable {
+        shown.push_type(&mut text, typed, typed.ty(tree))?;
+    }
+    if question == Question::Declarator {
+        text.push_str(", ")?;
+    }
+    if question == Question::Variable || question == Question::Declarator {
+        shown.push_var(&mut text, typed.var(tree))?;
+    }
+    Ok(text)
 }
 
-/// The name and place of a fault of typing.
-fn named(fault: TypeFault) -> Option<(&'static str, Place)> {
-    match fault {
-        TypeFault::Undeclared { place, .. } => Some(("Undeclared", place)),
-        TypeFault::NoField { place, .. } => Some(("NoField", place)),
-        TypeFault::Redeclared { place, .. } => Some(("Redeclared", place)),
-        TypeFault::NotPointer { place } => Some(("NotPointer", place)),
-        TypeFault::NotStruct { place } => Some(("NotStruct", place)),
-        TypeFault::NotFunction { place } => Some(("NotFunction", place)),
-        TypeFault::NotLvalue { place } => Some(("NotLvalue", place)),
-        TypeFault::NoMemory => None,
+/// The functions of a unit in order, one a line.
+fn say_functions(shown: &Shown, typed: &TypedUnit) -> Result<String, AllocError> {
+    let mut text = String::new(shown.alloc);
+    for function in &typed.functions {
+        shown.push_function(&mut text, function)?;
+        text.push_str("\n")?;
+    }
+    Ok(text)
+}
+
+/// What is said of a typed unit.
+fn say(shown: &Shown, typed: &TypedUnit, question: Question) -> Result<String, AllocError> {
+    let tree = match question {
+        Question::Fault => return String::from_str(shown.alloc, "typed"),
+        Question::Functions => return say_functions(shown, typed),
+        Question::Declarator => last_declarator(typed),
+        Question::TypeName => last_type_name(typed),
+        Question::Type | Question::Variable => last_expression(typed),
+    };
+    match tree {
+        Some(tree) => say_of(shown, typed, question, tree),
+        None => String::from_str(shown.alloc, "nothing there"),
     }
 }
 
-/// The answer that is a fault at a place.
-fn refused(tokens: &Tokens, name: &'static str, place: Place) -> Answer {
-    let (_, line, column) = tokens.line_of(place);
-    Answer::Refused(name, line, column)
+/// What is said of a text without types: its fault, with the name in it and the line and column.
+fn say_untyped(shown: &Shown, why: Untyped) -> Result<String, AllocError> {
+    let mut text = String::new(shown.alloc);
+    match why {
+        Untyped::Syntax(place) => shown.push_at(&mut text, "Syntax", place)?,
+        Untyped::Typing(fault) => shown.push_fault(&mut text, fault)?,
+        Untyped::NoMemory => text.push_str("NoMemory")?,
+    }
+    Ok(text)
 }
 
-/// What is said of a text.
-pub fn answer_to(alloc: Global, text: &str) -> Result<Answer, LexFault> {
+/// The answer to a question about a text, or its fault.
+pub fn said(alloc: Global, text: &str, question: Question) -> Result<String, LexFault> {
     let arena = Bump::new(alloc);
     let mut names = Names::new(alloc);
     let tokens = tokens_of(alloc, text.as_bytes(), &mut names)?;
+    let shown = Shown {
+        alloc,
+        names: &names,
+        tokens: &tokens,
+    };
     match typed_of(&arena, alloc, &tokens) {
-        Ok(_) => Ok(Answer::Typed),
-        Err(Untyped::Syntax(place)) => Ok(refused(&tokens, "Syntax", place)),
-        Err(Untyped::NoMemory) => Err(LexFault::NoMemory),
-        Err(Untyped::Typing(fault)) => match named(fault) {
-            Some((name, place)) => Ok(refused(&tokens, name, place)),
-            None => Err(LexFault::NoMemory),
-        },
+        Ok(typed) => Ok(say(&shown, &typed, question)?),
+        Err(why) => Ok(say_untyped(&shown, why)?),
     }
 }
