@@ -5,7 +5,7 @@ use std::process::Abort;
 use std::test::Fail;
 
 /// What is declared again where it may be, hides something, or is no matter of typing.
-static FINE: [&str; 70] = [
+static FINE: [&str; 73] = [
     "void f(void){ x(); }",
     "int x; int x;",
     "extern int x; int x; int x = 1;",
@@ -57,6 +57,9 @@ static FINE: [&str; 70] = [
     "typedef int T = 3;",
     "extern int x = 1; void f(void){ extern int y = 2; int g(void) = 3; }",
     "enum e; enum e x; enum e { A };",
+    "struct s { int a; struct s b; } v; void f(void){ v.b.b.a; }",
+    "void f(int x){ { int x; } { long x; { char x; } } }",
+    "void f(void){ a: { int a; a = 1; } goto a; }",
     "enum e { A }; void f(void){ enum e y; enum e { A }; }",
     "enum e { A }; enum e; enum e x;",
     "struct s { const struct s *n; volatile int : 0; };",

@@ -6,13 +6,6 @@ use std::alloc::Global;
 use std::process::Abort;
 use std::test::Fail;
 
-/// Two types, and the one to which both convert.
-struct Pair {
-    left: &'static str,
-    right: &'static str,
-    both: &'static str,
-}
-
 /// The type of an expression of two variables with these types.
 fn type_of_both(
     alloc: Global,
@@ -24,359 +17,87 @@ fn type_of_both(
     said(alloc, text.as_str(), Question::Type)
 }
 
-/// All pairs, each in one order.
-static PAIRS: [Pair; 66] = [
-    Pair {
-        left: "char",
-        right: "char",
-        both: "int",
-    },
-    Pair {
-        left: "char",
-        right: "short",
-        both: "int",
-    },
-    Pair {
-        left: "char",
-        right: "int",
-        both: "int",
-    },
-    Pair {
-        left: "char",
-        right: "unsigned",
-        both: "unsigned",
-    },
-    Pair {
-        left: "char",
-        right: "long",
-        both: "long",
-    },
-    Pair {
-        left: "char",
-        right: "unsigned long",
-        both: "unsigned long",
-    },
-    Pair {
-        left: "char",
-        right: "long long",
-        both: "long long",
-    },
-    Pair {
-        left: "char",
-        right: "unsigned long long",
-        both: "unsigned long long",
-    },
-    Pair {
-        left: "char",
-        right: "float",
-        both: "float",
-    },
-    Pair {
-        left: "char",
-        right: "double",
-        both: "double",
-    },
-    Pair {
-        left: "char",
-        right: "long double",
-        both: "long double",
-    },
-    Pair {
-        left: "short",
-        right: "short",
-        both: "int",
-    },
-    Pair {
-        left: "short",
-        right: "int",
-        both: "int",
-    },
-    Pair {
-        left: "short",
-        right: "unsigned",
-        both: "unsigned",
-    },
-    Pair {
-        left: "short",
-        right: "long",
-        both: "long",
-    },
-    Pair {
-        left: "short",
-        right: "unsigned long",
-        both: "unsigned long",
-    },
-    Pair {
-        left: "short",
-        right: "long long",
-        both: "long long",
-    },
-    Pair {
-        left: "short",
-        right: "unsigned long long",
-        both: "unsigned long long",
-    },
-    Pair {
-        left: "short",
-        right: "float",
-        both: "float",
-    },
-    Pair {
-        left: "short",
-        right: "double",
-        both: "double",
-    },
-    Pair {
-        left: "short",
-        right: "long double",
-        both: "long double",
-    },
-    Pair {
-        left: "int",
-        right: "int",
-        both: "int",
-    },
-    Pair {
-        left: "int",
-        right: "unsigned",
-        both: "unsigned",
-    },
-    Pair {
-        left: "int",
-        right: "long",
-        both: "long",
-    },
-    Pair {
-        left: "int",
-        right: "unsigned long",
-        both: "unsigned long",
-    },
-    Pair {
-        left: "int",
-        right: "long long",
-        both: "long long",
-    },
-    Pair {
-        left: "int",
-        right: "unsigned long long",
-        both: "unsigned long long",
-    },
-    Pair {
-        left: "int",
-        right: "float",
-        both: "float",
-    },
-    Pair {
-        left: "int",
-        right: "double",
-        both: "double",
-    },
-    Pair {
-        left: "int",
-        right: "long double",
-        both: "long double",
-    },
-    Pair {
-        left: "unsigned",
-        right: "unsigned",
-        both: "unsigned",
-    },
-    Pair {
-        left: "unsigned",
-        right: "long",
-        both: "long",
-    },
-    Pair {
-        left: "unsigned",
-        right: "unsigned long",
-        both: "unsigned long",
-    },
-    Pair {
-        left: "unsigned",
-        right: "long long",
-        both: "long long",
-    },
-    Pair {
-        left: "unsigned",
-        right: "unsigned long long",
-        both: "unsigned long long",
-    },
-    Pair {
-        left: "unsigned",
-        right: "float",
-        both: "float",
-    },
-    Pair {
-        left: "unsigned",
-        right: "double",
-        both: "double",
-    },
-    Pair {
-        left: "unsigned",
-        right: "long double",
-        both: "long double",
-    },
-    Pair {
-        left: "long",
-        right: "long",
-        both: "long",
-    },
-    Pair {
-        left: "long",
-        right: "unsigned long",
-        both: "unsigned long",
-    },
-    Pair {
-        left: "long",
-        right: "long long",
-        both: "long long",
-    },
-    Pair {
-        left: "long",
-        right: "unsigned long long",
-        both: "unsigned long long",
-    },
-    Pair {
-        left: "long",
-        right: "float",
-        both: "float",
-    },
-    Pair {
-        left: "long",
-        right: "double",
-        both: "double",
-    },
-    Pair {
-        left: "long",
-        right: "long double",
-        both: "long double",
-    },
-    Pair {
-        left: "unsigned long",
-        right: "unsigned long",
-        both: "unsigned long",
-    },
-    Pair {
-        left: "unsigned long",
-        right: "long long",
-        both: "unsigned long long",
-    },
-    Pair {
-        left: "unsigned long",
-        right: "unsigned long long",
-        both: "unsigned long long",
-    },
-    Pair {
-        left: "unsigned long",
-        right: "float",
-        both: "float",
-    },
-    Pair {
-        left: "unsigned long",
-        right: "double",
-        both: "double",
-    },
-    Pair {
-        left: "unsigned long",
-        right: "long double",
-        both: "long double",
-    },
-    Pair {
-        left: "long long",
-        right: "long long",
-        both: "long long",
-    },
-    Pair {
-        left: "long long",
-        right: "unsigned long long",
-        both: "unsigned long long",
-    },
-    Pair {
-        left: "long long",
-        right: "float",
-        both: "float",
-    },
-    Pair {
-        left: "long long",
-        right: "double",
-        both: "double",
-    },
-    Pair {
-        left: "long long",
-        right: "long double",
-        both: "long double",
-    },
-    Pair {
-        left: "unsigned long long",
-        right: "unsigned long long",
-        both: "unsigned long long",
-    },
-    Pair {
-        left: "unsigned long long",
-        right: "float",
-        both: "float",
-    },
-    Pair {
-        left: "unsigned long long",
-        right: "double",
-        both: "double",
-    },
-    Pair {
-        left: "unsigned long long",
-        right: "long double",
-        both: "long double",
-    },
-    Pair {
-        left: "float",
-        right: "float",
-        both: "float",
-    },
-    Pair {
-        left: "float",
-        right: "double",
-        both: "double",
-    },
-    Pair {
-        left: "float",
-        right: "long double",
-        both: "long double",
-    },
-    Pair {
-        left: "double",
-        right: "double",
-        both: "double",
-    },
-    Pair {
-        left: "double",
-        right: "long double",
-        both: "long double",
-    },
-    Pair {
-        left: "long double",
-        right: "long double",
-        both: "long double",
-    },
+/// All pairs, each in one order, with the type to which both convert.
+static PAIRS: [(&str, &str, &str); 66] = [
+    ("char", "char", "int"),
+    ("char", "short", "int"),
+    ("char", "int", "int"),
+    ("char", "unsigned", "unsigned"),
+    ("char", "long", "long"),
+    ("char", "unsigned long", "unsigned long"),
+    ("char", "long long", "long long"),
+    ("char", "unsigned long long", "unsigned long long"),
+    ("char", "float", "float"),
+    ("char", "double", "double"),
+    ("char", "long double", "long double"),
+    ("short", "short", "int"),
+    ("short", "int", "int"),
+    ("short", "unsigned", "unsigned"),
+    ("short", "long", "long"),
+    ("short", "unsigned long", "unsigned long"),
+    ("short", "long long", "long long"),
+    ("short", "unsigned long long", "unsigned long long"),
+    ("short", "float", "float"),
+    ("short", "double", "double"),
+    ("short", "long double", "long double"),
+    ("int", "int", "int"),
+    ("int", "unsigned", "unsigned"),
+    ("int", "long", "long"),
+    ("int", "unsigned long", "unsigned long"),
+    ("int", "long long", "long long"),
+    ("int", "unsigned long long", "unsigned long long"),
+    ("int", "float", "float"),
+    ("int", "double", "double"),
+    ("int", "long double", "long double"),
+    ("unsigned", "unsigned", "unsigned"),
+    ("unsigned", "long", "long"),
+    ("unsigned", "unsigned long", "unsigned long"),
+    ("unsigned", "long long", "long long"),
+    ("unsigned", "unsigned long long", "unsigned long long"),
+    ("unsigned", "float", "float"),
+    ("unsigned", "double", "double"),
+    ("unsigned", "long double", "long double"),
+    ("long", "long", "long"),
+    ("long", "unsigned long", "unsigned long"),
+    ("long", "long long", "long long"),
+    ("long", "unsigned long long", "unsigned long long"),
+    ("long", "float", "float"),
+    ("long", "double", "double"),
+    ("long", "long double", "long double"),
+    ("unsigned long", "unsigned long", "unsigned long"),
+    ("unsigned long", "long long", "unsigned long long"),
+    ("unsigned long", "unsigned long long", "unsigned long long"),
+    ("unsigned long", "float", "float"),
+    ("unsigned long", "double", "double"),
+    ("unsigned long", "long double", "long double"),
+    ("long long", "long long", "long long"),
+    ("long long", "unsigned long long", "unsigned long long"),
+    ("long long", "float", "float"),
+    ("long long", "double", "double"),
+    ("long long", "long double", "long double"),
+    (
+        "unsigned long long",
+        "unsigned long long",
+        "unsigned long long",
+    ),
+    ("unsigned long long", "float", "float"),
+    ("unsigned long long", "double", "double"),
+    ("unsigned long long", "long double", "long double"),
+    ("float", "float", "float"),
+    ("float", "double", "double"),
+    ("float", "long double", "long double"),
+    ("double", "double", "double"),
+    ("double", "long double", "long double"),
+    ("long double", "long double", "long double"),
 ];
 
 #[test]
 fn operands_convert(rt: HostRuntime) -> Result<(), Fail> {
-    for pair in &PAIRS {
-        let product = type_of_both(rt.alloc(), pair.left, pair.right, "x * y")?;
-        assert_eq!(rt;
-            product.as_str(),
-            pair.both,
-            "{} and {}",
-            pair.left,
-            pair.right
-        );
-        let choice = type_of_both(rt.alloc(), pair.right, pair.left, "1 ? x : y")?;
-        assert_eq!(rt;
-            choice.as_str(),
-            pair.both,
-            "{} or {}",
-            pair.right,
-            pair.left
-        );
+    for (left, right, both) in &PAIRS {
+        let product = type_of_both(rt.alloc(), left, right, "x * y")?;
+        assert_eq!(rt; product.as_str(), *both, "{left} and {right}");
+        let choice = type_of_both(rt.alloc(), right, left, "1 ? x : y")?;
+        assert_eq!(rt; choice.as_str(), *both, "{right} or {left}");
     }
     Ok(())
 }

@@ -5,7 +5,7 @@ use std::process::Abort;
 use std::test::Fail;
 
 /// Declarations at file scope.
-static AT_FILE_SCOPE: [(&str, &str); 36] = [
+static AT_FILE_SCOPE: [(&str, &str); 37] = [
     ("int x;", "int, extern x"),
     ("static int x;", "int, static x"),
     ("extern int x;", "int, extern x"),
@@ -14,6 +14,7 @@ static AT_FILE_SCOPE: [(&str, &str); 36] = [
     ("int x = 3;", "int, extern x"),
     ("static char x[] = \"abc\";", "array of char, static x"),
     ("int x[3];", "array of int, extern x"),
+    ("void x;", "void, extern x"),
     (
         "int *x[3][4];",
         "array of array of pointer to int, extern x",
@@ -127,6 +128,65 @@ static IN_BLOCKS: [(&str, &str); 15] = [
 fn names_are_declared_in_blocks(rt: HostRuntime) -> Result<(), Fail> {
     for (text, wanted) in &IN_BLOCKS {
         let seen = said(rt.alloc(), text, Question::Declarator)?;
+        assert_eq!(rt; seen.as_str(), *wanted, "{text}");
+    }
+    Ok(())
+}
+
+/// Declarations with an initializer: its type, and the type and variable of its name.
+static INITIALIZED: [(&str, &str); 16] = [
+    ("int x = 3;", "int: int, extern x"),
+    (
+        "int y, *x = &y;",
+        "pointer to int: pointer to int, extern x",
+    ),
+    (
+        "static char x[] = \"abc\";",
+        "array of char: array of char, static x",
+    ),
+    ("extern long x = 1;", "long: long, extern x"),
+    ("static int x; extern int x = 1;", "int: int, static x"),
+    ("typedef int T = 3;", "int: int, none"),
+    (
+        "int f(void) = 3;",
+        "function giving int: function giving int, none",
+    ),
+    (
+        "struct s { int a; } x = { 1 };",
+        "struct s: struct s, extern x",
+    ),
+    (
+        "int (*x)(void) = 0;",
+        "pointer to function giving int: pointer to function giving int, extern x",
+    ),
+    ("void f(void){ int x = x; }", "int: int, local x 1:19"),
+    (
+        "void f(void){ int *x = &x; }",
+        "pointer to int: pointer to int, local x 1:20",
+    ),
+    (
+        "void f(void){ int y = 1, x = y; }",
+        "int: int, local x 1:26",
+    ),
+    (
+        "void f(void){ static int x = 1; }",
+        "int: int, local static x 1:26",
+    ),
+    (
+        "void f(void){ static int x[2] = { 1, 2 }; }",
+        "array of int: array of int, local static x 1:26",
+    ),
+    ("void f(void){ extern int x = 1; }", "int: int, extern x"),
+    (
+        "void f(void){ register struct { int a; } x = { 1 }; }",
+        "struct: struct, local x 1:42",
+    ),
+];
+
+#[test]
+fn initialized_names_are_those_declared(rt: HostRuntime) -> Result<(), Fail> {
+    for (text, wanted) in &INITIALIZED {
+        let seen = said(rt.alloc(), text, Question::Initializer)?;
         assert_eq!(rt; seen.as_str(), *wanted, "{text}");
     }
     Ok(())

@@ -5,7 +5,7 @@ use std::process::Abort;
 use std::test::Fail;
 
 /// Names that are not in scope (ISO 9899:1990, 6.3.1). The callee of a call may be undeclared, but not one in parentheses.
-static UNDECLARED: [(&str, &str); 47] = [
+static UNDECLARED: [(&str, &str); 51] = [
     ("void f(void){ x; }", "Undeclared x 1:15"),
     ("void f(void){ f(x); }", "Undeclared x 1:17"),
     ("void f(void){ (x)(); }", "Undeclared x 1:16"),
@@ -24,6 +24,7 @@ static UNDECLARED: [(&str, &str); 47] = [
     ("void f(void){ (void)x; }", "Undeclared x 1:21"),
     ("void f(int i){ i ? i : x; }", "Undeclared x 1:24"),
     ("enum { A = B, B };", "Undeclared B 1:12"),
+    ("enum { A = A };", "Undeclared A 1:12"),
     ("struct s { int a : n; };", "Undeclared n 1:20"),
     ("struct s { int n; int a[n]; };", "Undeclared n 1:25"),
     (
@@ -38,7 +39,13 @@ static UNDECLARED: [(&str, &str); 47] = [
         "void f(__builtin_va_list v){ __builtin_va_arg(w, int); }",
         "Undeclared w 1:47",
     ),
+    (
+        "void f(__builtin_va_list v){ __builtin_va_arg(v, int (*)[n]); }",
+        "Undeclared n 1:58",
+    ),
     ("void f(void){ (int (*)[n])0; }", "Undeclared n 1:24"),
+    ("void f(void){ sizeof(int [n]); }", "Undeclared n 1:27"),
+    ("void f(void){ int g(int x); x; }", "Undeclared x 1:29"),
     ("void f(int a[n], int n){ }", "Undeclared n 1:14"),
     (
         "int (*f(int n))(int a[n]){ return 0; }",
@@ -271,7 +278,7 @@ fn operands_are_pointers(rt: HostRuntime) -> Result<(), Fail> {
 }
 
 /// Operands that have to be complete structures or unions (6.3.2.3).
-static NOT_STRUCTS: [(&str, &str); 19] = [
+static NOT_STRUCTS: [(&str, &str); 21] = [
     ("void f(int i){ i.a; }", "NotStruct 1:16"),
     ("void f(int *p){ p->a; }", "NotStruct 1:17"),
     ("void f(void *p){ p->a; }", "NotStruct 1:18"),
@@ -315,6 +322,14 @@ static NOT_STRUCTS: [(&str, &str); 19] = [
     (
         "struct s { int a; }; void f(void){ union s *p; p->a; }",
         "NotStruct 1:48",
+    ),
+    (
+        "struct s; void f(void){ struct s *p; struct s { int b; }; p->b; }",
+        "NotStruct 1:59",
+    ),
+    (
+        "void f(struct s *p); struct s { int a; } *q; void g(void){ q->a; (*q).a; (&q)->a; }",
+        "NotStruct 1:74",
     ),
     (
         "void f(struct s *p){ { struct s { int a; }; } p->a; }",

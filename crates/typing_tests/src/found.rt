@@ -47,36 +47,47 @@ pub fn last_type_name<'a>(typed: &TypedUnit<'a>) -> Option<&'a Tree<'a>> {
     }
 }
 
-/// The last declarator of a declaration.
-fn declarator_in<'a>(declaration: &Tree<'a>) -> Option<&'a Tree<'a>> {
-    let Kind::Outer(Outer::Declaration { declarators, .. }) = &declaration.kind else {
-        return None;
-    };
-    match declarators.all.last() {
-        Some(
-            Tree {
-                kind: Kind::Initializer(Initializer::Init { declarator, .. }),
-                ..
-            },
-        ) => Some(*declarator),
-        Some(declarator) => Some(declarator),
-        None => None,
+/// The last declarator of a declaration, with its initializer if it has one.
+fn declared_in<'a>(declaration: &Tree<'a>) -> Option<&'a Tree<'a>> {
+    match &declaration.kind {
+        Kind::Outer(Outer::Declaration { declarators, .. }) => declarators.all.last(),
+        _ => None,
     }
 }
 
-/// The last declarator of the last declaration of the unit, or of what stands last in the body of its last function.
-pub fn last_declarator<'a>(typed: &TypedUnit<'a>) -> Option<&'a Tree<'a>> {
-    match typed.unit.chunks.all.last() {
-        Some(
-            Tree {
-                kind: Kind::Outer(Outer::Function { .. }),
-                ..
-            },
-        ) => match last_body(typed).last() {
-            Some(item) => declarator_in(item),
+/// The last declarator of the last declaration of the unit, or of what stands last in the body of its last function. It has its
+/// initializer if there is one.
+fn last_declared<'a>(typed: &TypedUnit<'a>) -> Option<&'a Tree<'a>> {
+    let Some(last) = typed.unit.chunks.all.last() else {
+        return None;
+    };
+    match &last.kind {
+        Kind::Outer(Outer::Function { .. }) => match last_body(typed).last() {
+            Some(item) => declared_in(item),
             None => None,
         },
-        Some(last) => declarator_in(last),
-        None => None,
+        _ => declared_in(last),
+    }
+}
+
+/// The same without its initializer.
+pub fn last_declarator<'a>(typed: &TypedUnit<'a>) -> Option<&'a Tree<'a>> {
+    let Some(declared) = last_declared(typed) else {
+        return None;
+    };
+    match &declared.kind {
+        Kind::Initializer(Initializer::Init { declarator, .. }) => Some(*declarator),
+        _ => Some(declared),
+    }
+}
+
+/// The same with its initializer, and the name in it.
+pub fn last_initialized<'a>(typed: &TypedUnit<'a>) -> Option<(&'a Tree<'a>, &'a Tree<'a>)> {
+    let Some(declared) = last_declared(typed) else {
+        return None;
+    };
+    match &declared.kind {
+        Kind::Initializer(Initializer::Init { name, .. }) => Some((declared, *name)),
+        _ => None,
     }
 }

@@ -63,7 +63,7 @@ fn names_have_types(rt: HostRuntime) -> Result<(), Fail> {
 }
 
 /// What pointers and arrays lead to, and addresses.
-static POINTED: [(&str, &str); 57] = [
+static POINTED: [(&str, &str); 61] = [
     ("*p", "int"),
     ("*a", "int"),
     ("*m", "array of int"),
@@ -98,6 +98,10 @@ static POINTED: [(&str, &str); 57] = [
     ("\"abc\"[1]", "char"),
     ("1[\"abc\"]", "char"),
     ("L\"abc\"[1]", "int"),
+    ("r[a]", "char"),
+    ("a[r]", "int"),
+    ("&((i))", "pointer to int"),
+    ("&(a)", "pointer to array of int"),
     ("v[0]", "void"),
     ("&i", "pointer to int"),
     ("&c", "pointer to char"),

@@ -263,7 +263,7 @@ fn assignments_and_commas_have_types(rt: HostRuntime) -> Result<(), Fail> {
 }
 
 /// Operands that the standard refuses, which is no matter of typing.
-static ANY: [(&str, &str); 29] = [
+static ANY: [(&str, &str); 33] = [
     ("p * i", "int"),
     ("p + p", "int"),
     ("p + d", "int"),
@@ -290,6 +290,10 @@ static ANY: [(&str, &str); 29] = [
     ("i ? t : 0", "struct st"),
     ("i ? 0 : t", "int"),
     ("i ? va : i", "__builtin_va_list"),
+    ("i ? fn : p", "pointer to int"),
+    ("i ? t : p", "pointer to int"),
+    ("&t.bf", "pointer to unsigned"),
+    ("(struct st)t", "struct st"),
     ("a = 0", "array of int"),
     ("\"abc\" = 0", "array of char"),
     ("*fn = 0", "function giving int"),

@@ -98,7 +98,7 @@ fn the_latest_declaration_decides(rt: HostRuntime) -> Result<(), Fail> {
 }
 
 /// Tags in inner scopes, and structures and unions that are completed later (6.5.2.3).
-static TAGS: [(&str, &str); 26] = [
+static TAGS: [(&str, &str); 29] = [
     (
         "struct s; struct s *p; struct s { long a; }; void f(void){ p->a; }",
         "long",
@@ -189,6 +189,15 @@ static TAGS: [(&str, &str); 26] = [
         "long",
     ),
     ("union { int a; } x; void f(void){ x; }", "union"),
+    (
+        "typedef long T; struct s { T T; } v; void f(void){ v.T; }",
+        "long",
+    ),
+    ("struct s *f(void){ struct s { long a; } v; v.a; }", "long"),
+    (
+        "struct s { int a; } *f(void); void g(void){ struct s { long a; } v; f()->a; }",
+        "int",
+    ),
     (
         "struct s; extern struct s x; void f(void){ x; }",
         "struct s",

@@ -1,6 +1,6 @@
 //! Short texts of C, read and typed, and what is said of them in words.
 
-use crate::found::{last_declarator, last_expression, last_type_name};
+use crate::found::{last_declarator, last_expression, last_initialized, last_type_name};
 use crate::shown::Shown;
 use bumpalo::Bump;
 use c_lexer::{LexFault, Mode, Tokens, lex, strip};
@@ -32,6 +32,8 @@ pub enum Question {
     Variable,
     /// The type and variable of the last declarator.
     Declarator,
+    /// The type of the last declarator with its initializer, and the type and variable of the name in it.
+    Initializer,
     /// The functions in order.
     Functions,
 }
@@ -65,23 +67,37 @@ fn typed_of<'a>(
     }
 }
 
-/// The type or variable of this tree, or both.
-fn say_of(
-    shown: &Shown,
-    typed: &TypedUnit,
-    question: Question,
-    tree: &Tree,
-) -> Result<String, AllocError> {
+/// The type of this tree.
+fn say_type(shown: &Shown, typed: &TypedUnit, tree: &Tree) -> Result<String, AllocError> {
     let mut text = String::new(shown.alloc);
-    if question != Question::Variable {
-        shown.push_type(&mut text, typed, typed.ty(tree))?;
-    }
-    if question == Question::Declarator {
-        text.push_str(", ")?;
-    }
-    if question == Question::Variable || question == Question::Declarator {
-        shown.push_var(&mut text, typed.var(tree))?;
-    }
+    shown.push_type(&mut text, typed, typed.ty(tree))?;
+    Ok(text)
+}
+
+/// The variable that this tree is.
+fn say_variable(shown: &Shown, typed: &TypedUnit, tree: &Tree) -> Result<String, AllocError> {
+    let mut text = String::new(shown.alloc);
+    shown.push_var(&mut text, typed.var(tree))?;
+    Ok(text)
+}
+
+/// The type and variable of this tree.
+fn say_both(shown: &Shown, typed: &TypedUnit, tree: &Tree) -> Result<String, AllocError> {
+    let mut text = say_type(shown, typed, tree)?;
+    text.push_str(", ")?;
+    shown.push_var(&mut text, typed.var(tree))?;
+    Ok(text)
+}
+
+/// The type of the last declarator with its initializer, and the type and variable of the name in it.
+fn say_initialized(shown: &Shown, typed: &TypedUnit) -> Result<String, AllocError> {
+    let Some((initialized, name)) = last_initialized(typed) else {
+        return String::from_str(shown.alloc, "nothing there");
+    };
+    let mut text = say_type(shown, typed, initialized)?;
+    text.push_str(": ")?;
+    let said = say_both(shown, typed, name)?;
+    text.push_str(said.as_str())?;
     Ok(text)
 }
 
@@ -95,18 +111,27 @@ fn say_functions(shown: &Shown, typed: &TypedUnit) -> Result<String, AllocError>
     Ok(text)
 }
 
+/// The tree that a question is about.
+fn asked<'a>(typed: &TypedUnit<'a>, question: Question) -> Option<&'a Tree<'a>> {
+    match question {
+        Question::Type | Question::Variable => last_expression(typed),
+        Question::TypeName => last_type_name(typed),
+        Question::Declarator => last_declarator(typed),
+        Question::Fault | Question::Initializer | Question::Functions => None,
+    }
+}
+
 /// What is said of a typed unit.
 fn say(shown: &Shown, typed: &TypedUnit, question: Question) -> Result<String, AllocError> {
-    let tree = match question {
-        Question::Fault => return String::from_str(shown.alloc, "typed"),
-        Question::Functions => return say_functions(shown, typed),
-        Question::Declarator => last_declarator(typed),
-        Question::TypeName => last_type_name(typed),
-        Question::Type | Question::Variable => last_expression(typed),
-    };
-    match tree {
-        Some(tree) => say_of(shown, typed, question, tree),
-        None => String::from_str(shown.alloc, "nothing there"),
+    let tree = asked(typed, question);
+    match (question, tree) {
+        (Question::Fault, _) => String::from_str(shown.alloc, "typed"),
+        (Question::Functions, _) => say_functions(shown, typed),
+        (Question::Initializer, _) => say_initialized(shown, typed),
+        (Question::Type | Question::TypeName, Some(tree)) => say_type(shown, typed, tree),
+        (Question::Variable, Some(tree)) => say_variable(shown, typed, tree),
+        (Question::Declarator, Some(tree)) => say_both(shown, typed, tree),
+        (_, None) => String::from_str(shown.alloc, "nothing there"),
     }
 }
 
