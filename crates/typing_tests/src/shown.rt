@@ -10,7 +10,7 @@ use std::str;
 use typed_unit::{TypedFunction, TypedUnit};
 
 /// What is needed to say things of a unit in words.
-#[derive(Clone, Copy)]
+#[derive(Drop)]
 pub struct Shown<'a> {
     pub alloc: Global,
     pub names: &'a Names,

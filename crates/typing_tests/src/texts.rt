@@ -81,11 +81,11 @@ fn say_variable(shown: &Shown, typed: &TypedUnit, tree: &Tree) -> Result<String,
     Ok(text)
 }
 
-/// The type and variable of this tree.
-fn say_both(shown: &Shown, typed: &TypedUnit, tree: &Tree) -> Result<String, AllocError> {
+/// The type of a declarator, and the variable that it declares.
+fn say_declared(shown: &Shown, typed: &TypedUnit, tree: &Tree) -> Result<String, AllocError> {
     let mut text = say_type(shown, typed, tree)?;
     text.push_str(", ")?;
-    shown.push_var(&mut text, typed.var(tree))?;
+    shown.push_var(&mut text, typed.declared(tree))?;
     Ok(text)
 }
 
@@ -96,9 +96,24 @@ fn say_initialized(shown: &Shown, typed: &TypedUnit) -> Result<String, AllocErro
     };
     let mut text = say_type(shown, typed, initialized)?;
     text.push_str(": ")?;
-    let said = say_both(shown, typed, name)?;
-    text.push_str(said.as_str())?;
+    shown.push_type(&mut text, typed, typed.ty(name))?;
+    text.push_str(", ")?;
+    shown.push_var(&mut text, typed.var(name))?;
     Ok(text)
+}
+
+/// What is asked of a tree.
+fn say_of(
+    shown: &Shown,
+    typed: &TypedUnit,
+    question: Question,
+    tree: &Tree,
+) -> Result<String, AllocError> {
+    match question {
+        Question::Variable => say_variable(shown, typed, tree),
+        Question::Declarator => say_declared(shown, typed, tree),
+        _ => say_type(shown, typed, tree),
+    }
 }
 
 /// The functions of a unit in order, one a line.
@@ -123,15 +138,16 @@ fn asked<'a>(typed: &TypedUnit<'a>, question: Question) -> Option<&'a Tree<'a>> 
 
 /// What is said of a typed unit.
 fn say(shown: &Shown, typed: &TypedUnit, question: Question) -> Result<String, AllocError> {
-    let tree = asked(typed, question);
-    match (question, tree) {
-        (Question::Fault, _) => String::from_str(shown.alloc, "typed"),
-        (Question::Functions, _) => say_functions(shown, typed),
-        (Question::Initializer, _) => say_initialized(shown, typed),
-        (Question::Type | Question::TypeName, Some(tree)) => say_type(shown, typed, tree),
-        (Question::Variable, Some(tree)) => say_variable(shown, typed, tree),
-        (Question::Declarator, Some(tree)) => say_both(shown, typed, tree),
-        (_, None) => String::from_str(shown.alloc, "nothing there"),
+    match question {
+        Question::Fault => String::from_str(shown.alloc, "typed"),
+        Question::Functions => say_functions(shown, typed),
+        Question::Initializer => say_initialized(shown, typed),
+        Question::Type | Question::TypeName | Question::Variable | Question::Declarator => {
+            match asked(typed, question) {
+                Some(tree) => say_of(shown, typed, question, tree),
+                None => String::from_str(shown.alloc, "nothing there"),
+            }
+        }
     }
 }
 
