@@ -5,3 +5,6 @@ mod Seen
 mod Steps
 mod Bare
 mod Marks
+mod StaticNames
+mod UnitSteps
+mod UnnamedMembers

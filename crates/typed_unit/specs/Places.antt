@@ -1,11 +1,18 @@
--- Where a node stands in a unit.
-use Rattle.std.specs.Prelude.{◌≡◌, true, false, None}
-use Rattle.c_tree.specs.Node.{Node, Nodes}
-use Rattle.c_typing.specs.Definition.{Out, IsAmong, is_kept, Table, at, number_of}
-use Rattle.c_typing.specs.Parts.{Visit, flat}
+-- Where a node stands in a unit, and over which tokens.
+use Rattle.std.specs.Prelude.{◌≡◌, ℕ, List, [], Bool, true, false}
+use Rattle.c_places.specs.Lines.{row_line}
+use Rattle.c_places.specs.Stands.{Stands}
+use Rattle.c_tree.specs.declared.token.Token.{Token}
+use Rattle.c_tree.specs.Node.{Node, node, Nodes, Primary, Ident}
+use Rattle.c_typing.specs.Definition.{Out, IsAmong, is_kept}
+use Rattle.c_typing.specs.Parts.{flat}
 use Rattle.c_typing.specs.Roles.{Role}
 use Rattle.c_typing.specs.Scopes.{Scopes}
 use Rattle.c_typing.specs.Unit.{places_of}
+
+-- The trees are those of the tokens, one after the other, and the numbers of their nodes go up.
+abbrev pub StandOver : Nodes → List Token → Type 0
+StandOver trees tokens = (high : ℕ) × Stands (row_line trees) 0 high tokens []
 
 -- a node of the unit, which is visited under these scopes, in this role
 abbrev pub StandsAt : Nodes → Scopes → Role → Node → Type 0
@@ -16,6 +23,6 @@ pub record IsTypedAt (unit : Nodes) (v : Scopes) (r : Role) (e : Node) : Type 0 
   pub stands : StandsAt unit v r e
   pub kept : is_kept v r (flat e) ≡ true
 
--- What has no type has nothing in the table.
-abbrev pub HasEmptyCells : Nodes → Table → Type 0
-HasEmptyCells unit table = (v : Scopes) (r : Role) (e : Visit) → IsAmong (Out v r e) (places_of unit) → is_kept v r e ≡ false → at (number_of e) table ≡ None
+abbrev pub is_identifier : Node → Bool
+is_identifier (node i p (Primary (Ident name))) = true
+is_identifier _ = false

@@ -1,5 +1,5 @@
 -- The table that a table of the program is.
-use Rattle.std.specs.Prelude.{map}
+use Rattle.std.specs.Prelude.{map, Option, None, Some}
 use Rattle.std.specs.Option.{option_map}
 use Rattle.c_typing.specs.Definition.{Table}
 use Rattle.c_typing.specs.Definition as kept
@@ -7,9 +7,15 @@ use Rattle.typed_unit.specs.declared.table.Cell.{Cell}
 use Rattle.typed_unit.specs.declared.table.Table as code
 use Rattle.c_unit.specs.Types.{ctype_of}
 use Rattle.c_unit.specs.Vars.{cvar_of}
+use Rattle.c_typing.specs.Vars.{CVar}
 
 abbrev pub cell_of : Cell → kept.Cell
 cell_of c = record { ty = ctype_of c.ty; var = option_map cvar_of c.var }
 
 abbrev pub table_of : code.Table → Table
 table_of t = map (option_map cell_of) t.cells.items
+
+-- the variable in a cell, if there is one
+abbrev pub var_in : Option kept.Cell → Option CVar
+var_in None = None
+var_in (Some c) = c.var

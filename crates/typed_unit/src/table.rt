@@ -4,7 +4,8 @@ ghost use Rattle.std.specs.Prelude.{◌≡◌, [], IfOk};
 ghost use Rattle.std.specs.Option.{option_map};
 ghost use Rattle.c_typing.specs.Definition.{at};
 ghost use Rattle.c_typing.specs.Order.{put};
-ghost use Rattle.typed_unit.specs.Tables.{cell_of, table_of};
+ghost use Rattle.c_unit.specs.Vars.{cvar_of};
+ghost use Rattle.typed_unit.specs.Tables.{cell_of, table_of, var_in};
 
 use c_unit::{Ty, Var};
 use std::alloc::{AllocError, Global};
@@ -33,6 +34,7 @@ impl<'a> Table<'a> {
     }
 
     /// Keeps this of the node with a number.
+    #[tactic(auto, using(crate::proofs::Cells::puts))]
     pub fn put(&mut self, number: u32, cell: Cell<'a>) -> Result<(), AllocError>
         ensures { IfOk result (λ _. table_of self.new ≡ put number (cell_of cell.entry) (table_of self.old)) }
     {
@@ -50,7 +52,18 @@ impl<'a> Table<'a> {
     {
         match self.cells.get(number as usize) {
             Some(Some(cell)) => Some(cell),
-            _ => None,
+            Some(None) => None,
+            None => None,
+        }
+    }
+
+    /// The variable that is kept of the node with a number.
+    pub fn var(&self, number: u32) -> Option<Var>
+        ensures { option_map cvar_of result ≡ var_in (at number (table_of self.now)) }
+    {
+        match self.cell(number) {
+            Some(cell) => cell.var,
+            None => None,
         }
     }
 }

@@ -1,6 +1,6 @@
 //! Translation units with the types of their expressions.
 
-ghost use Rattle.std.specs.Prelude.{◌≡◌, None, Some, get_or, map};
+ghost use Rattle.std.specs.Prelude.{◌≡◌, None, Some, cond, get_or, map};
 ghost use Rattle.std.specs.Option.{option_map};
 ghost use Rattle.c_tree.specs.Views.{node_of, nodes_of};
 ghost use Rattle.c_typing.specs.Definition.{type_of, var_at};
@@ -10,7 +10,7 @@ ghost use Rattle.c_typing.specs.Roles.{Role};
 ghost use Rattle.c_typing.specs.Scopes.{Scopes};
 ghost use Rattle.c_typing.specs.Unit.{IsTyping};
 ghost use Rattle.typed_unit.specs.Functions.{function_of};
-ghost use Rattle.typed_unit.specs.Places.{StandsAt, IsTypedAt, HasEmptyCells};
+ghost use Rattle.typed_unit.specs.Places.{StandOver, StandsAt, IsTypedAt, is_identifier};
 ghost use Rattle.typed_unit.specs.Tables.{table_of};
 ghost use Rattle.c_unit.specs.Types.{ctype_of};
 ghost use Rattle.c_unit.specs.Vars.{cvar_of};
@@ -35,14 +35,14 @@ pub struct TypedUnit<'a> {
     // The tag of each structure and union, if it has one, by its number.
     tags: Vec<Option<u32>>,
 
-    ghost typing: { IsTyping (nodes_of unit.chunks) (table_of table) },
-    ghost sparse: { HasEmptyCells (nodes_of unit.chunks) (table_of table) },
-    ghost tagged: { tags.items ≡ structs_of (nodes_of unit.chunks) },
-    ghost defined: { map function_of functions.items ≡ functions_of (nodes_of unit.chunks) },
-}
+    // What stands for the type of a node that has none.
+    no_type: Ty<'a>,
 
-// What stands for the type of a node that has none.
-static NO_TYPE: Ty<'static> = Ty::Void;
+    ghost standing: { ∥ StandOver (nodes_of unit.chunks) unit.tokens.now ∥₁ },
+    ghost typing: { ∥ IsTyping (nodes_of unit.chunks) (table_of table) ∥₁ },
+    ghost tagged: { tags.items ≡ structs_of (nodes_of unit.chunks) },
+    ghost defined: { ∥ map function_of functions.items ≡ functions_of (nodes_of unit.chunks) ∥₁ },
+}
 
 // The tag at a number, if there is one.
 fn tag_at(tags: &[Option<u32>], number: u32) -> Option<u32>
@@ -51,6 +51,16 @@ fn tag_at(tags: &[Option<u32>], number: u32) -> Option<u32>
     match tags.get(number as usize) {
         Some(tag) => *tag,
         None => None,
+    }
+}
+
+// Whether a tree is a name by itself.
+fn is_identifier(tree: &Tree) -> bool
+    ensures { result ≡ is_identifier (node_of tree.now) }
+{
+    match &tree.kind {
+        Kind::Primary(Primary::Ident { .. }) => true,
+        _ => false,
     }
 }
 
@@ -63,48 +73,55 @@ impl<'a> TypedUnit<'a> {
         table: Table<'a>,
         tags: Vec<Option<u32>>,
     ) -> Self
+        requires standing { StandOver (nodes_of unit.chunks) unit.tokens.now }
         requires typing { IsTyping (nodes_of unit.chunks) (table_of table) }
-        requires sparse { HasEmptyCells (nodes_of unit.chunks) (table_of table) }
         requires tagged { tags.items ≡ structs_of (nodes_of unit.chunks) }
         requires defined { map function_of functions.items ≡ functions_of (nodes_of unit.chunks) }
         ensures unit { result.unit ≡ unit.entry }
+        ensures functions { result.functions ≡ functions.entry }
     {
         TypedUnit {
             unit,
             functions,
             table,
             tags,
+            no_type: Ty::Void,
         }
     }
 
-    /// The type of an expression, of a type name or of a declared name of the unit. `Void` stands for that of anything else.
+    /// The type of an expression, of a type name or of a declared name of the unit. What it answers for anything else isn't
+    /// promised.
     pub fn ty(&self, tree: &Tree) -> &Ty<'a>
         ensures { (v : Scopes) (r : Role) → IsTypedAt (nodes_of self.now.unit.chunks) v r (node_of tree.now) → type_of v r (flat (node_of tree.now)) ≡ Some (ctype_of result.now) }
     {
         cells_are_right();
         places_are_typed();
-        match self.table.cell(tree.id) {
-            Some(cell) => &cell.ty,
-            None => &NO_TYPE,
+        if let Some(cell) = self.table.cell(tree.id) {
+            return &cell.ty;
         }
+        &self.no_type
     }
 
-    /// The variable that an identifier of the unit stands for, or that a declarator declares. A function is none.
+    /// The variable that an identifier of the unit stands for. A function is none, and any other tree stands for none.
     pub fn var(&self, tree: &Tree) -> Option<Var>
-        ensures { (v : Scopes) (r : Role) → StandsAt (nodes_of self.now.unit.chunks) v r (node_of tree.now) → option_map cvar_of result ≡ var_at v r (flat (node_of tree.now)) }
+        ensures { (v : Scopes) (r : Role) → StandsAt (nodes_of self.now.unit.chunks) v r (node_of tree.now) → option_map cvar_of result ≡ cond (is_identifier (node_of tree.now)) (var_at v r (flat (node_of tree.now))) None }
     {
         cells_are_right();
         places_are_typed();
-        match &tree.kind {
-            Kind::Primary(Primary::Ident { .. }) | Kind::Declarator(_) => match self
-                .table
-                .cell(tree.id)
-            {
-                Some(cell) => cell.var,
-                None => None,
-            },
-            _ => None,
+        if is_identifier(tree) {
+            self.table.var(tree.id)
+        } else {
+            None
         }
+    }
+
+    /// The variable that a declarator of the unit declares, which declares a name. A function is none.
+    pub fn declared(&self, tree: &Tree) -> Option<Var>
+        ensures { (v : Scopes) (r : Role) → IsTypedAt (nodes_of self.now.unit.chunks) v r (node_of tree.now) → option_map cvar_of result ≡ var_at v r (flat (node_of tree.now)) }
+    {
+        cells_are_right();
+        places_are_typed();
+        self.table.var(tree.id)
     }
 
     /// The tag of a structure or union. It is `None` exactly where that has none, and where the type is neither.

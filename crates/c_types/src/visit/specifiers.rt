@@ -1,10 +1,10 @@
 //! The visit of type names, specifiers and members (ISO 9899:1990, 6.5.2, 6.5.5).
 
-ghost use Rattle.std.specs.Prelude.{◌≡◌, IfOk};
+ghost use Rattle.std.specs.Prelude.{◌≡◌, Bool, IfOk};
 ghost use Rattle.c_tree.specs.declared.place.Place.{Place};
 ghost use Rattle.c_tree.specs.Node.{Node};
 ghost use Rattle.c_tree.specs.Node as nodes;
-ghost use Rattle.c_tree.specs.Views.{maybe_token, node_of, nodes_of, specifier_shape};
+ghost use Rattle.c_tree.specs.Views.{maybe_token, node_of, nodes_of, option_node, specifier_shape};
 ghost use Rattle.c_typing.specs.Moves.{behind_members, behind_specifier, closed};
 ghost use Rattle.c_typing.specs.Moves as moves;
 ghost use Rattle.c_typing.specs.Roles as held_roles;
@@ -65,7 +65,7 @@ fn pass_members_on<'a>(scopes: &mut Scopes<'a>, owner: u32, ty: Ty<'a>) -> Resul
 }
 
 /// Ends a declaration of members with specifiers of this type: where it declares none by name, it may be one itself.
-#[tactic(auto, using(crate::proofs::Bare::counted))]
+#[tactic(auto, using(crate::proofs::UnnamedMembers::unnamed))]
 fn end_members<'a>(
     scopes: &mut Scopes<'a>,
     role: Role<'a>,
@@ -131,6 +131,63 @@ fn type_members<'a>(
     end_members(scopes, role, ty, declarators)
 }
 
+/// Types a type name, which has a type of its own.
+#[cycle(typing)]
+fn type_type_name<'a>(
+    arena: &'a Arena,
+    scopes: &mut Scopes<'a>,
+    specs: &Tree<'a>,
+    declarator: Option<&Tree<'a>>,
+    table: &mut Table<'a>,
+) -> Result<Ty<'a>, TypeFault>
+    ensures gives { (p : Place) (r : held_roles.Role) → Gives result (typed_specifier (scopes_of scopes.old) r p (nodes.TypeName (node_of specs.now) (option_node declarator.entry))) }
+    ensures scopes { IfOk result (λ _. (r : held_roles.Role) → scopes_of scopes.new ≡ within_specifier (scopes_of scopes.old) r (nodes.TypeName (node_of specs.now) (option_node declarator.entry))) }
+    ensures table { IfOk result (λ _. (r : held_roles.Role) → table_of table.new ≡ filled_specifier (scopes_of scopes.old) r (nodes.TypeName (node_of specs.now) (option_node declarator.entry)) (table_of table.old)) }
+{
+    let ty = specified_type(arena, scopes, specs)?;
+    type_tree(arena, scopes, Role::Plain, specs, table)?;
+    type_maybe(arena, scopes, Role::Plain, declarator, table)?;
+    Ok(around_maybe(arena, declarator, ty)?)
+}
+
+/// Types a parameter, whose declarator declares it.
+#[cycle(typing)]
+fn type_param<'a>(
+    arena: &'a Arena,
+    scopes: &mut Scopes<'a>,
+    specs: &Tree<'a>,
+    declarator: Option<&Tree<'a>>,
+    table: &mut Table<'a>,
+) -> Result<Ty<'a>, TypeFault>
+    ensures gives { (p : Place) (r : held_roles.Role) → Gives result (typed_specifier (scopes_of scopes.old) r p (nodes.Param (node_of specs.now) (option_node declarator.entry))) }
+    ensures scopes { IfOk result (λ _. (r : held_roles.Role) → scopes_of scopes.new ≡ within_specifier (scopes_of scopes.old) r (nodes.Param (node_of specs.now) (option_node declarator.entry))) }
+    ensures table { IfOk result (λ _. (r : held_roles.Role) → table_of table.new ≡ filled_specifier (scopes_of scopes.old) r (nodes.Param (node_of specs.now) (option_node declarator.entry)) (table_of table.old)) }
+{
+    let ty = specified_type(arena, scopes, specs)?;
+    type_tree(arena, scopes, Role::Plain, specs, table)?;
+    type_maybe(arena, scopes, Role::Formal { ty }, declarator, table)?;
+    Ok(Ty::Void)
+}
+
+/// Types an enumeration with its enumerators, each of which is in force from its end on.
+#[cycle(typing)]
+fn type_enumeration<'a>(
+    arena: &'a Arena,
+    scopes: &mut Scopes<'a>,
+    tag: Option<&Token>,
+    enumerators: &Trees<'a>,
+    table: &mut Table<'a>,
+) -> Result<Ty<'a>, TypeFault>
+    ensures gives { (p : Place) (r : held_roles.Role) (comma : Bool) → Gives result (typed_specifier (scopes_of scopes.old) r p (nodes.EnumBody (maybe_token tag.entry) (nodes_of enumerators.now) comma)) }
+    ensures scopes { IfOk result (λ _. (r : held_roles.Role) (comma : Bool) → scopes_of scopes.new ≡ within_specifier (scopes_of scopes.old) r (nodes.EnumBody (maybe_token tag.entry) (nodes_of enumerators.now) comma)) }
+    ensures table { IfOk result (λ _. (r : held_roles.Role) (comma : Bool) → table_of table.new ≡ filled_specifier (scopes_of scopes.old) r (nodes.EnumBody (maybe_token tag.entry) (nodes_of enumerators.now) comma) (table_of table.old)) }
+{
+    check_body(scopes, Sort::Enums, tag)?;
+    open_body(scopes, Sort::Enums, tag)?;
+    type_each(arena, scopes, Role::Plain, enumerators, table)?;
+    Ok(Ty::Void)
+}
+
 /// Types a type name, specifiers or members. What specifiers say is asked before they are visited.
 #[cycle(typing)]
 pub(crate) fn type_specifier<'a>(
@@ -146,10 +203,7 @@ pub(crate) fn type_specifier<'a>(
 {
     match kind {
         Specifier::TypeName { specs, declarator } => {
-            let ty = specified_type(arena, scopes, specs)?;
-            type_tree(arena, scopes, Role::Plain, specs, table)?;
-            type_maybe(arena, scopes, Role::Plain, *declarator, table)?;
-            Ok(around_maybe(arena, *declarator, ty)?)
+            type_type_name(arena, scopes, specs, *declarator, table)
         }
         Specifier::Specs { items } => {
             type_each(arena, scopes, role.of_item(items), items, table)?;
@@ -168,12 +222,7 @@ pub(crate) fn type_specifier<'a>(
             tag,
             enumerators,
             ..
-        } => {
-            check_body(scopes, Sort::Enums, *tag)?;
-            open_body(scopes, Sort::Enums, *tag)?;
-            type_each(arena, scopes, Role::Plain, enumerators, table)?;
-            Ok(Ty::Void)
-        }
+        } => { type_enumeration(arena, scopes, *tag, enumerators, table) }
         Specifier::StructDeclaration { specs, declarators } => {
             type_members(arena, scopes, role, specs, declarators, table)
         }
@@ -183,10 +232,7 @@ pub(crate) fn type_specifier<'a>(
             Ok(Ty::Void)
         }
         Specifier::Param { specs, declarator } => {
-            let ty = specified_type(arena, scopes, specs)?;
-            type_tree(arena, scopes, Role::Plain, specs, table)?;
-            type_maybe(arena, scopes, Role::Formal { ty }, *declarator, table)?;
-            Ok(Ty::Void)
+            type_param(arena, scopes, specs, *declarator, table)
         }
     }
 }
