@@ -2,10 +2,13 @@
 //!
 //! Each group of kinds has a module of its own. What stands here goes from a tree to its group, and over several trees.
 
-ghost use Rattle.std.specs.Prelude.{◌≡◌, IfOk};
+ghost use Rattle.std.specs.Prelude.{◌≡◌, Ok, IfOk};
 ghost use Rattle.c_tree.specs.Views.{node_of, nodes_of, option_node};
+ghost use Rattle.c_typing.specs.Options.{◌>>=◌};
+ghost use Rattle.c_typing.specs.Roles.{Plain};
 ghost use Rattle.c_typing.specs.ScopesByCase.{scoped, scoped_maybe, scoped_each, scoped_beside};
 ghost use Rattle.c_typing.specs.TablesByCase.{filled, filled_maybe, filled_each, filled_beside};
+ghost use Rattle.c_typing.specs.Types.{Void};
 ghost use Rattle.c_typing.specs.TypesByCase.{typed, typed_maybe, typed_each, typed_beside};
 ghost use Rattle.typed_unit.specs.Tables.{table_of};
 ghost use Rattle.c_types.specs.Faults.{Gives};
@@ -20,6 +23,7 @@ mod keeping;
 mod operations;
 mod outer;
 mod parts;
+mod postfixes;
 mod primaries;
 mod rows;
 mod specifiers;
@@ -106,6 +110,24 @@ fn type_maybe<'a>(
         None => Ok(Ty::Void),
         Some(tree) => type_tree(arena, scopes, role, tree, table),
     }
+}
+
+/// Types two trees one after the other, which have no type together.
+#[cycle(typing)]
+fn type_both<'a>(
+    arena: &'a Arena,
+    scopes: &mut Scopes<'a>,
+    first: &Tree<'a>,
+    second: &Tree<'a>,
+    table: &mut Table<'a>,
+) -> Result<Ty<'a>, TypeFault>
+    ensures gives { let v = scopes_of scopes.old in Gives result (typed v Plain (node_of first.now) >>= λ _. typed (scoped v Plain (node_of first.now)) Plain (node_of second.now) >>= λ _. Ok Void) }
+    ensures scopes { IfOk result (λ _. let v = scopes_of scopes.old in scopes_of scopes.new ≡ scoped (scoped v Plain (node_of first.now)) Plain (node_of second.now)) }
+    ensures table { IfOk result (λ _. let v = scopes_of scopes.old in table_of table.new ≡ filled (scoped v Plain (node_of first.now)) Plain (node_of second.now) (filled v Plain (node_of first.now) (table_of table.old))) }
+{
+    type_tree(arena, scopes, Role::Plain, first, table)?;
+    type_tree(arena, scopes, Role::Plain, second, table)?;
+    Ok(Ty::Void)
 }
 
 /// Types trees one after the other, all in one role.

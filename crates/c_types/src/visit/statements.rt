@@ -1,23 +1,27 @@
 //! The visit of statements (ISO 9899:1990, 6.6.1 to 6.6.4).
 
-ghost use Rattle.std.specs.Prelude.{◌≡◌, IfOk};
+ghost use Rattle.std.specs.Prelude.{◌≡◌, Ok, IfOk};
 ghost use Rattle.c_tree.specs.declared.place.Place.{Place};
 ghost use Rattle.c_tree.specs.Node as nodes;
-ghost use Rattle.c_tree.specs.Views.{statement_shape};
+ghost use Rattle.c_tree.specs.Views.{node_of, nodes_of, option_node, statement_shape};
 ghost use Rattle.c_typing.specs.Moves.{closed, opened_block};
-ghost use Rattle.c_typing.specs.ScopesByCase.{within_statement};
-ghost use Rattle.c_typing.specs.TablesByCase.{filled_statement};
-ghost use Rattle.c_typing.specs.TypesByCase.{typed_statement};
+ghost use Rattle.c_typing.specs.Options.{◌>>=◌};
+ghost use Rattle.c_typing.specs.Roles.{Plain};
+ghost use Rattle.c_typing.specs.Scopes.{leave};
+ghost use Rattle.c_typing.specs.ScopesByCase.{scoped, scoped_each, scoped_maybe, within_statement};
+ghost use Rattle.c_typing.specs.TablesByCase.{filled, filled_each, filled_maybe, filled_statement};
+ghost use Rattle.c_typing.specs.Types.{Void};
+ghost use Rattle.c_typing.specs.TypesByCase.{typed, typed_each, typed_maybe, typed_statement};
 ghost use Rattle.typed_unit.specs.Tables.{table_of};
 ghost use Rattle.c_types.specs.Faults.{Gives};
 ghost use Rattle.c_types.specs.Roles.{role_of};
 ghost use Rattle.c_types.specs.Scopes.{IsMark, scopes_of};
 
-use super::{type_each, type_maybe, type_tree};
+use super::{type_both, type_each, type_maybe, type_tree};
 use crate::faults::TypeFault;
 use crate::roles::Role;
 use crate::scopes::{Mark, Scopes};
-use c_tree::{Arena, Statement};
+use c_tree::{Arena, Statement, Tree, Trees};
 use c_typing::scopes_stay;
 use c_unit::Ty;
 use std::alloc::AllocError;
@@ -34,7 +38,47 @@ fn enter_block<'a>(scopes: &mut Scopes<'a>, role: Role<'a>) -> Result<Mark, Allo
     }
 }
 
-/// Types a statement. What a block declares is in force in that block alone.
+/// Types a block. What it declares is in force in it alone.
+#[cycle(typing)]
+fn type_block<'a>(
+    arena: &'a Arena,
+    scopes: &mut Scopes<'a>,
+    role: Role<'a>,
+    items: &Trees<'a>,
+    table: &mut Table<'a>,
+) -> Result<Ty<'a>, TypeFault>
+    ensures gives { let v = scopes_of scopes.old in Gives result (typed_each (opened_block v (role_of role.entry)) Plain (nodes_of items.now) >>= λ _. Ok Void) }
+    ensures scopes { IfOk result (λ _. let v = scopes_of scopes.old in scopes_of scopes.new ≡ leave v (scoped_each (opened_block v (role_of role.entry)) Plain (nodes_of items.now))) }
+    ensures table { IfOk result (λ _. let v = scopes_of scopes.old in table_of table.new ≡ filled_each (opened_block v (role_of role.entry)) Plain (nodes_of items.now) (table_of table.old)) }
+{
+    scopes_stay();
+    let mark = enter_block(scopes, role)?;
+    type_each(arena, scopes, Role::Plain, items, table)?;
+    scopes.leave(mark);
+    Ok(Ty::Void)
+}
+
+/// Types `if (condition) then else otherwise` (6.6.4.1).
+#[cycle(typing)]
+fn type_if<'a>(
+    arena: &'a Arena,
+    scopes: &mut Scopes<'a>,
+    condition: &Tree<'a>,
+    then: &Tree<'a>,
+    otherwise: Option<&Tree<'a>>,
+    table: &mut Table<'a>,
+) -> Result<Ty<'a>, TypeFault>
+    ensures gives { let v = scopes_of scopes.old in Gives result (typed v Plain (node_of condition.now) >>= λ _. typed (scoped v Plain (node_of condition.now)) Plain (node_of then.now) >>= λ _. typed_maybe (scoped (scoped v Plain (node_of condition.now)) Plain (node_of then.now)) Plain (option_node otherwise.entry) >>= λ _. Ok Void) }
+    ensures scopes { IfOk result (λ _. let v = scopes_of scopes.old in scopes_of scopes.new ≡ scoped_maybe (scoped (scoped v Plain (node_of condition.now)) Plain (node_of then.now)) Plain (option_node otherwise.entry)) }
+    ensures table { IfOk result (λ _. let v = scopes_of scopes.old in table_of table.new ≡ filled_maybe (scoped (scoped v Plain (node_of condition.now)) Plain (node_of then.now)) Plain (option_node otherwise.entry) (filled (scoped v Plain (node_of condition.now)) Plain (node_of then.now) (filled v Plain (node_of condition.now) (table_of table.old)))) }
+{
+    type_tree(arena, scopes, Role::Plain, condition, table)?;
+    type_tree(arena, scopes, Role::Plain, then, table)?;
+    type_maybe(arena, scopes, Role::Plain, otherwise, table)?;
+    Ok(Ty::Void)
+}
+
+/// Types a statement.
 #[cycle(typing)]
 pub(crate) fn type_statement<'a>(
     arena: &'a Arena,
@@ -48,13 +92,7 @@ pub(crate) fn type_statement<'a>(
     ensures table { IfOk result (λ _. table_of table.new ≡ filled_statement (scopes_of scopes.old) (role_of role.entry) (statement_shape kind.now) (table_of table.old)) }
 {
     match kind {
-        Statement::Block { items } => {
-            scopes_stay();
-            let mark = enter_block(scopes, role)?;
-            type_each(arena, scopes, Role::Plain, items, table)?;
-            scopes.leave(mark);
-            Ok(Ty::Void)
-        }
+        Statement::Block { items } => type_block(arena, scopes, role, items, table),
         Statement::ExprStmt { value } => {
             type_maybe(arena, scopes, Role::Plain, *value, table)?;
             Ok(Ty::Void)
@@ -63,22 +101,9 @@ pub(crate) fn type_statement<'a>(
             condition,
             then,
             otherwise,
-        } => {
-            type_tree(arena, scopes, Role::Plain, condition, table)?;
-            type_tree(arena, scopes, Role::Plain, then, table)?;
-            type_maybe(arena, scopes, Role::Plain, *otherwise, table)?;
-            Ok(Ty::Void)
-        }
-        Statement::Switch { value, body } => {
-            type_tree(arena, scopes, Role::Plain, value, table)?;
-            type_tree(arena, scopes, Role::Plain, body, table)?;
-            Ok(Ty::Void)
-        }
-        Statement::Case { value, body } => {
-            type_tree(arena, scopes, Role::Plain, value, table)?;
-            type_tree(arena, scopes, Role::Plain, body, table)?;
-            Ok(Ty::Void)
-        }
+        } => type_if(arena, scopes, condition, then, *otherwise, table),
+        Statement::Switch { value, body } => type_both(arena, scopes, value, body, table),
+        Statement::Case { value, body } => type_both(arena, scopes, value, body, table),
         Statement::Default { body } | Statement::Label { body, .. } => {
             type_tree(arena, scopes, Role::Plain, body, table)?;
             Ok(Ty::Void)
