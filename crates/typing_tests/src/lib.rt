@@ -32,4 +32,6 @@ mod texts;
 #[cfg(test)]
 mod type_names;
 #[cfg(test)]
+mod units;
+#[cfg(test)]
 mod variables;

@@ -72,6 +72,14 @@ impl<'a> Shown<'a> {
         Ok(())
     }
 
+    /// Appends the tag of a type, if it has one.
+    pub fn push_tag(&self, into: &mut String, tag: Option<u32>) -> Result<(), AllocError> {
+        match tag {
+            Some(tag) => into.push_str(self.name(tag)),
+            None => into.push_str("none"),
+        }
+    }
+
     /// Appends a type in words.
     pub fn push_type(
         &self,
@@ -100,11 +108,21 @@ impl<'a> Shown<'a> {
         }
     }
 
+    /// Appends the number of a file that isn't the first one.
+    fn push_file(&self, into: &mut String, file: u16) -> Result<(), AllocError> {
+        if file == 0 {
+            return Ok(());
+        }
+        let text = format!(in self.alloc; " in file {file}")?;
+        into.push_str(text.as_str())
+    }
+
     /// Appends the line and column of a place.
     fn push_place(&self, into: &mut String, place: Place) -> Result<(), AllocError> {
         let (_, line, column) = self.tokens.line_of(place);
         let text = format!(in self.alloc; "{line}:{column}")?;
-        into.push_str(text.as_str())
+        into.push_str(text.as_str())?;
+        self.push_file(into, place.file)
     }
 
     /// Appends a word and a place.
@@ -153,9 +171,10 @@ impl<'a> Shown<'a> {
                 into.push_str("extern ")?;
                 into.push_str(self.name(name))
             }
-            Some(Var::FileStatic { name, .. }) => {
+            Some(Var::FileStatic { file, name }) => {
                 into.push_str("static ")?;
-                into.push_str(self.name(name))
+                into.push_str(self.name(name))?;
+                self.push_file(into, file)
             }
             Some(Var::LocalStatic { file, token, name }) => {
                 self.push_named(into, "local static", name, Place { file, token })
@@ -180,6 +199,9 @@ impl<'a> Shown<'a> {
         function: &TypedFunction,
     ) -> Result<(), AllocError> {
         self.push_named(into, "function", function.name, function.place)?;
+        if function.file != function.place.file {
+            into.push_str(" of another file")?;
+        }
         if function.own {
             into.push_str(" own")?;
         }

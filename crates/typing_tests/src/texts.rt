@@ -26,6 +26,8 @@ pub enum Question {
     Fault,
     /// The type of the last expression.
     Type,
+    /// The tag of that type.
+    Tag,
     /// The type that the type name in the last expression names.
     TypeName,
     /// The variable that the last expression is.
@@ -39,11 +41,11 @@ pub enum Question {
 }
 
 /// The tokens of a short text, as a parser takes them; a long one is too much for these tests.
-fn tokens_of(alloc: Global, text: &[u8], names: &mut Names) -> Result<Tokens, LexFault> {
+fn tokens_of(alloc: Global, text: &[u8], file: u16, names: &mut Names) -> Result<Tokens, LexFault> {
     if text.len() > 100000 || names.len() > 100000 {
         return Err(LexFault::NoMemory);
     }
-    let tokens = lex(alloc, text, Mode::C, 0, b"a.c", names)?;
+    let tokens = lex(alloc, text, Mode::C, file, b"a.c", names)?;
     Ok(strip(alloc, &tokens)?)
 }
 
@@ -71,6 +73,13 @@ fn typed_of<'a>(
 fn say_type(shown: &Shown, typed: &TypedUnit, tree: &Tree) -> Result<String, AllocError> {
     let mut text = String::new(shown.alloc);
     shown.push_type(&mut text, typed, typed.ty(tree))?;
+    Ok(text)
+}
+
+/// The tag of the type of this tree.
+fn say_tag(shown: &Shown, typed: &TypedUnit, tree: &Tree) -> Result<String, AllocError> {
+    let mut text = String::new(shown.alloc);
+    shown.push_tag(&mut text, typed.tag(typed.ty(tree)))?;
     Ok(text)
 }
 
@@ -110,6 +119,7 @@ fn say_of(
     tree: &Tree,
 ) -> Result<String, AllocError> {
     match question {
+        Question::Tag => say_tag(shown, typed, tree),
         Question::Variable => say_variable(shown, typed, tree),
         Question::Declarator => say_declared(shown, typed, tree),
         _ => say_type(shown, typed, tree),
@@ -129,7 +139,7 @@ fn say_functions(shown: &Shown, typed: &TypedUnit) -> Result<String, AllocError>
 /// The tree that a question is about.
 fn asked<'a>(typed: &TypedUnit<'a>, question: Question) -> Option<&'a Tree<'a>> {
     match question {
-        Question::Type | Question::Variable => last_expression(typed),
+        Question::Type | Question::Tag | Question::Variable => last_expression(typed),
         Question::TypeName => last_type_name(typed),
         Question::Declarator => last_declarator(typed),
         Question::Fault | Question::Initializer | Question::Functions => None,
@@ -142,7 +152,7 @@ fn say(shown: &Shown, typed: &TypedUnit, question: Question) -> Result<String, A
         Question::Fault => String::from_str(shown.alloc, "typed"),
         Question::Functions => say_functions(shown, typed),
         Question::Initializer => say_initialized(shown, typed),
-        Question::Type | Question::TypeName | Question::Variable | Question::Declarator => {
+        _ => {
             match asked(typed, question) {
                 Some(tree) => say_of(shown, typed, question, tree),
                 None => String::from_str(shown.alloc, "nothing there"),
@@ -162,11 +172,16 @@ fn say_untyped(shown: &Shown, why: Untyped) -> Result<String, AllocError> {
     Ok(text)
 }
 
-/// The answer to a question about a text, or its fault.
-pub fn said(alloc: Global, text: &str, question: Question) -> Result<String, LexFault> {
+/// The answer to a question about the text of a file with this number, or its fault.
+pub fn said_in(
+    alloc: Global,
+    file: u16,
+    text: &str,
+    question: Question,
+) -> Result<String, LexFault> {
     let arena = Bump::new(alloc);
     let mut names = Names::new(alloc);
-    let tokens = tokens_of(alloc, text.as_bytes(), &mut names)?;
+    let tokens = tokens_of(alloc, text.as_bytes(), file, &mut names)?;
     let shown = Shown {
         alloc,
         names: &names,
@@ -176,4 +191,9 @@ pub fn said(alloc: Global, text: &str, question: Question) -> Result<String, Lex
         Ok(typed) => Ok(say(&shown, &typed, question)?),
         Err(why) => Ok(say_untyped(&shown, why)?),
     }
+}
+
+/// The answer to a question about a text, or its fault.
+pub fn said(alloc: Global, text: &str, question: Question) -> Result<String, LexFault> {
+    said_in(alloc, 0, text, question)
 }
