@@ -4,16 +4,16 @@ use c_tree::{Initializer, Kind, Operation, Outer, Primary, Statement, Tree};
 use typed_unit::TypedUnit;
 
 /// What stands in the body of the last function.
-fn last_body<'a>(typed: &TypedUnit<'a>) -> &'a [Tree<'a>] {
+fn last_body<'a>(typed: &TypedUnit<'a>) -> Option<&'a [Tree<'a>]> {
     let Some(last) = typed.unit.chunks.all.last() else {
-        return &[];
+        return None;
     };
     let Kind::Outer(Outer::Function { body, .. }) = &last.kind else {
-        return &[];
+        return None;
     };
     match &body.kind {
-        Kind::Statement(Statement::Block { items }) => items.all,
-        _ => &[],
+        Kind::Statement(Statement::Block { items }) => Some(items.all),
+        _ => None,
     }
 }
 
@@ -31,7 +31,10 @@ fn expression_in<'a>(items: &'a [Tree<'a>]) -> Option<&'a Tree<'a>> {
 
 /// The expression of the last statement of the last function.
 pub fn last_expression<'a>(typed: &TypedUnit<'a>) -> Option<&'a Tree<'a>> {
-    expression_in(last_body(typed))
+    match last_body(typed) {
+        Some(items) => expression_in(items),
+        None => None,
+    }
 }
 
 /// The type name in the expression of the last statement, if that is one with a type name.
@@ -55,6 +58,14 @@ fn declared_in<'a>(declaration: &Tree<'a>) -> Option<&'a Tree<'a>> {
     }
 }
 
+/// The last declarator of the last of these, if that is a declaration.
+fn last_declared_in<'a>(items: &'a [Tree<'a>]) -> Option<&'a Tree<'a>> {
+    match items.last() {
+        Some(item) => declared_in(item),
+        None => None,
+    }
+}
+
 /// The last declarator of the last declaration of the unit, or of what stands last in the body of its last function. It has its
 /// initializer if there is one.
 fn last_declared<'a>(typed: &TypedUnit<'a>) -> Option<&'a Tree<'a>> {
@@ -62,8 +73,8 @@ fn last_declared<'a>(typed: &TypedUnit<'a>) -> Option<&'a Tree<'a>> {
         return None;
     };
     match &last.kind {
-        Kind::Outer(Outer::Function { .. }) => match last_body(typed).last() {
-            Some(item) => declared_in(item),
+        Kind::Outer(Outer::Function { .. }) => match last_body(typed) {
+            Some(items) => last_declared_in(items),
             None => None,
         },
         _ => declared_in(last),
