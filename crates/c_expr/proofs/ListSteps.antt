@@ -7,7 +7,7 @@ use Rattle.c_tree.specs.Syntax.{Syntaxes, no_more, more}
 use Rattle.c_tree.specs.Forget.{view}
 use Rattle.c_grammar.specs.Symbols.{after_sign, begins}
 use Rattle.c_grammar.specs.Levels.{assignment_level}
-use Rattle.c_grammar.specs.Names.{Names, declared}
+use Rattle.c_grammar.specs.Names.{Names, with_param}
 use Rattle.c_grammar.specs.Nonterminal.{Expression, Parameter}
 use Rattle.c_grammar.specs.Found.{◌>>=◌, Reader}
 use Rattle.c_grammar.specs.ExpressionSteps.{read_designator, read_path, read_more_arguments}
@@ -52,16 +52,16 @@ params-longer (Some ps) all t = let F : Syntaxes → Option (Syntaxes × Bool ×
 
 -- a parameter and a comma; what it declares is in force behind it
 pub params-next : (inner : Reader) (a b c : Names) (f : ℕ) (ts r others : List Symbol) (all pushed : List Tree) (t : Tree) (whole : Option (Syntaxes × Bool × List Symbol))
-    → 0 < f → inner Parameter a ts ≡ Some (view t, r) → after_sign marks.Comma r ≡ Some others → after_sign marks.Ellipsis others ≡ None → b ≡ a → c ≡ declared (view t) b → pushed ≡ all ++ (t ∷ [])
+    → 0 < f → inner Parameter a ts ≡ Some (view t, r) → after_sign marks.Comma r ≡ Some others → after_sign marks.Ellipsis others ≡ None → b ≡ a → c ≡ with_param (view t) b → pushed ≡ all ++ (t ∷ [])
     → params_after all (read_params inner a f ts) ≡ whole → params_after pushed (read_params inner c (f - 1) others) ≡ whole
 params-next inner a b c f ts r others all pushed t whole p h o e k d n w =
     ap (λ x. params_after x (read_params inner c (f - 1) others)) n
-    ∙ ap (λ x. params_after (all ++ (t ∷ [])) (read_params inner x (f - 1) others)) (d ∙ ap (declared (view t)) k)
-    ∙ sym (params-longer (read_params inner (declared (view t) a) (f - 1) others) all t)
+    ∙ ap (λ x. params_after (all ++ (t ∷ [])) (read_params inner x (f - 1) others)) (d ∙ ap (with_param (view t)) k)
+    ∙ sym (params-longer (read_params inner (with_param (view t) a) (f - 1) others) all t)
     ∙ sym (ap (params_after all) step)
     ∙ w
   where
-    step : read_params inner a f ts ≡ (read_params inner (declared (view t) a) (f - 1) others >>= λ ps. Some (more (view t) ps.0, ps.1, ps.2))
+    step : read_params inner a f ts ≡ (read_params inner (with_param (view t) a) (f - 1) others >>= λ ps. Some (more (view t) ps.0, ps.1, ps.2))
     step = rw (read_params-some inner a f ts p, h, o, e) refl
 
 pub ruleset arguments = (read_more_arguments-zero, read_more_arguments-some, last_one, before-none, height_in-push)

@@ -6,7 +6,7 @@ ghost use Rattle.c_tree.specs.Symbol.{Sign, Reserved, symbols_of};
 ghost use Rattle.c_tree.specs.Syntax as kinds;
 ghost use Rattle.c_tree.specs.Height.{height_of};
 ghost use Rattle.c_tree.specs.Forget.{view, declarator_view};
-ghost use Rattle.c_grammar.specs.Names.{name_of, declarator_name, declared};
+ghost use Rattle.c_grammar.specs.Names.{name_of, declarator_name, with_param};
 ghost use Rattle.c_grammar.specs.DeclaratorSteps as steps;
 ghost use Rattle.c_grammar.specs.Nonterminal.{Parameter};
 ghost use Rattle.c_grammar.specs.Found.{made};
@@ -72,7 +72,7 @@ fn name_in(declarator: &Declarator) -> Option<u32>
 
 /// Puts a parameter in force.
 pub fn declare_param(names: &mut TypeNames, param: &Tree) -> Result<(), AllocError>
-    ensures now { IfOk result (λ _. names.new.now ≡ declared (view param.now) names.old.now) }
+    ensures now { MatchResult result (λ _. names.new.now ≡ with_param (view param.now) names.old.now) (λ _. names.new.now ≡ names.old.now) }
     ensures saved { names.new.saved ≡ names.old.saved }
 {
     match &param.kind {

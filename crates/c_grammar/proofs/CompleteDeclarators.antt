@@ -10,7 +10,7 @@ use Rattle.c_tree.specs.Phrase.{phrase_then}
 use Rattle.c_tree.specs.Tokens.{phrase_of, maybe_phrase, row_phrase, list_phrase, more_phrase, ellipsis_if, tokens_then}
 use Rattle.c_grammar.specs.Symbols.{is_sign, is_word, after_sign, begins}
 use Rattle.c_grammar.specs.Levels.{assignment_level}
-use Rattle.c_grammar.specs.Names.{Names, declared}
+use Rattle.c_grammar.specs.Names.{Names, with_param}
 use Rattle.c_grammar.specs.Specifiers.{Place, InTypeName, InParam, begins_specifiers, fit}
 use Rattle.c_grammar.specs.Nonterminal.{Form, Abstract, Either, may_name, may_omit, Expression, Specifiers, DeclaratorIn, Parameter}
 use Rattle.c_grammar.specs.Grammar.{IsTag, AreItems, IsMaybeDeclarator, IsTypeName, IsDeclarator, AreSuffixes, IsSuffix, IsBound, IsParam, AreParams, IsList, ArePointers, is_bound_word, is_pointer_word}
@@ -35,7 +35,7 @@ bound_no_word : (names : Names) (bound : MaybeSyntax) (r : List Symbol) → IsBo
 bound_no_word names absent r w = refl
 bound_no_word names (present e) r w = expression_no_bound_word names e (Sign marks.CloseBracket ∷ r) w.1
 
-params-complete : (inner : Reader) (n : ℕ) (names : Names) (f : ℕ) (e : Syntax) (es : Syntaxes) (variadic : Bool) (r : List Symbol) → Knows inner n → IsParam names e → height_of e ≤ n → AreParams (declared e names) es → height_in es ≤ n → count es < f
+params-complete : (inner : Reader) (n : ℕ) (names : Names) (f : ℕ) (e : Syntax) (es : Syntaxes) (variadic : Bool) (r : List Symbol) → Knows inner n → IsParam names e → height_of e ≤ n → AreParams (with_param e names) es → height_in es ≤ n → count es < f
     → read_params inner names f (tokens_then e (phrase_then (more_phrase es) (phrase_then (ellipsis_if variadic) (Sign marks.CloseParen ∷ r)))) ≡ Some (more e es, variadic, r)
 unfolding read_params
 params-complete inner n names zero e es variadic r k w h ws hs c = absurd (omega arith)
@@ -45,8 +45,8 @@ params-complete inner n names (suc f) e (more e2 es) variadic r k w h ws hs c =
     let Y = phrase_then (more_phrase es) (phrase_then (ellipsis_if variadic) (Sign marks.CloseParen ∷ r)) in
     rw (
       k Parameter names e (Sign marks.Comma ∷ tokens_then e2 Y) w h refl,
-      param_no_sign marks.Ellipsis (declared e names) e2 Y ws.0,
-      params-complete inner n (declared e names) f e2 es variadic r k ws.0 (omega arith) ws.1 (omega arith) (omega arith),
+      param_no_sign marks.Ellipsis (with_param e names) e2 Y ws.0,
+      params-complete inner n (with_param e names) f e2 es variadic r k ws.0 (omega arith) ws.1 (omega arith) (omega arith),
     ) refl
 
 -- A parameter that begins with `void` isn't closed behind it, unless it is the only one.

@@ -8,7 +8,7 @@ use Rattle.c_tree.specs.Phrase.{phrase_then}
 use Rattle.c_tree.specs.Tokens.{ellipsis_if, list_phrase, more_phrase, row_phrase, tokens_then}
 use Rattle.c_grammar.specs.Symbols.{after_sign, after_keyword, begins, take_symbol, run_of, after_run, is_word, AreAll}
 use Rattle.c_grammar.specs.Levels.{assignment_level}
-use Rattle.c_grammar.specs.Names.{Names, is_type, declared}
+use Rattle.c_grammar.specs.Names.{Names, is_type, with_param}
 use Rattle.c_grammar.specs.Specifiers.{InTypeName, InParam}
 use Rattle.c_grammar.specs.Nonterminal.{Form, Abstract, Either, may_name, may_omit, Expression, Specifiers, NameOfType, DeclaratorIn, Parameter}
 use Rattle.c_grammar.specs.Grammar.{is_pointer_word, ArePointers, is_bound_word, is_nothing, is_taken_as_type, lone_void, IsList, AreSuffixes, IsSuffix, AreParams}
@@ -80,8 +80,8 @@ params-sound inner n names (suc f) ts es variadic r s h =
           let comma = i.tokens ∙ ap (tokens_then a.0.0) (taken marks.Comma a.0.1 p.0 p.1) in
           elim (chosen (after_sign marks.Ellipsis p.0) _ _ _ p.2) as (λ _. Listed names ts es variadic r) [
             | inl d ↦
-                let b = bound (read_params inner (declared a.0.0 names) f p.0) _ _ d.1 in
-                let j = params-sound inner n (declared a.0.0 names) f p.0 b.0.0 b.0.1 b.0.2 s b.1 in
+                let b = bound (read_params inner (with_param a.0.0 names) f p.0) _ _ d.1 in
+                let j = params-sound inner n (with_param a.0.0 names) f p.0 b.0.0 b.0.1 b.0.2 s b.1 in
                 listed names ts (more a.0.0 b.0.0) b.0.1 b.0.2 es variadic r b.2
                 (record {
                   tokens = comma ∙ ap (λ x. tokens_then a.0.0 (Sign marks.Comma ∷ x)) j.tokens ∙ ap (tokens_then a.0.0) (with_comma b.0.0 _ j.some);

@@ -5,7 +5,7 @@ use Rattle.c_tree.specs.Symbol.{Symbol}
 use Rattle.c_tree.specs.Syntax.{Syntax, Operation, Binary, no_more, more}
 use Rattle.c_grammar.specs.Symbols.{after_sign, begins, take_symbol, run_of, after_run}
 use Rattle.c_grammar.specs.Levels.{assignment_level}
-use Rattle.c_grammar.specs.Names.{Names, declared}
+use Rattle.c_grammar.specs.Names.{Names, with_param}
 use Rattle.c_grammar.specs.Specifiers.{goes_on, types}
 use Rattle.c_grammar.specs.Nonterminal.{Nonterminal, Expression, Parameter}
 use Rattle.c_grammar.specs.Found.{◌>>=◌, if_there, Found, made, Reader}
@@ -39,10 +39,10 @@ pub read_params-zero : (inner : Reader) (names : Names) (ts : List Symbol) → r
 unfolding read_params
 read_params-zero inner names ts = refl
 
-pub read_params-some : (inner : Reader) (names : Names) (f : ℕ) (ts : List Symbol) → 0 < f → read_params inner names f ts ≡ (inner Parameter names ts >>= λ p. if_there (after_sign marks.Comma p.1) (after_sign marks.CloseParen p.1 >>= λ rest. Some (more p.0 no_more, false, rest)) (λ others. if_there (after_sign marks.Ellipsis others) (read_params inner (declared p.0 names) (f - 1) others >>= λ ps. Some (more p.0 ps.0, ps.1, ps.2)) (λ end. after_sign marks.CloseParen end >>= λ rest. Some (more p.0 no_more, true, rest))))
+pub read_params-some : (inner : Reader) (names : Names) (f : ℕ) (ts : List Symbol) → 0 < f → read_params inner names f ts ≡ (inner Parameter names ts >>= λ p. if_there (after_sign marks.Comma p.1) (after_sign marks.CloseParen p.1 >>= λ rest. Some (more p.0 no_more, false, rest)) (λ others. if_there (after_sign marks.Ellipsis others) (read_params inner (with_param p.0 names) (f - 1) others >>= λ ps. Some (more p.0 ps.0, ps.1, ps.2)) (λ end. after_sign marks.CloseParen end >>= λ rest. Some (more p.0 no_more, true, rest))))
 unfolding read_params
 read_params-some inner names zero ts h = absurd (omega arith)
-read_params-some inner names (suc f) ts h = ap (λ x. (inner Parameter names ts >>= λ p. if_there (after_sign marks.Comma p.1) (after_sign marks.CloseParen p.1 >>= λ rest. Some (more p.0 no_more, false, rest)) (λ others. if_there (after_sign marks.Ellipsis others) (read_params inner (declared p.0 names) x others >>= λ ps. Some (more p.0 ps.0, ps.1, ps.2)) (λ end. after_sign marks.CloseParen end >>= λ rest. Some (more p.0 no_more, true, rest))))) (pred f)
+read_params-some inner names (suc f) ts h = ap (λ x. (inner Parameter names ts >>= λ p. if_there (after_sign marks.Comma p.1) (after_sign marks.CloseParen p.1 >>= λ rest. Some (more p.0 no_more, false, rest)) (λ others. if_there (after_sign marks.Ellipsis others) (read_params inner (with_param p.0 names) x others >>= λ ps. Some (more p.0 ps.0, ps.1, ps.2)) (λ end. after_sign marks.CloseParen end >>= λ rest. Some (more p.0 no_more, true, rest))))) (pred f)
 
 pub read_suffixes-zero : (inner : Reader) (names : Names) (ts : List Symbol) → read_suffixes inner names 0 ts ≡ cond (begins begins_suffix ts) None (Some (no_more, ts))
 unfolding read_suffixes

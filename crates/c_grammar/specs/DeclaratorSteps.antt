@@ -6,7 +6,7 @@ use Rattle.c_tree.specs.Symbol.{Symbol, Sign}
 use Rattle.c_tree.specs.Syntax.{Specifier, Declarator, Part, TypeName, Param, Named, Nested, Unnamed, ArrayBound, VoidParams, Params, absent, present, Syntaxes, no_more, more}
 use Rattle.c_grammar.specs.Symbols.{after_sign, after_keyword, begins, take_symbol, run_of, after_run, is_sign, is_word}
 use Rattle.c_grammar.specs.Levels.{assignment_level}
-use Rattle.c_grammar.specs.Names.{Names, declared}
+use Rattle.c_grammar.specs.Names.{Names, with_param}
 use Rattle.c_grammar.specs.Specifiers.{InTypeName, InParam, begins_specifiers}
 use Rattle.c_grammar.specs.Nonterminal.{Form, Abstract, Either, may_name, may_omit, Expression, Specifiers, DeclaratorIn, Parameter}
 use Rattle.c_grammar.specs.Grammar.{is_pointer_word, is_bound_word, is_nothing}
@@ -26,7 +26,7 @@ read_params inner names (suc f) ts =
     inner Parameter names ts >>= λ p. if_there (after_sign marks.Comma p.1)
     (after_sign marks.CloseParen p.1 >>= λ rest. Some (more p.0 no_more, false, rest))
     (λ others. if_there (after_sign marks.Ellipsis others)
-    (read_params inner (declared p.0 names) f others >>= λ ps. Some (more p.0 ps.0, ps.1, ps.2))
+    (read_params inner (with_param p.0 names) f others >>= λ ps. Some (more p.0 ps.0, ps.1, ps.2))
     (λ end. after_sign marks.CloseParen end >>= λ rest. Some (more p.0 no_more, true, rest)))
 
 -- "void" ")"

@@ -9,7 +9,7 @@ use Rattle.c_tree.specs.Height.{height_of}
 use Rattle.c_tree.specs.Tokens.{tokens_of}
 use Rattle.c_grammar.specs.Symbols.{is_sign, is_word, is_string, is_constant, AreAll}
 use Rattle.c_grammar.specs.Levels.{postfix_level, unary_level, cast_level, logical_or_level, conditional_level, assignment_level, level_of, operand_level, grade}
-use Rattle.c_grammar.specs.Names.{Names, is_type, declared}
+use Rattle.c_grammar.specs.Names.{Names, is_type, with_param}
 use Rattle.c_grammar.specs.Specifiers.{Place, InTypeName, InParam, is_qualifier, is_specifier, types, fit}
 use Rattle.c_grammar.specs.Nonterminal.{Form, Abstract, Either, may_name, may_omit, Nonterminal, Expression, Specifiers, NameOfType, DeclaratorIn, Parameter}
 
@@ -63,7 +63,7 @@ abbrev pub is_nothing : List Symbol → Syntaxes → Bool
 is_nothing [] no_more = true
 is_nothing _ _ = false
 
--- In a parameter, a name in parentheses that is a type is the type of a parameter and not the declared name (6.5.4.3).
+-- In a parameter, a name in parentheses that is a type is the type of a parameter and not the with_param name (6.5.4.3).
 abbrev pub is_taken_as_type : Form → Names → Syntax → Bool
 is_taken_as_type Either names (Declarator (Named [] (Word name) suffixes)) = is_type names name
 is_taken_as_type _ names _ = false
@@ -169,7 +169,7 @@ abbrev mutual
   -- A parameter's name is in force behind it, up to the end of the list.
   pub AreParams : Names → Syntaxes → Type 0
   AreParams names no_more = Unit {0}
-  AreParams names (more e es) = IsParam names e × AreParams (declared e names) es
+  AreParams names (more e es) = IsParam names e × AreParams (with_param e names) es
 
   pub IsParam : Names → Syntax → Type 0
   IsParam names (Specifier k) = IsParamSpecifier names k

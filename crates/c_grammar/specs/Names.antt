@@ -36,14 +36,14 @@ with_declarator absent type names = names
 with_declarator (present d) type names = with_name (name_of d) type names
 
 -- the names behind a parameter: its own hides what was called so before
-abbrev pub declared : Syntax → Names → Names
-declared (Specifier (Param specs declarator)) names = with_declarator declarator false names
-declared _ names = names
+abbrev pub with_param : Syntax → Names → Names
+with_param (Specifier (Param specs declarator)) names = with_declarator declarator false names
+with_param _ names = names
 
 -- the names behind all of these
-abbrev pub declared_all : Syntaxes → Names → Names
-declared_all no_more names = names
-declared_all (more e es) names = declared_all es (declared e names)
+abbrev pub with_params : Syntaxes → Names → Names
+with_params no_more names = names
+with_params (more e es) names = with_params es (with_param e names)
 
 -- a name alone, maybe in parentheses
 abbrev mutual

@@ -2,7 +2,8 @@
 use Rattle.std.proofs.Common.{◌≡◌, ◌≢◌, ℕ, zero, suc, ◌+◌, ◌≤◌, ◌<◌, List, [], ◌∷◌, length, get_or, refl, ap, sym, ◌∙◌, arith, inl, inr}
 use Rattle.c_tree.specs.declared.token.Token.{Token}
 use Rattle.c_lexer.specs.declared.fault.Spot.{Spot}
-use Rattle.c_lexer.specs.Tokens.{Rises, number_at, position_of}
+use Rattle.c_tree.specs.TokenPlaces.{Rises}
+use Rattle.c_lexer.specs.Tokens.{number_at, position_of}
 use Rattle.std.proofs.lemmas.Bool.{cases_lt}
 use Rattle.c_reading.proofs.Tests.{unequal, same_true}
 

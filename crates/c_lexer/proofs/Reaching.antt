@@ -1,7 +1,7 @@
 -- From piece to piece: what the lexer has kept stays what the definition gives.
 use Rattle.std.proofs.Common.{◌≡◌, ◌≢◌, ℕ, ◌+◌, ◌≤◌, ◌<◌, true, false, List, [], ◌∷◌, ◌++◌, length, take, drop, None, Some, slice_get, Ok, refl, ap, sym, ◌∙◌, subst, arith, length-append, length-drop}
 use Rattle.std.proofs.lemmas.List.{length-take-le, drop_at}
-use Rattle.mx_base.specs.Names.{AddsAtMost, HasNoRepeats}
+use Rattle.mx_base.specs.Names.{AddsAtMost, HasNoRepeats, names_after}
 use Rattle.mx_base.proofs.NameLaws.{kept_number, adds_both}
 use Rattle.c_tree.specs.declared.token.Token.{Token}
 use Rattle.c_reading.specs.declared.mode.Mode.{Mode}
@@ -20,7 +20,9 @@ use Rattle.c_lexer.specs.Pieces.{piece_view, piece_len, GivesPiece}
 use Rattle.c_lexer.specs.Progress.{here_of, InBounds, Steps, Reached, spot_of}
 use Rattle.c_reading.specs.declared.fault.Fault.TheVariants.{BadByte, OpenText, BadNumber, BadMarker}
 use Rattle.c_lexer.specs.Faults.{fault_there}
-use Rattle.c_lexer.specs.Tokens.{TokenList, IsToken, AreTokens, IsSpot, Rises, Lexes, IsFault, IsThere, Refuses}
+use Rattle.c_lexer.specs.Naming.{text_named, with_name, named_by}
+use Rattle.c_tree.specs.TokenPlaces.{AreOfFile, Rises}
+use Rattle.c_lexer.specs.Tokens.{TokenList, IsToken, AreTokens, IsSpot, Lexes, IsFault, IsThere, Refuses}
 
 -- ---- tokens
 
@@ -62,6 +64,12 @@ tokens_rise number names before (l ∷ ls) (t ∷ ts) a =
     let r : Rises (before + 1) ts (before + length (t ∷ ts)) = rw z at (tokens_rise number names (before + 1) ls ts a.1) in
     (omega arith, rw p r)
 
+pub tokens_of_file : (number : ℕ) (names : List (List ℕ)) (before : ℕ) (ls : List Lexeme) (ts : List Token) → AreTokens number names before ls ts → AreOfFile number ts
+tokens_of_file number names before [] [] a = tt
+tokens_of_file number names before [] (t ∷ ts) a = absurd a
+tokens_of_file number names before (l ∷ ls) [] a = absurd a
+tokens_of_file number names before (l ∷ ls) (t ∷ ts) a = (a.0.file, tokens_of_file number names (before + 1) ls ts a.1)
+
 pub tokens_count : (number : ℕ) (names : List (List ℕ)) (before : ℕ) (ls : List Lexeme) (ts : List Token) → AreTokens number names before ls ts → length ls ≡ length ts
 tokens_count number names before [] [] a = refl
 tokens_count number names before [] (t ∷ ts) a = absurd a
@@ -85,15 +93,21 @@ piece_size (MarkerLine n false marker) bs s h =
     omega (arith, length-append (take n (drop 1 bs)) [])
 piece_size (Spelling n kind) bs s h = length-take-le n bs h
 
+-- ---- names
+
+named-push : (names : List (List ℕ)) (ps : List pieces.Piece) (p : pieces.Piece) → named_by names (ps ++ p ∷ []) ≡ with_name (named_by names ps) (text_named p)
+named-push names [] p = refl
+named-push names (q ∷ qs) p = named-push (with_name names (text_named q)) qs p
+
 -- ---- one step
 
 module _ (mode : Mode) (number : ℕ) (word bytes : List ℕ) (before : List (List ℕ)) where
   -- behind the piece in front
   pub reached_next : (rest : List ℕ) (here next : Here) (kept new : List Token) (names later : List (List ℕ)) (p : Piece) (r : Reached mode number word bytes before rest here kept names) →
       GivesPiece mode here.first rest (Ok p) → Steps mode number later r.file here next (piece_view p rest) kept new →
-      AddsAtMost names later 1 → HasNoRepeats later → InBounds next → next.offset ≡ here.offset + piece_len p →
+      later ≡ with_name names (text_named (piece_view p rest)) → AddsAtMost names later 1 → HasNoRepeats later → InBounds next → next.offset ≡ here.offset + piece_len p →
       Reached mode number word bytes before (drop (piece_len p) rest) next new later
-  reached_next rest here next kept new names later p r g s adds once bounds offset =
+  reached_next rest here next kept new names later p r g s named adds once bounds offset =
       let view = piece_view p rest in
       let f = cut-sound mode here.first rest view g.0 in
       let size = piece_size p rest g.1 g.2 in
@@ -118,6 +132,7 @@ module _ (mode : Mode) (number : ℕ) (word bytes : List ℕ) (before : List (Li
         stands = stands;
         tokens = pushed;
         adds = adds_fewer before later ((here.offset + 1) + 1) (next.offset + 1) total enough;
+        named = named ∙ ap (λ ns. with_name ns (text_named view)) r.named ∙ sym (named-push (names_after before word) r.cut view);
         once = once;
         size = rw (length-drop (piece_len p) rest) (let q = g.2 in let z = r.size in omega arith);
         bounds = bounds;
@@ -132,8 +147,8 @@ pub adds_more : (old new : List (List ℕ)) (m n : ℕ) → AddsAtMost old new m
 adds_more old new m n a h = record { more = a.more; behind = a.behind; few = let f = a.few in omega arith }
 
 module _ (mode : Mode) (number : ℕ) (word bytes : List ℕ) (before : List (List ℕ)) where
-  pub reached_first : (here : Here) (names : List (List ℕ)) → slice_get names here.source ≡ Some word → here_of word here ≡ beginning word → AddsAtMost before names 1 → HasNoRepeats names → InBounds here → Reached mode number word bytes before bytes here [] names
-  reached_first here names known stands adds once bounds =
+  pub reached_first : (here : Here) (names : List (List ℕ)) → slice_get names here.source ≡ Some word → here_of word here ≡ beginning word → names ≡ names_after before word → AddsAtMost before names 1 → HasNoRepeats names → InBounds here → Reached mode number word bytes before bytes here [] names
+  reached_first here names known stands named adds once bounds =
       let zero : here.offset ≡ 0 = ap (λ h. h.offset) stands in
       record {
         cut = [];
@@ -143,6 +158,7 @@ module _ (mode : Mode) (number : ℕ) (word bytes : List ℕ) (before : List (Li
         stands = stands;
         tokens = tt;
         adds = adds_more before names 1 (here.offset + 1) adds (omega arith);
+        named = named;
         once = once;
         size = omega arith;
         bounds = bounds;
@@ -201,6 +217,10 @@ same_tokens mode number word names bytes list ps qs r s l = subst (λ x. Lexes m
 
 pub some_left : (rest : List ℕ) → 0 < length rest → rest ≢ []
 some_left rest h e = let z : length rest ≡ 0 = ap length e in absurd (omega arith)
+
+-- the names are those of each reading
+pub same_names : (mode : Mode) (word bytes : List ℕ) (before names : List (List ℕ)) (ps qs : List pieces.Piece) → IsReading mode word ps bytes → IsReading mode word qs bytes → names ≡ named_by before ps → names ≡ named_by before qs
+same_names mode word bytes before names ps qs r s n = n ∙ ap (named_by before) (one_reading mode (beginning word) ps qs bytes r s)
 
 -- the list that was made of these tokens and this end
 pub made_list : (mode : Mode) (number : ℕ) (word : List ℕ) (names : List (List ℕ)) (ps : List pieces.Piece) (list : TokenList) (kept : List Token) (end : Spot) → list.all ≡ kept → list.end ≡ end → Lexes mode number word names ps (record { all = kept; end = end }) → Lexes mode number word names ps list

@@ -1,7 +1,7 @@
 -- How many tokens there are whose numbers rise.
 use Rattle.std.proofs.Common.{ℕ, ◌+◌, ◌≤◌, List, [], ◌∷◌, length, arith}
 use Rattle.c_tree.specs.declared.token.Token.{Token}
-use Rattle.c_lexer.specs.Tokens.{Rises}
+use Rattle.c_tree.specs.TokenPlaces.{Rises}
 
 count : (low : ℕ) (ts : List Token) (high : ℕ) → Rises low ts high → low + length ts ≤ high
 count low [] high r = omega arith

@@ -3,10 +3,11 @@ use Rattle.std.specs.Prelude.{◌≡◌, ◌+◌, ◌≤◌, ℕ, List, length, 
 use Rattle.c_tree.specs.declared.token.Token.{Token}
 use Rattle.c_reading.specs.declared.mode.Mode.{Mode}
 use Rattle.c_reading.specs.Pieces as pieces
-use Rattle.mx_base.specs.Names.{AddsAtMost, HasNoRepeats}
+use Rattle.mx_base.specs.Names.{AddsAtMost, HasNoRepeats, names_after}
 use Rattle.c_reading.specs.Reading.{Cuts, lexeme_at, lexemes}
 use Rattle.c_lexer.specs.declared.fault.Spot.{Spot}
 use Rattle.c_lexer.specs.declared.here.Here.{Here}
+use Rattle.c_lexer.specs.Naming.{named_by}
 use Rattle.c_lexer.specs.Tokens.{AreTokens}
 
 -- where the lexer stands in a presumed file
@@ -46,6 +47,7 @@ pub record Reached (mode : Mode) (number : ℕ) (word bytes : List ℕ) (before 
   pub stands : here_of file here ≡ pieces.behind_all (pieces.beginning word) cut
   pub tokens : AreTokens number names 0 (lexemes mode (pieces.beginning word) cut) kept
   pub adds : AddsAtMost before names (here.offset + 1)
+  pub named : names ≡ named_by (names_after before word) cut
   pub once : HasNoRepeats names
   pub size : here.offset + length rest ≡ length bytes
   pub bounds : InBounds here

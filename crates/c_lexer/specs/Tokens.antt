@@ -43,11 +43,6 @@ pub record TokenList : Type 0 where
   pub all : List Token
   pub end : Spot
 
--- the numbers of the tokens' places rise from low on, and stay below high
-abbrev pub Rises : ℕ → List Token → ℕ → Type 0
-Rises low [] high = low ≤ high
-Rises low (t ∷ ts) high = (low ≤ t.place.token) × Rises (t.place.token + 1) ts high
-
 -- the presumed file, the presumed line and the column of the token with this number, else those of the end
 abbrev pub position_of : List Token → Spot → ℕ → ℕ × ℕ × ℕ
 position_of [] end n = (end.source, end.line, end.col)

@@ -22,8 +22,8 @@ pub struct Spot {
     pub col: u32,
 }
 
-/// Why there are no tokens. All but the last come exactly where the bytes have no reading, at the end of the longest
-/// beginning that has one.
+/// Why there are no tokens. All but the last come exactly where the bytes have no reading, at the first place where no blank,
+/// marker or spelling can be cut off behind those before: in `08` at its beginning, since its longest spelling is no constant.
 #[derive(Debug, Drop, Error)]
 pub enum LexFault {
     /// No token begins with the byte there.

@@ -1,12 +1,13 @@
 //! Reads a whole source, piece by piece.
 
 ghost use Rattle.std.specs.Prelude.{◌≡◌, ◌+◌, ◌<◌, ◌≤◌, ◌^◌, ◌++◌, [], ◌∷◌, length, drop, List, ℕ, Some, None, IfOk, IfErr, MatchResult, OnErr, slice_get, vec_len, true, ◌⊎◌};
-ghost use Rattle.mx_base.specs.Names.{AddsAtMost, HasNoRepeats};
+ghost use Rattle.mx_base.specs.Names.{AddsAtMost, HasNoRepeats, names_after};
 ghost use Rattle.c_reading.specs.declared.mode.Mode.{Mode as ReadMode};
 ghost use Rattle.c_reading.specs.Pieces.{Piece as ReadPiece, on_next_line};
 ghost use Rattle.c_reading.specs.declared.fault.Fault.{Fault as ReadFault};
 ghost use Rattle.c_reading.specs.Reading.{IsReading, IsFaulty};
 ghost use Rattle.c_lexer.specs.Found.{marker_view, marker_line};
+ghost use Rattle.c_lexer.specs.Naming.{file_in, text_named, with_name, named_by};
 ghost use Rattle.c_lexer.specs.Pieces.{piece_view, piece_len, Says, NumbersLow};
 ghost use Rattle.c_lexer.specs.Progress.{here_of, InBounds, Steps, Lands, spot_of};
 ghost use Rattle.c_lexer.specs.Tokens.{Lexes, Refuses, IsThere, IsToken};
@@ -41,6 +42,7 @@ fn next_line(
     ensures offset { IfOk result (λ next. next.offset ≡ here.offset + count) }
     ensures bounds { IfOk result InBounds }
     ensures adds { AddsAtMost names.old names.new 1 }
+    ensures named { IfOk result (λ _. names.new ≡ with_name names.old (file_in (Some (marker_view marker.entry)))) }
     ensures once { HasNoRepeats names.new }
 {
     let mut next = Here {
@@ -73,6 +75,7 @@ fn token_of(
     ensures token { IfOk result (λ token. (file : List ℕ) → slice_get names.old here.source ≡ Some file →
         IsToken place.file names.new place.token (record { kind = kind; spelling = text.now; here = here_of file here }) token) }
     ensures adds { AddsAtMost names.old names.new 1 }
+    ensures named { IfOk result (λ _. names.new ≡ names_after names.old text.now) }
     ensures once { HasNoRepeats names.new }
 {
     let name = names.intern(text)?;
@@ -113,6 +116,7 @@ fn take(
     ensures bounds { IfOk result InBounds }
     ensures count { IfOk result (λ next. vec_len tokens.new ≤ next.offset) }
     ensures adds { AddsAtMost names.old names.new 1 }
+    ensures named { IfOk result (λ _. (mode : ReadMode) → Says mode piece.entry bytes.now → names.new ≡ with_name names.old (text_named (piece_view piece.entry bytes.now))) }
     ensures once { HasNoRepeats names.new }
 {
     match piece {
@@ -156,7 +160,8 @@ fn spot(file: u16, here: Here, tokens: &[Token]) -> Spot
 
 /// Reads the bytes of the file with this number. `word` is the presumed file where no marker names another.
 ///
-/// Each token and each marker adds at most one name, and the word one. After a refusal the names begin with the old ones.
+/// Each token and each marker adds at most one name, and the word one, in the order in which they stand. After a refusal the
+/// names begin with the old ones.
 pub fn lex(
     alloc: Global,
     bytes: &[u8],
@@ -177,7 +182,10 @@ pub fn lex(
     ensures exact { (pieces : List ReadPiece) (kind : ReadFault) → IsFaulty mode word.now pieces bytes.now kind →
         MatchResult result (λ _. ⊥) (λ fault. (fault ≡ NoMemory) ⊎ IsThere mode file word.now names.new pieces kind fault) }
 
+    ensures few { IfOk result (λ tokens. length tokens.all ≤ length bytes.now) }
     ensures adds { AddsAtMost names.old names.new (length bytes.now + 1) }
+    ensures named { IfOk result (λ _. (pieces : List ReadPiece) → IsReading mode word.now pieces bytes.now →
+        names.new ≡ named_by (names_after names.old word.now) pieces) }
     ensures distinct { HasNoRepeats names.new }
 {
     let source = names.intern(word)?;

@@ -5,7 +5,7 @@ ghost use Rattle.c_tree.specs.declared.token.Token.{Token as TokenValue};
 ghost use Rattle.c_reading.specs.Strip.{group_len, asm_len, dropped_with, renamed, stripped};
 ghost use Rattle.c_reading.specs.Groups.{Marks, AreGroups};
 ghost use Rattle.c_reading.specs.Scans.{plus};
-ghost use Rattle.c_lexer.specs.Tokens.{Rises};
+ghost use Rattle.c_tree.specs.TokenPlaces.{Rises};
 
 use crate::kinds::{is_close_paren, is_open_paren, is_qualifier};
 use crate::tokens::Tokens;

@@ -1,7 +1,8 @@
 //! The tokens of a source, and where each stands.
 
 ghost use Rattle.std.specs.Prelude.{◌≡◌, ◌+◌, ◌<◌, ◌≤◌, ◌^◌, ℕ, length, vec_len};
-ghost use Rattle.c_lexer.specs.Tokens.{Rises, position_of, number_at};
+ghost use Rattle.c_tree.specs.TokenPlaces.{AreOfFile, Rises};
+ghost use Rattle.c_lexer.specs.Tokens.{position_of, number_at};
 
 use crate::fault::Spot;
 use c_tree::{Place, Token};
@@ -16,19 +17,21 @@ pub struct Tokens {
 
 impl Model for Tokens {
     ghost use Rattle.std.specs.Prelude.{◌<◌, ◌^◌};
-    ghost use Rattle.c_lexer.specs.Tokens.{TokenList, Rises};
+    ghost use Rattle.c_tree.specs.TokenPlaces.{AreOfFile, Rises};
+    ghost use Rattle.c_lexer.specs.Tokens.{TokenList};
 
     ghost Value = { TokenList };
 
     ghost view = { λ t. record { all = t.all.items; end = t.end } };
 
-    ghost invariant = { λ t. Rises 0 t.all.items t.end.place.token × (t.end.place.token < 2 ^ 32) };
+    ghost invariant = { λ t. Rises 0 t.all.items t.end.place.token × AreOfFile t.end.place.file t.all.items × (t.end.place.token < 2 ^ 32) };
 }
 
 impl Tokens {
     /// These tokens, of a source whose bytes end there.
     pub(crate) fn new(all: Vec<Token>, end: Spot) -> Tokens
-        requires { Rises 0 all.items end.place.token }
+        requires rising { Rises 0 all.items end.place.token }
+        requires of_file { AreOfFile end.place.file all.items }
         ensures all { result.all ≡ all.items }
         ensures end { result.end ≡ end }
     {
@@ -40,6 +43,7 @@ impl Tokens {
     pub fn all(&self) -> &[Token]
         ensures all { result.now ≡ self.now.all }
         ensures rising { Rises 0 result.now self.now.end.place.token }
+        ensures of_file { AreOfFile self.now.end.place.file result.now }
         ensures few { length result.now < 2 ^ 32 }
     {
         self.all.as_slice()
@@ -52,7 +56,8 @@ impl Tokens {
         self.end
     }
 
-    /// The number of the presumed file's name, the presumed line and the column of the token at a place, else of the end.
+    /// The number of the presumed file's name, the presumed line and the column of the token with the number of this place, else of the
+    /// end. The file of the place isn't looked at.
     pub fn line_of(&self, place: Place) -> (u32, u32, u32)
         ensures { result ≡ position_of self.now.all self.now.end place.token }
     {

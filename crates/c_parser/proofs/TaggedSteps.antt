@@ -19,13 +19,13 @@ use Rattle.c_grammar.proofs.Sound.{read-sound}
 use Rattle.unit_grammar.specs.Construct.{SpecifiersIn, StructMember}
 use Rattle.unit_grammar.specs.Names.{declared, declared_by_all}
 use Rattle.unit_grammar.specs.Reading.{read}
+use Rattle.unit_grammar.specs.TaggedSteps.{read_declared_members}
 use Rattle.c_expr.specs.Gives.{Gives}
 use Rattle.c_expr.specs.declared.fault.ExprFault.{ExprFault}
 use Rattle.c_expr.specs.declared.nodes.Read.{Read}
 use Rattle.c_expr.proofs.Items.{before-none, last_one, height_in-push}
 use Rattle.c_expr.proofs.StandingParts.{as_long}
 use Rattle.c_parser.specs.CommaLists.{commas_after}
-use Rattle.c_parser.specs.Tags.{read_declared}
 use Rattle.c_parser.proofs.Equations.{read-zero, read-some, read_members-zero, read_members-some, read_member_declarators-zero, read_member_declarators-some, read_enumerators-zero, read_enumerators-some}
 
 declared-push : (all : List Tree) (t : Tree) (names : Names) → declared_by_all (view_all (all ++ (t ∷ []))) names ≡ declared (view t) (declared_by_all (view_all all) names)
@@ -69,8 +69,8 @@ read-low n nonterminal names ts e r h = (read-sound n nonterminal names ts e r h
 
 -- members behind their specifiers, which leave these names
 pub member-read : (m : ℕ) (names a : Names) (ts r : List Symbol) (specs : Syntax) → 0 < m → after_sign marks.Semicolon ts ≡ None → read (m - 1) (SpecifiersIn InTypeName) names ts ≡ Some (specs, r) → a ≡ declared specs names
-    → read m StructMember names ts ≡ read_declared (read_expressions (m - 1)) m a specs r
-member-read m names a ts r specs p c h d = read-some m StructMember names ts p ∙ rw (c, h) (ap (λ x. read_declared (read_expressions (m - 1)) m x specs r) (sym d))
+    → read m StructMember names ts ≡ read_declared_members (read_expressions (m - 1)) m a specs r
+member-read m names a ts r specs p c h d = read-some m StructMember names ts p ∙ rw (c, h) (ap (λ x. read_declared_members (read_expressions (m - 1)) m x specs r) (sym d))
 
 pub ruleset reads = (read-zero, read-some)
 

@@ -6,6 +6,5 @@ pub mod Parts
 pub mod TypedOnce
 pub mod Tags
 pub mod Behind
-pub mod JumpSteps
 pub mod StatementParts
 pub mod Units

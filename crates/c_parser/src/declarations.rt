@@ -12,10 +12,11 @@ ghost use Rattle.c_grammar.specs.Found.{made};
 ghost use Rattle.c_grammar.specs.Reading.{read as read_expressions};
 ghost use Rattle.unit_grammar.specs.Names.{declared};
 ghost use Rattle.unit_grammar.specs.Construct.{BlockDeclaration};
+ghost use Rattle.unit_grammar.specs.DeclarationSteps as steps;
 ghost use Rattle.unit_grammar.specs.Reading.{read};
 ghost use Rattle.c_expr.specs.Gives.{Gives, left, Spends};
 ghost use Rattle.c_expr.specs.Standing.{Makes, Over};
-ghost use Rattle.c_parser.specs.Behind.{declaration_behind, OverBoth};
+ghost use Rattle.c_parser.specs.Behind.{OverBoth};
 
 use crate::declaration_nodes::declaration_of;
 use crate::declared::makes_types;
@@ -63,7 +64,7 @@ pub(crate) fn read_declaration_rest<'a>(
     requires declarator { declarator.height ≡ height_of (view declarator.tree) }
     requires low { declarator.height < room }
     requires ids { next.old + 16 * length declarator.rest.now + 1 < 2 ^ 32 }
-    ensures found { Gives result (declaration_behind (read_expressions (room - 1)) (read (room - 1)) room names.old.now (view specs.entry.tree) (view declarator.entry.tree) (symbols_of declarator.entry.rest.now)) }
+    ensures found { Gives result (steps.read_declaration_rest (read_expressions (room - 1)) (read (room - 1)) room names.old.now (view specs.entry.tree) (view declarator.entry.tree) (symbols_of declarator.entry.rest.now)) }
     ensures stands { OverBoth result (node_of specs.entry.tree) (node_of declarator.entry.tree) next.old next.new declarator.entry.rest.now }
     ensures now { (before : Names) → names.old.now ≡ declared (view specs.entry.tree) before → IfOk result (λ r. names.new.now ≡ declared (view r.tree) before) }
     ensures saved { names.new.saved ≡ names.old.saved }

@@ -5,7 +5,7 @@ ghost use Rattle.c_tree.specs.Forget.{view, view_all};
 ghost use Rattle.c_tree.specs.Symbol.{symbol_of};
 ghost use Rattle.c_tree.specs.Syntax as kinds;
 ghost use Rattle.c_grammar.specs.Specifiers.{storages_of, storages};
-ghost use Rattle.c_grammar.specs.Names.{with_name, declared_all};
+ghost use Rattle.c_grammar.specs.Names.{with_name, with_params};
 ghost use Rattle.unit_grammar.specs.Names.{has_typedef, makes_types, declared_name};
 
 use c_expr::{TypeNames, declare_param, name_of};
@@ -106,7 +106,7 @@ pub(crate) fn declare(
 /// Puts parameters in force, the first first.
 #[tactic(auto, using(crate::proofs::Lists::lists))]
 pub(crate) fn declare_all(names: &mut TypeNames, params: &[Tree]) -> Result<(), AllocError>
-    ensures now { IfOk result (λ _. names.new.now ≡ declared_all (view_all params.now) names.old.now) }
+    ensures now { IfOk result (λ _. names.new.now ≡ with_params (view_all params.now) names.old.now) }
     ensures saved { names.new.saved ≡ names.old.saved }
 {
     for param in params {

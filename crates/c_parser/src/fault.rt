@@ -10,7 +10,7 @@ use thiserror::Error;
 /// Why tokens are no translation unit.
 #[derive(Clone, Copy, Debug, PartialEq, Eq, Error)]
 pub enum ParseFault {
-    /// No external definition begins at this place, and one does at each place before where one has to.
+    /// The chunk of tokens that begins at this place is no external definition, and each chunk before it is one.
     #[error("no declaration or function is complete here")]
     Syntax(Place),
     /// There is too little memory.

@@ -5,7 +5,7 @@ ghost use Rattle.c_tree.specs.Symbol.{symbols_of};
 ghost use Rattle.c_tree.specs.Height.{height_of};
 ghost use Rattle.c_tree.specs.Forget.{view, view_all};
 ghost use Rattle.c_tree.specs.Views.{node_of};
-ghost use Rattle.c_grammar.specs.Names.{Names, declared_all};
+ghost use Rattle.c_grammar.specs.Names.{Names, with_params};
 ghost use Rattle.c_grammar.specs.Reading.{read as read_expressions};
 ghost use Rattle.unit_grammar.specs.Names.{declared};
 ghost use Rattle.unit_grammar.specs.Construct.{FunctionBody};
@@ -13,7 +13,7 @@ ghost use Rattle.unit_grammar.specs.ChunkSteps as steps;
 ghost use Rattle.unit_grammar.specs.Reading.{read};
 ghost use Rattle.c_expr.specs.Gives.{Gives, AsBefore, left, Spends};
 ghost use Rattle.c_expr.specs.Standing.{Over};
-ghost use Rattle.c_parser.specs.Behind.{function_behind, definition_behind, OverBoth};
+ghost use Rattle.c_parser.specs.Behind.{OverBoth};
 
 use crate::blocks::body_in_front;
 use crate::control::is_controlled;
@@ -40,7 +40,7 @@ fn read_under<'a>(
     next: &mut u32,
 ) -> Result<Read<'a>, ExprFault>
     requires ids { next.old + 16 * length tokens.now < 2 ^ 32 }
-    ensures found { Gives result (read room FunctionBody (declared_all (view_all params.now) names.old.now) (symbols_of tokens.now)) }
+    ensures found { Gives result (read room FunctionBody (with_params (view_all params.now) names.old.now) (symbols_of tokens.now)) }
     ensures stands { Over result next.old next.new tokens.now }
     ensures saved { names.new.saved ≡ names.old.saved }
     ensures ids { Spends next.old next.new (length tokens.now) (left result) }
@@ -59,7 +59,7 @@ fn read_body<'a>(
     next: &mut u32,
 ) -> Result<Read<'a>, ExprFault>
     requires ids { next.old + 16 * length tokens.now < 2 ^ 32 }
-    ensures found { Gives result (read room FunctionBody (declared_all (view_all params.now) names.old.now) (symbols_of tokens.now)) }
+    ensures found { Gives result (read room FunctionBody (with_params (view_all params.now) names.old.now) (symbols_of tokens.now)) }
     ensures stands { Over result next.old next.new tokens.now }
     ensures names { AsBefore names.new names.old }
     ensures ids { Spends next.old next.new (length tokens.now) (left result) }
@@ -84,7 +84,7 @@ fn read_function<'a>(
     requires specs { specs.height ≡ height_of (view specs.tree) }
     requires declarator { declarator.height ≡ height_of (view declarator.tree) }
     requires ids { next.old + 16 * length declarator.rest.now + 1 < 2 ^ 32 }
-    ensures found { Gives result (function_behind (read (room - 1)) room names.old.now (view specs.entry.tree) (view declarator.entry.tree) (symbols_of declarator.entry.rest.now)) }
+    ensures found { Gives result (steps.read_function (read (room - 1)) room names.old.now (view specs.entry.tree) (view declarator.entry.tree) (symbols_of declarator.entry.rest.now)) }
     ensures stands { OverBoth result (node_of specs.entry.tree) (node_of declarator.entry.tree) next.old next.new declarator.entry.rest.now }
     ensures now { (before : Names) → names.old.now ≡ declared (view specs.entry.tree) before → IfOk result (λ r. names.new.now ≡ declared (view r.tree) before) }
     ensures saved { names.new.saved ≡ names.old.saved }
@@ -119,7 +119,7 @@ fn read_definition<'a>(
     requires declarator { declarator.height ≡ height_of (view declarator.tree) }
     requires low { declarator.height < room }
     requires ids { next.old + 16 * length declarator.rest.now + 1 < 2 ^ 32 }
-    ensures found { Gives result (definition_behind (read_expressions (room - 1)) (read (room - 1)) room names.old.now (view specs.entry.tree) (view declarator.entry.tree) (symbols_of declarator.entry.rest.now)) }
+    ensures found { Gives result (steps.read_definition (read_expressions (room - 1)) (read (room - 1)) room names.old.now (view specs.entry.tree) (view declarator.entry.tree) (symbols_of declarator.entry.rest.now)) }
     ensures stands { OverBoth result (node_of specs.entry.tree) (node_of declarator.entry.tree) next.old next.new declarator.entry.rest.now }
     ensures now { (before : Names) → names.old.now ≡ declared (view specs.entry.tree) before → IfOk result (λ r. names.new.now ≡ declared (view r.tree) before) }
     ensures saved { names.new.saved ≡ names.old.saved }

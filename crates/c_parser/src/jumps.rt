@@ -8,7 +8,6 @@ ghost use Rattle.c_grammar.specs.Reading.{read as read_expressions};
 ghost use Rattle.unit_grammar.specs.StatementSteps as steps;
 ghost use Rattle.c_expr.specs.Standing.{Over, Passes, IsFirst};
 ghost use Rattle.c_expr.specs.Gives.{Gives, AsBefore, left, Spends};
-ghost use Rattle.c_parser.specs.JumpSteps.{read_continue, read_break};
 
 use crate::statement_nodes::return_of;
 use crate::statements::read_maybe_expression;
@@ -44,7 +43,7 @@ pub(crate) fn read_continue<'a>(
     next: &mut u32,
 ) -> Result<Read<'a>, ExprFault>
     requires ids { next.old + 16 * length tokens.now < 2 ^ 32 }
-    ensures found { Gives result (read_continue room (symbols_of tokens.now)) }
+    ensures found { Gives result (steps.read_continue room (symbols_of tokens.now)) }
     ensures stands { (ts : List Token) → IsFirst first ts → Passes (Reserved words.Continue) ts tokens.now → Over result next.old next.new ts }
     ensures ids { Spends next.old next.new (length tokens.now) (left result) }
 {
@@ -62,7 +61,7 @@ pub(crate) fn read_break<'a>(
     next: &mut u32,
 ) -> Result<Read<'a>, ExprFault>
     requires ids { next.old + 16 * length tokens.now < 2 ^ 32 }
-    ensures found { Gives result (read_break room (symbols_of tokens.now)) }
+    ensures found { Gives result (steps.read_break room (symbols_of tokens.now)) }
     ensures stands { (ts : List Token) → IsFirst first ts → Passes (Reserved words.Break) ts tokens.now → Over result next.old next.new ts }
     ensures ids { Spends next.old next.new (length tokens.now) (left result) }
 {

@@ -16,7 +16,6 @@ ghost use Rattle.unit_grammar.specs.TaggedSteps as steps;
 ghost use Rattle.c_expr.specs.Gives.{Gives, GivesList, AsBefore, left, left_by_list, Spends};
 ghost use Rattle.c_expr.specs.Standing.{Over, OverBehind};
 ghost use Rattle.c_parser.specs.Parts.{OverListUpTo};
-ghost use Rattle.c_parser.specs.Tags.{read_declared};
 
 use crate::specifiers::specifiers_in_front;
 use crate::tagged_nodes::{bare_field_of, field_of, members_of};
@@ -144,7 +143,7 @@ fn read_declared_members<'a>(
     requires positive { 0 < room }
     requires height { specs.height ≡ height_of (view specs.tree) }
     requires ids { next.old + 16 * length specs.rest.now + 1 < 2 ^ 32 }
-    ensures found { Gives result (read_declared (read_expressions (room - 1)) room names.old.now (view specs.entry.tree) (symbols_of specs.entry.rest.now)) }
+    ensures found { Gives result (steps.read_declared_members (read_expressions (room - 1)) room names.old.now (view specs.entry.tree) (symbols_of specs.entry.rest.now)) }
     ensures stands { OverBehind result (node_of specs.entry.tree) next.old next.new specs.entry.rest.now }
     ensures adds { IfOk result (λ r. (before : Names) → declared (view r.tree) before ≡ declared (view specs.entry.tree) before) }
     ensures names { AsBefore names.new names.old }

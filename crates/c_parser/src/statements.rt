@@ -9,7 +9,7 @@ ghost use Rattle.unit_grammar.specs.Reading.{read};
 ghost use Rattle.c_expr.specs.Standing.{Over, Passes};
 ghost use Rattle.c_expr.specs.Gives.{Gives, AsBefore, left, done, Spends};
 ghost use Rattle.c_parser.specs.Parts.{GivesMaybe, left_by_maybe, OverMaybe};
-ghost use Rattle.c_parser.specs.StatementParts.{done_by_maybe, read_block_or_expression, OverCondition};
+ghost use Rattle.c_parser.specs.StatementParts.{done_by_maybe, OverCondition};
 
 use crate::blocks::read_block_rest;
 use crate::jumps::{read_break, read_continue, read_goto, read_return};
@@ -153,7 +153,7 @@ fn read_block_or_expression<'a>(
 ) -> Result<Read<'a>, ExprFault>
     requires positive { 0 < room }
     requires ids { next.old + 16 * length tokens.now < 2 ^ 32 }
-    ensures found { Gives result (read_block_or_expression (read_expressions (room - 1)) (read (room - 1)) room names.old.now (symbols_of tokens.now)) }
+    ensures found { Gives result (steps.read_block_or_expression (read_expressions (room - 1)) (read (room - 1)) room names.old.now (symbols_of tokens.now)) }
     ensures stands { Over result next.old next.new tokens.now }
     ensures names { AsBefore names.new names.old }
     ensures ids { Spends next.old next.new (length tokens.now) (left result) }

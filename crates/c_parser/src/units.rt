@@ -5,6 +5,7 @@ ghost use Rattle.c_tree.specs.declared.place.Place.{Place};
 ghost use Rattle.c_tree.specs.Symbol.{symbols_of};
 ghost use Rattle.c_tree.specs.Syntax.{Syntax};
 ghost use Rattle.c_tree.specs.Forget.{view, list_view};
+ghost use Rattle.c_tree.specs.TokenPlaces.{StandInFile};
 ghost use Rattle.c_tree.specs.Views.{node_of, nodes_of};
 ghost use Rattle.c_places.specs.Lines.{row_line};
 ghost use Rattle.c_places.specs.Stands.{Stands, StandsOver};
@@ -101,11 +102,12 @@ pub fn read_unit<'a>(
     tokens: &'a Tokens,
 ) -> Result<Unit<'a>, ParseFault>
     requires { length tokens.now.all ≤ 16777216 }
-    ensures parsed { IfOk result (λ unit. (bounds : List (ℕ × ℕ)) → AreChunks tokens.now.all bounds → AreTheTrees tokens.now.all bounds (list_view unit.chunks)) }
-    ensures refused { IfErr result (λ fault. (place : Place) → fault ≡ SyntaxAt place → (bounds : List (ℕ × ℕ)) → AreChunks tokens.now.all bounds → IsFirstBadAt tokens.now.all bounds place) }
+    ensures parsed { IfOk result (λ unit. (bounds : List (ℕ × ℕ)) × AreChunks tokens.now.all bounds × AreTheTrees tokens.now.all bounds (list_view unit.chunks)) }
+    ensures refused { IfErr result (λ fault. (place : Place) → fault ≡ SyntaxAt place → (bounds : List (ℕ × ℕ)) × AreChunks tokens.now.all bounds × IsFirstBadAt tokens.now.all bounds place) }
     ensures stands { IfOk result (λ unit. (high : ℕ) × (high < 2 ^ 32) × Stands (row_line (nodes_of unit.chunks)) 0 high tokens.now.all []) }
     ensures tokens { IfOk result (λ unit. unit.tokens.now ≡ tokens.now.all) }
     ensures file { IfOk result (λ unit. unit.file ≡ tokens.now.end.place.file) }
+    ensures places { IfOk result (λ unit. StandInFile unit.file unit.tokens.now) }
 {
     parses_are_unique();
     let bounds = chunks(alloc, tokens)?;

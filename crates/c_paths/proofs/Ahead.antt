@@ -1,11 +1,7 @@
 -- Beginnings of a list of one set and then one of another.
-use Rattle.std.proofs.Common.{◌≡◌, List, [], ◌∷◌, ◌++◌, ◌⊎◌, inl, inr, refl, sym, ap, ◌∙◌, subst, append_assoc}
+use Rattle.std.proofs.Common.{◌≡◌, List, [], ◌++◌, ◌⊎◌, inl, inr, refl, sym, ap, ◌∙◌, subst, append_assoc}
 use Rattle.c_paths.specs.Events.{Item}
 use Rattle.c_paths.specs.Words.{Then, Either}
-
-pub append_nil : (l : List Item) → l ++ [] ≡ l
-append_nil [] = refl
-append_nil (x ∷ l) = ap (λ m. x ∷ m) (append_nil l)
 
 -- some list of A goes on with one of T, and l is a beginning of the whole
 pub record Ahead (A T : List Item → Type 0) (l : List Item) : Type 0 where

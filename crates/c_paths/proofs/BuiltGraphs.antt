@@ -1,5 +1,5 @@
 -- What the plain builder builds has the blocks of the body, so it has exactly its traces.
-use Rattle.std.proofs.Common.{◌≡◌, ◌≢◌, ◌↔◌, ℕ, zero, suc, Bool, true, false, List, [], ◌∷◌, ◌++◌, ◌⊎◌, inl, inr, Option, None, Some, refl, sym, ap, ◌∙◌, length}
+use Rattle.std.proofs.Common.{◌≡◌, ◌≢◌, ◌↔◌, ℕ, zero, suc, Bool, true, false, List, [], ◌∷◌, ◌++◌, inl, inr, Option, None, Some, refl, sym, ap, ◌∙◌, length}
 use Rattle.std.specs.Prelude.{slice_get, slice_set, not, map, ◌==◌}
 use Rattle.std.proofs.lemmas.Option.{slice_get-map}
 use Rattle.std.proofs.lemmas.Bool.{eqb-true, eq-eqb}
@@ -11,16 +11,14 @@ use Rattle.c_paths.specs.Facts.{Facts}
 use Rattle.c_paths.specs.Forms.{Form, Plain, Inverts, Keeps, Both, Any, Chooses, Follows, Row, done, operand, item}
 use Rattle.c_paths.specs.Flow.{Flow, Does, Block, If, While, Do, For, Switch, Case, Default, Label, Goto, Break, Continue, Return, Flows, no_flows, flows}
 use Rattle.c_paths.specs.TreeFlow.{flow_of}
-use Rattle.c_paths.specs.Steps.{HasDefault}
 use Rattle.c_paths.specs.Traces.{Definition, Trace}
-use Rattle.c_paths.specs.Listing.{if_so, has_default}
+use Rattle.c_paths.specs.Labels.{if_so, has_default}
 use Rattle.c_paths.specs.Graphs.{Ending, ToAny, Calls, Stops, GraphTrace}
 use Rattle.c_paths.specs.Fragments.{Way, To, ToEither, Has, Split, ItemAt, Fits, FitsRow}
 use Rattle.c_paths.specs.Layout.{Entry, HasEntry, TestAt, Built, BuiltIn, GotoAt, IsGraphOf}
 use Rattle.c_paths.specs.Building.{Sketch, Settled, Jumps, Waits, Draft, push, lead, filled, item_block, split_blocks, form_blocks, row_blocks, test_blocks, flow_blocks, flows_blocks, label_blocks, settled, body_graph, graph_of}
 use Rattle.c_paths.proofs.Ahead.{}
 use Rattle.c_paths.proofs.Listed.{among_front, among_back, among_either}
-use Rattle.c_paths.proofs.ListedSteps.{Says, default_said}
 use Rattle.c_paths.proofs.StatementWalks.{graph_traces}
 use Rattle.c_paths.proofs.DraftGrowth.{get_seam, set_here, Grown, grown_then, push_grown, item_grown, form_grown, row_grown, flow_grown}
 
@@ -168,14 +166,6 @@ module _ (K : ℕ → List Event → Ending → Type 0) (J : ℕ → ℕ → Typ
       let waits = (form_grown c (ToEither body next) ds).same h waiting w in
       (t.block, k h _ (set_here t.drafts h _ waiting waits), form_fits c (ToEither body next) ds (before_filled t.drafts h t.block waits k))
 
-  targets_are : (P : Type 0) (b : Bool) (cases : List ℕ) (next : ℕ) → Says P b → (P × (cases ++ if_so (not b) next ≡ cases)) ⊎ ((P → ⊥) × (cases ++ if_so (not b) next ≡ cases ++ next ∷ []))
-  targets_are P true cases next s = inl (s.only_if refl, nothing_more cases)
-    where
-      nothing_more : (xs : List ℕ) → xs ++ [] ≡ xs
-      nothing_more [] = refl
-      nothing_more (x ∷ xs) = ap (λ ys. x ∷ ys) (nothing_more xs)
-  targets_are P false cases next s = inr ((λ p. let bad : false ≡ true = s.true_if p in cc), refl)
-
   mutual
     flow_built : (s : Flow) (next brk cont : ℕ) (ds : List Draft) → (let m = flow_blocks s next brk cont ds in Known m.drafts → Built K J s next brk cont m.block m.cases m.labels)
     flow_built (Does r) next brk cont ds k = (row_fits r next ds k, refl, refl)
@@ -212,7 +202,7 @@ module _ (K : ℕ → List Event → Ending → Type 0) (J : ℕ → ℕ → Typ
         let v = push m.drafts [] (Settled (ToAny targets)) in
         let at_v = before v.drafts _ (row_grown r v.block v.drafts) k in
         let at_m = before m.drafts v.drafts (push_grown m.drafts [] (Settled (ToAny targets))) at_v in
-        (v.block, m.block, m.cases, targets, row_fits r v.block v.drafts k, pushed m.drafts [] (ToAny targets) at_v, flow_built s next next cont ds at_m, targets_are (HasDefault s) (has_default s) m.cases next (default_said s), refl)
+        (v.block, m.block, m.cases, targets, row_fits r v.block v.drafts k, pushed m.drafts [] (ToAny targets) at_v, flow_built s next next cont ds at_m, refl, refl)
     flow_built (Case s) next brk cont ds k = ((flow_blocks s next brk cont ds).cases, flow_built s next brk cont ds k, refl)
     flow_built (Default s) next brk cont ds k = ((flow_blocks s next brk cont ds).cases, flow_built s next brk cont ds k, refl)
     flow_built (Label L s) next brk cont ds k = ((flow_blocks s next brk cont ds).labels, flow_built s next brk cont ds k, refl)

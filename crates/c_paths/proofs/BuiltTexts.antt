@@ -9,7 +9,7 @@ use Rattle.c_paths.specs.Forms.{Form, Plain, Inverts, Keeps, Both, Any, Chooses,
 use Rattle.c_paths.specs.Flow.{Flow, Does, Block, If, While, Do, For, Switch, Case, Default, Label, Goto, Break, Continue, Return, Flows, no_flows, flows}
 use Rattle.c_paths.specs.TreeFlow.{flow_of}
 use Rattle.c_paths.specs.Traces.{Definition}
-use Rattle.c_paths.specs.Listing.{if_so, has_default}
+use Rattle.c_paths.specs.Labels.{if_so, has_default}
 use Rattle.c_paths.specs.Occurrences.{InForm, InRow, InMaybe, InFlow, InFlows, InEvents, InEnding, InGraph}
 use Rattle.c_paths.specs.Graphs.{Ending, ToAny, Calls, Stops}
 use Rattle.c_paths.specs.Fragments.{Way, To, ToEither}
@@ -52,9 +52,13 @@ module _ (P : Item → Type 0) where
   of_item (EventMark e) next ds p s = of_push ds (e ∷ []) (Settled (ToAny (next ∷ []))) s (p, tt) tt
   of_item (CallMark site) next ds p s = of_push ds [] (Settled (Calls site next)) s tt p
 
-  of_split : (n : Node) (way : Way) (ds : List Draft) → ((t : Bool) → P (branched n t)) → OfDrafts ds → OfDrafts (split_blocks n way ds).drafts
-  of_split n (To x) ds p s = s
-  of_split n (ToEither y z) ds p s =
+  -- whether an expression that leads there is asked as a condition
+  abbrev is_asked : Way → Bool
+  is_asked (To x) = false
+  is_asked (ToEither y z) = true
+
+  of_split : (n : Node) (y z : ℕ) (ds : List Draft) → ((t : Bool) → P (branched n t)) → OfDrafts ds → OfDrafts (split_blocks n (ToEither y z) ds).drafts
+  of_split n y z ds p s =
       let t = lead ds (Branched n true ∷ []) y in
       let f = lead t.drafts (Branched n false ∷ []) z in
       let at_t = of_push ds (Branched n true ∷ []) (Settled (ToAny (y ∷ []))) s (p true, tt) tt in
@@ -62,26 +66,27 @@ module _ (P : Item → Type 0) where
       of_push f.drafts [] (Settled (ToAny (t.block ∷ f.block ∷ []))) at_f tt tt
 
   mutual
-    of_form : (e : Form) (way : Way) (ds : List Draft) → ((i : Item) → InForm i e → P i) → OfDrafts ds → OfDrafts (form_blocks e way ds).drafts
-    of_form (Plain n r) way ds p s = let v = split_blocks n way ds in of_row r v.block v.drafts (λ i h. p i (inr h)) (of_split n way ds (λ t. p (branched n t) (inl (t, refl))) s)
+    of_form : (e : Form) (way : Way) (ds : List Draft) → ((i : Item) → InForm i (is_asked way) e → P i) → OfDrafts ds → OfDrafts (form_blocks e way ds).drafts
+    of_form (Plain n r) (To x) ds p s = of_row r x ds p s
+    of_form (Plain n r) (ToEither y z) ds p s = let v = split_blocks n (ToEither y z) ds in of_row r v.block v.drafts (λ i h. p i (inr h)) (of_split n y z ds (λ t. p (branched n t) (inl (t, refl))) s)
     of_form (Inverts x r) (To v) ds p s = let c = row_blocks r v ds in of_form x (To c.block) c.drafts (λ i h. p i (inl h)) (of_row r v ds (λ i h. p i (inr h)) s)
-    of_form (Inverts x r) (ToEither y z) ds p s = of_form x (ToEither z y) ds (λ i h. p i (inl h)) s
+    of_form (Inverts x r) (ToEither y z) ds p s = of_form x (ToEither z y) ds p s
     of_form (Keeps x r) (To v) ds p s = let c = row_blocks r v ds in of_form x (To c.block) c.drafts (λ i h. p i (inl h)) (of_row r v ds (λ i h. p i (inr h)) s)
-    of_form (Keeps x r) (ToEither y z) ds p s = of_form x (ToEither y z) ds (λ i h. p i (inl h)) s
+    of_form (Keeps x r) (ToEither y z) ds p s = of_form x (ToEither y z) ds p s
     of_form (Both x y r) (To v) ds p s =
         let c = row_blocks r v ds in
         let d = form_blocks y (ToEither c.block c.block) c.drafts in
         of_form x (ToEither d.block c.block) d.drafts (λ i h. p i (inl h)) (of_form y (ToEither c.block c.block) c.drafts (λ i h. p i (inr (inl h))) (of_row r v ds (λ i h. p i (inr (inr h))) s))
     of_form (Both x y r) (ToEither t f) ds p s =
         let d = form_blocks y (ToEither t f) ds in
-        of_form x (ToEither d.block f) d.drafts (λ i h. p i (inl h)) (of_form y (ToEither t f) ds (λ i h. p i (inr (inl h))) s)
+        of_form x (ToEither d.block f) d.drafts (λ i h. p i (inl h)) (of_form y (ToEither t f) ds (λ i h. p i (inr h)) s)
     of_form (Any x y r) (To v) ds p s =
         let c = row_blocks r v ds in
         let d = form_blocks y (ToEither c.block c.block) c.drafts in
         of_form x (ToEither c.block d.block) d.drafts (λ i h. p i (inl h)) (of_form y (ToEither c.block c.block) c.drafts (λ i h. p i (inr (inl h))) (of_row r v ds (λ i h. p i (inr (inr h))) s))
     of_form (Any x y r) (ToEither t f) ds p s =
         let d = form_blocks y (ToEither t f) ds in
-        of_form x (ToEither t d.block) d.drafts (λ i h. p i (inl h)) (of_form y (ToEither t f) ds (λ i h. p i (inr (inl h))) s)
+        of_form x (ToEither t d.block) d.drafts (λ i h. p i (inl h)) (of_form y (ToEither t f) ds (λ i h. p i (inr h)) s)
     of_form (Chooses x y z r) (To v) ds p s =
         let c = row_blocks r v ds in
         let d = form_blocks y (To c.block) c.drafts in
@@ -90,14 +95,14 @@ module _ (P : Item → Type 0) where
     of_form (Chooses x y z r) (ToEither t f) ds p s =
         let d = form_blocks y (ToEither t f) ds in
         let e = form_blocks z (ToEither t f) d.drafts in
-        of_form x (ToEither d.block e.block) e.drafts (λ i h. p i (inl h)) (of_form z (ToEither t f) d.drafts (λ i h. p i (inr (inr (inl h)))) (of_form y (ToEither t f) ds (λ i h. p i (inr (inl h))) s))
+        of_form x (ToEither d.block e.block) e.drafts (λ i h. p i (inl h)) (of_form z (ToEither t f) d.drafts (λ i h. p i (inr (inr h))) (of_form y (ToEither t f) ds (λ i h. p i (inr (inl h))) s))
     of_form (Follows x y r) (To v) ds p s =
         let c = row_blocks r v ds in
         let d = form_blocks y (To c.block) c.drafts in
         of_form x (To d.block) d.drafts (λ i h. p i (inl h)) (of_form y (To c.block) c.drafts (λ i h. p i (inr (inl h))) (of_row r v ds (λ i h. p i (inr (inr h))) s))
     of_form (Follows x y r) (ToEither t f) ds p s =
         let d = form_blocks y (ToEither t f) ds in
-        of_form x (To d.block) d.drafts (λ i h. p i (inl h)) (of_form y (ToEither t f) ds (λ i h. p i (inr (inl h))) s)
+        of_form x (To d.block) d.drafts (λ i h. p i (inl h)) (of_form y (ToEither t f) ds (λ i h. p i (inr h)) s)
 
     of_row : (r : Row) (v : ℕ) (ds : List Draft) → ((i : Item) → InRow i r → P i) → OfDrafts ds → OfDrafts (row_blocks r v ds).drafts
     of_row done v ds p s = s

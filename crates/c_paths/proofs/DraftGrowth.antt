@@ -7,7 +7,7 @@ use Rattle.path_theory.specs.Marks.{EventMark, CallMark}
 use Rattle.c_paths.specs.Events.{Event, Item, Branched}
 use Rattle.c_paths.specs.Forms.{Form, Plain, Inverts, Keeps, Both, Any, Chooses, Follows, Row, done, operand, item}
 use Rattle.c_paths.specs.Flow.{Flow, Does, Block, If, While, Do, For, Switch, Case, Default, Label, Goto, Break, Continue, Return, Flows, no_flows, flows}
-use Rattle.c_paths.specs.Listing.{if_so, has_default}
+use Rattle.c_paths.specs.Labels.{if_so, has_default}
 use Rattle.c_paths.specs.Graphs.{ToAny, Calls, Stops}
 use Rattle.c_paths.specs.Fragments.{Way, To, ToEither}
 use Rattle.c_paths.specs.Building.{Sketch, Settled, Jumps, Waits, Draft, push, lead, filled, item_block, split_blocks, form_blocks, row_blocks, test_blocks, flow_blocks, flows_blocks}

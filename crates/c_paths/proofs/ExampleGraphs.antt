@@ -1,7 +1,8 @@
 -- Graphs that the plain builder makes, block by block. The first two blocks of each are the dead one and the exit.
 use Rattle.std.proofs.Common.{◌≡◌, true, false, [], ◌∷◌, refl}
 use Rattle.c_tree.specs.Node.{Node}
-use Rattle.c_paths.specs.Events.{Event, Evaluated, Branched, Exited, Tree}
+use Rattle.path_subjects.specs.Subjects.{Tree}
+use Rattle.c_paths.specs.Events.{Event, Evaluated, Branched, Exited}
 use Rattle.c_paths.specs.Traces.{Definition}
 use Rattle.c_paths.specs.Graphs.{Block, Ending, ToAny, Calls, Stops}
 use Rattle.c_paths.specs.Building.{graph_of}

@@ -3,7 +3,7 @@ use Rattle.std.proofs.Common.{◌≡◌, ℕ, zero, suc, true, false, List, [], 
 use Rattle.c_paths.specs.Events.{Item, evaluated, Exited}
 use Rattle.c_paths.specs.Forms.{done}
 use Rattle.c_paths.specs.Flow.{Flow, Does, Block, For, flows, no_flows}
-use Rattle.c_paths.specs.Steps.{Task, Run, Test, Turn, Close}
+use Rattle.c_paths.specs.Tasks.{Task, Run, Test, Turn, Close}
 use Rattle.c_paths.specs.Traces.{Runs, Trace}
 use Rattle.c_paths.specs.Listing.{Begins}
 use Rattle.c_paths.proofs.ListedTraces.{listed_are_traces, finished_lists_are_all}

@@ -4,7 +4,8 @@ use Rattle.c_tree.specs.declared.operator.BinaryOp.TheVariants as binary
 use Rattle.c_tree.specs.declared.operator.UnaryOp.TheVariants as unary
 use Rattle.c_tree.specs.Node.{Node, absent, present, no_more}
 use Rattle.c_paths.specs.EventPlaces.{event_place}
-use Rattle.c_paths.specs.Events.{Item, Variable, Evaluated, Tree, DerefOf, evaluated, declared, branched, exited, called}
+use Rattle.path_subjects.specs.Subjects.{Tree, DerefOf}
+use Rattle.c_paths.specs.Events.{Item, Variable, Evaluated, evaluated, declared, branched, exited, called}
 use Rattle.c_paths.specs.Occurrences.{InFlow}
 use Rattle.c_paths.specs.TreeFlow.{flow_of}
 use Rattle.c_paths.specs.Traces.{Definition}
@@ -349,15 +350,30 @@ unreached_traces : longest_traces inside unreached 20 ≡ (exited (at 0) (at 2) 
 unreached_traces = refl
 
 stands_in_the_text : InFlow (called (h 4)) (flow_of inside (at 0) unreached.body)
-stands_in_the_text = inr (inl (inl (inr (inr (inr (inl refl))))))
+stands_in_the_text = inr (inl (inl (inr (inr (inl refl)))))
 
 -- { sizeof g(); }: there is no call in it
 abbrev unevaluated : Definition
 unevaluated = function (stmt (unary_at 2 unary.Sizeof (g 3)) ∷ [])
 
 no_call : InFlow (called (g 3)) (flow_of inside (at 0) unevaluated.body) → ⊥
-no_call (inl (inl (inl (t, e)))) = cc
-no_call (inl (inl (inr (inl e)))) = cc
-no_call (inl (inl (inr (inr x)))) = absurd x
+no_call (inl (inl (inl e))) = cc
+no_call (inl (inl (inr x))) = absurd x
 no_call (inl (inr x)) = absurd x
 no_call (inr x) = absurd x
+
+-- { a; } asks no condition, and { if (a) b; } asks that of a
+abbrev unasked : Definition
+unasked = function (stmt (ident 0 2) ∷ [])
+
+no_branch : InFlow (branched (ident 0 2) true) (flow_of inside (at 0) unasked.body) → ⊥
+no_branch (inl (inl (inl e))) = cc
+no_branch (inl (inl (inr x))) = absurd x
+no_branch (inl (inr x)) = absurd x
+no_branch (inr x) = absurd x
+
+abbrev asked : Definition
+asked = function (if_then 2 (ident 0 4) (stmt (ident 1 6)) ∷ [])
+
+branch : InFlow (branched (ident 0 4) true) (flow_of inside (at 0) asked.body)
+branch = inl (inl (inl (true, refl)))

@@ -2,44 +2,32 @@
 -- its body by steps.
 use Rattle.std.proofs.Common.{◌≡◌, ◌↔◌, ℕ, zero, suc, Bool, true, false, List, [], ◌∷◌, ◌++◌, inl, inr, Option, None, Some, refl, sym, ap, ◌∙◌, subst, append_assoc}
 use Rattle.std.specs.Prelude.{slice_get}
+use Rattle.std.proofs.lemmas.List.{append-nil}
 use Rattle.c_tree.specs.Node.{Node}
 use Rattle.path_theory.specs.Model.{Model}
 use Rattle.path_theory.specs.Trails.{Trail, Start, More}
 use Rattle.path_theory.specs.Marks.{Mark, EventMark, CallMark, Bodies, Marked, MarkedWalk, MarkedStart, MarkedSkip, MarkedGo, MarkedCall, HasMarked}
-use Rattle.c_paths.specs.Events.{Event, Evaluated, Declared, Branched, Exited, Item}
+use Rattle.c_paths.specs.Events.{Event, Item}
 use Rattle.c_paths.specs.Facts.{Facts}
 use Rattle.c_paths.specs.Traces.{Definition, Trace}
-use Rattle.c_paths.specs.Exits.{IsExit, IsNoExit, NoExits}
+use Rattle.c_paths.specs.Exits.{is_exit, NoExits}
 use Rattle.c_paths.specs.Graphs.{Block, Ending, ToAny, Calls, Stops, marks_of, Leaves, AtBlock, Walks, GraphTrace}
 use Rattle.c_paths.specs.Fragments.{Has}
 use Rattle.c_paths.specs.SoundGraphs.{IsSoundEnd, AreSound, IsSoundGraph}
 use Rattle.c_paths.specs.Building.{Graph, graph_of}
-use Rattle.c_paths.specs.Bodies.{is_exit, Spot, Head, Before, SpotSkips, SpotGoes, SpotMarks, SpotEnds, step_bodies, graph_bodies, marked_then, ends_in_exit}
-use Rattle.c_paths.proofs.Ahead.{append_nil}
+use Rattle.c_paths.specs.Bodies.{Spot, Head, Before, SpotSkips, SpotGoes, SpotMarks, SpotEnds, step_bodies, graph_bodies, marked_then, ends_in_exit}
 use Rattle.c_paths.proofs.GraphWalks.{marks_append, walks_nil, Reaches, closed, block_to, reaches_then}
 use Rattle.c_paths.proofs.StepBodies.{ends_snoc, marks_snoc, WalksAre, same_walks, step_walks}
 use Rattle.c_paths.proofs.BuiltGraphs.{built_traces}
 use Rattle.c_paths.proofs.SoundDrafts.{built_graph_sound}
 
-sound_at : (n : ℕ) (ss : List Block) (b : ℕ) (s : Block) → AreSound n ss → slice_get ss b ≡ Some s → IsSoundEnd n s.events s.ending
+pub sound_at : (n : ℕ) (ss : List Block) (b : ℕ) (s : Block) → AreSound n ss → slice_get ss b ≡ Some s → IsSoundEnd n s.events s.ending
 sound_at n [] b s a e = let f : ◌≡◌ {A = Option Block} None (Some s) = e in cc
 sound_at n (x ∷ ss) zero s a e = subst (λ (z : Block). IsSoundEnd n z.events z.ending) (the_same x s e) a.0
   where
     the_same : (x y : Block) → Some x ≡ Some y → x ≡ y
     the_same x y p = cc
 sound_at n (x ∷ ss) (suc b) s a e = sound_at n ss b s a.1 e
-
-exit_is : (e : Event) → IsExit e → is_exit (EventMark e) ≡ true
-exit_is (Evaluated s) h = absurd h
-exit_is (Declared x) h = absurd h
-exit_is (Branched n t) h = absurd h
-exit_is (Exited f p) h = refl
-
-no_exit_is : (e : Event) → IsNoExit e → is_exit (EventMark e) ≡ false
-no_exit_is (Evaluated s) h = refl
-no_exit_is (Declared x) h = refl
-no_exit_is (Branched n t) h = refl
-no_exit_is (Exited f p) h = absurd h
 
 -- what is left of a sound block: an exit is the last event where the block stops, and no event elsewhere
 abbrev Left : List Event → Ending → Type 0
@@ -56,8 +44,8 @@ left_sound n (e ∷ es) Stops h = let q : e ∷ es ≡ h.0 ∷ [] = h.2 in cc
 
 -- behind an event of it the frame ends, if that is an exit
 left_ends : (e : Event) (es : List Event) (end : Ending) → Left (e ∷ es) end → is_exit (EventMark e) ≡ true → SpotEnds (Before es end)
-left_ends e es (ToAny bs) h q = let r : is_exit (EventMark e) ≡ false = no_exit_is e h.0 in let bad : false ≡ true = sym r ∙ q in cc
-left_ends e es (Calls s b) h q = let r : is_exit (EventMark e) ≡ false = no_exit_is e h.0 in let bad : false ≡ true = sym r ∙ q in cc
+left_ends e es (ToAny bs) h q = let r : is_exit (EventMark e) ≡ false = h.0 in let bad : false ≡ true = sym r ∙ q in cc
+left_ends e es (Calls s b) h q = let r : is_exit (EventMark e) ≡ false = h.0 in let bad : false ≡ true = sym r ∙ q in cc
 left_ends e es Stops h q = subst (λ z. SpotEnds (Before z Stops)) (sym h) tt
 
 left_rest : (e : Event) (es : List Event) (end : Ending) → Left (e ∷ es) end → Left es end
@@ -94,7 +82,7 @@ module _ (M : Model) (facts : M.Fn → Facts) (definition : M.Fn → Definition)
     at : At word p
 
   skip : (w : List Item) (p q : Spot) → SpotSkips g p q → At w p → At w q
-  skip w (Head b) (Before es end) s a = record { block = b; done = []; word = w; reaches = a; has = s; is = sym (append_nil w) }
+  skip w (Head b) (Before es end) s a = record { block = b; done = []; word = w; reaches = a; has = s; is = sym (append-nil w) }
   skip w (Before [] (ToAny bs)) (Head c) s a =
       subst (λ z. Reaches g z (graph f).entry c) (ap (λ z. a.word ++ z) (ap marks_of (nil_event a.done)) ∙ sym a.is)
       (reaches_then g a.word (marks_of (a.done ++ [])) (graph f).entry a.block c a.reaches (block_to g a.block (a.done ++ []) bs c a.has s))
@@ -162,7 +150,7 @@ module _ (M : Model) (facts : M.Fn → Facts) (definition : M.Fn → Definition)
   at_trace : (w : List Item) (p : Spot) → At w p → GraphTrace g (graph f).entry w
   at_trace w (Head c) a = let t = a.by 0 [] (walks_nil g 0 c) in (t.0, [], t.1)
   at_trace w (Before es end) a =
-      let block : Walks g 1 a.block (marks_of (a.done ++ es)) = closed g 0 a.block (record { events = a.done ++ es; ending = end }) (marks_of (a.done ++ es)) a.has (inr ([], nothing end, sym (append_nil (marks_of (a.done ++ es))))) in
+      let block : Walks g 1 a.block (marks_of (a.done ++ es)) = closed g 0 a.block (record { events = a.done ++ es; ending = end }) (marks_of (a.done ++ es)) a.has (inr ([], nothing end, sym (append-nil (marks_of (a.done ++ es))))) in
       let t = a.reaches.by 1 (marks_of (a.done ++ es)) block in
       (t.0, marks_of es, subst (Walks g t.0 (graph f).entry) (ap (λ z. a.word ++ z) (marks_append a.done es) ∙ sym (append_assoc a.word (marks_of a.done) (marks_of es)) ∙ ap (λ z. z ++ marks_of es) (sym a.is)) t.1)
     where
@@ -175,7 +163,7 @@ module _ (M : Model) (facts : M.Fn → Facts) (definition : M.Fn → Definition)
   at_end w (Before [] Stops) a e =
       let s = sound_at _ g a.block (record { events = a.done ++ []; ending = Stops }) sound.0 a.has in
       let done_is : marks_of a.done ≡ EventMark s.0 ∷ [] = ap marks_of (sym (nil_event a.done) ∙ s.2) in
-      ap (ends_in_exit false) (a.is ∙ ap (λ z. a.word ++ z) done_is) ∙ ends_snoc false a.word (EventMark s.0) ∙ exit_is s.0 s.1
+      ap (ends_in_exit false) (a.is ∙ ap (λ z. a.word ++ z) done_is) ∙ ends_snoc false a.word (EventMark s.0) ∙ s.1
     where
       nil_event : (xs : List Event) → xs ++ [] ≡ xs
       nil_event [] = refl

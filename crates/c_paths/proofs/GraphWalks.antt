@@ -1,6 +1,7 @@
 -- Walks through one block, and from one block to another.
 use Rattle.std.proofs.Common.{◌≡◌, ℕ, zero, suc, List, [], ◌∷◌, ◌++◌, inl, inr, Option, Some, None, refl, sym, ap, ◌∙◌, subst, append_assoc}
 use Rattle.std.specs.Prelude.{slice_get}
+use Rattle.std.proofs.lemmas.List.{append-nil}
 use Rattle.c_tree.specs.Node.{Node}
 use Rattle.path_theory.specs.Marks.{EventMark, CallMark}
 use Rattle.c_paths.specs.Membership.{Among}
@@ -8,7 +9,7 @@ use Rattle.c_paths.specs.Events.{Event, Item}
 use Rattle.c_paths.specs.Words.{Nothing, Only, Then, Either}
 use Rattle.c_paths.specs.Graphs.{Block, Ending, ToAny, Calls, Stops, marks_of, Leaves, AtBlock, Walks}
 use Rattle.c_paths.specs.Fragments.{Has, ItemAt}
-use Rattle.c_paths.proofs.Ahead.{append_nil, Ahead}
+use Rattle.c_paths.proofs.Ahead.{Ahead}
 
 pub marks_append : (xs ys : List Event) → marks_of (xs ++ ys) ≡ marks_of xs ++ marks_of ys
 marks_append [] ys = refl
@@ -81,7 +82,7 @@ module _ (g : List Block) where
   stay b w e = subst (λ v. Reaches v b b) (sym e) (record { by = λ n r h. (n, h) })
 
   pub stay_back : (n b : ℕ) (T : List Item → Type 0) → Within n b T → Within n b (Ahead Nothing T)
-  stay_back n b T f l h = record { first = []; then = l; rest = []; is_first = refl; is_then = f l h; whole = append_nil l }
+  stay_back n b T f l h = record { first = []; then = l; rest = []; is_first = refl; is_then = f l h; whole = append-nil l }
 
   pub forward_then : (A B : List Item → Type 0) (b c d : ℕ) → Forward A b c → Forward B c d → Forward (Then A B) b d
   forward_then A B b c d f h w a = subst (λ v. Reaches v b d) (sym a.4) (reaches_then a.0 a.1 b c d (f a.0 a.2) (h a.1 a.3))
@@ -91,14 +92,14 @@ module _ (g : List Block) where
   forward_either A B b c f h w (inr a) = h w a
 
   stop_at : (es : List Item) (T : List Item → Type 0) (l : List Item) → l ≡ [] → T [] → Ahead (λ w. w ≡ es) T l
-  stop_at es T l e t = record { first = es; then = []; rest = es; is_first = refl; is_then = t; whole = ap (λ m. m ++ es) e ∙ sym (append_nil es) }
+  stop_at es T l e t = record { first = es; then = []; rest = es; is_first = refl; is_then = t; whole = ap (λ m. m ++ es) e ∙ sym (append-nil es) }
 
   after_block : (n : ℕ) (es : List Event) (bs : List ℕ) (T : List Item → Type 0) (l : List Item) → T [] → ((c : ℕ) → Among c bs → Within n c T) → AtBlock (Walks g n) (Some (record { events = es; ending = ToAny bs })) l → Ahead (λ w. w ≡ marks_of es) T l
   after_block n es bs T l t f (inl e) = stop_at (marks_of es) T l e t
   after_block n es bs T l t f (inr (r, inl e, q)) =
-      record { first = marks_of es; then = []; rest = []; is_first = refl; is_then = t; whole = append_nil l ∙ q ∙ ap (λ m. marks_of es ++ m) e }
+      record { first = marks_of es; then = []; rest = []; is_first = refl; is_then = t; whole = append-nil l ∙ q ∙ ap (λ m. marks_of es ++ m) e }
   after_block n es bs T l t f (inr (r, inr (c, i, w), q)) =
-      record { first = marks_of es; then = r; rest = []; is_first = refl; is_then = f c i r w; whole = append_nil l ∙ q }
+      record { first = marks_of es; then = r; rest = []; is_first = refl; is_then = f c i r w; whole = append-nil l ∙ q }
 
   pub block_back : (n b : ℕ) (es : List Event) (bs : List ℕ) (T : List Item → Type 0) → Has g b es (ToAny bs) → T [] → ((c : ℕ) → Among c bs → Within n c T) → Within n b (Ahead (λ w. w ≡ marks_of es) T)
   block_back zero b es bs T e t f l w = stop_at (marks_of es) T l w t
@@ -119,7 +120,7 @@ module _ (g : List Block) where
   after_call n s v T l f (inr (r, inl e, q)) =
       record { first = CallMark s ∷ []; then = []; rest = CallMark s ∷ []; is_first = refl; is_then = f [] (walks_nil n v); whole = ap (λ m. m ++ CallMark s ∷ []) (q ∙ e) }
   after_call n s v T l f (inr (r, inr (x, w, e), q)) =
-      record { first = CallMark s ∷ []; then = x; rest = []; is_first = refl; is_then = f x w; whole = append_nil l ∙ q ∙ e }
+      record { first = CallMark s ∷ []; then = x; rest = []; is_first = refl; is_then = f x w; whole = append-nil l ∙ q ∙ e }
 
   call_back : (n b : ℕ) (s : Node) (v : ℕ) (T : List Item → Type 0) → Has g b [] (Calls s v) → Within n v T → Within n b (Ahead (Only (CallMark s)) T)
   call_back zero b s v T e f l w = after_call zero s v T l f (inl w)

@@ -3,10 +3,10 @@ use Rattle.std.proofs.Common.{◌≡◌, ◌≢◌, ◌↔◌, ℕ, zero, suc, t
 use Rattle.std.specs.Prelude.{slice_get, slice_set}
 use Rattle.std.proofs.lemmas.Bool.Decides.{eqb_tells}
 use Rattle.std.proofs.Math.Dec.{eqb}
+use Rattle.std.proofs.lemmas.List.{append-nil}
 use Rattle.c_paths.specs.Events.{Event, Item}
 use Rattle.c_paths.specs.Graphs.{Block, Ending, ToAny, Calls, Stops, marks_of, Leaves, AtBlock, Walks, GraphTrace}
 use Rattle.c_paths.specs.Fragments.{Has}
-use Rattle.c_paths.proofs.Ahead.{append_nil}
 use Rattle.c_paths.proofs.GraphWalks.{marks_append, leaves_maps, walks_more, opened, closed}
 
 get_same : (g : List Block) (b : ℕ) (s t : Block) → slice_get g b ≡ Some t → slice_get (slice_set g b s) b ≡ Some s
@@ -38,15 +38,15 @@ module _ (g : List Block) (b c : ℕ) (es fs : List Event) (e : Ending) (at_b : 
 
   -- one more step in the new graph
   leaves_on : (n : ℕ) → ((y : ℕ) (r : List Item) → Walks g n y r → (m : ℕ) × (rest : List Item) × Walks inlined m y (r ++ rest)) → (d : Ending) (r : List Item) → Leaves (Walks g n) d r → (m : ℕ) × (rest : List Item) × Leaves (Walks inlined m) d (r ++ rest)
-  leaves_on n ih (ToAny bs) r (inl q) = (0, [], inl (append_nil r ∙ q))
+  leaves_on n ih (ToAny bs) r (inl q) = (0, [], inl (append-nil r ∙ q))
   leaves_on n ih (ToAny bs) r (inr (y, i, w)) = let a = ih y r w in (a.0, a.1, inr (y, i, a.2))
-  leaves_on n ih (Calls s y) r (inl q) = (0, [], inl (append_nil r ∙ q))
+  leaves_on n ih (Calls s y) r (inl q) = (0, [], inl (append-nil r ∙ q))
   leaves_on n ih (Calls s y) r (inr (u, w, q)) = let a = ih y u w in (a.0, a.1, inr (u ++ a.1, a.2, ap (λ z. z ++ a.1) q))
-  leaves_on n ih Stops r q = (0, [], append_nil r ∙ q)
+  leaves_on n ih Stops r q = (0, [], append-nil r ∙ q)
 
   block_on : (n : ℕ) → ((y : ℕ) (r : List Item) → Walks g n y r → (m : ℕ) × (rest : List Item) × Walks inlined m y (r ++ rest)) → (o : Option Block) (l : List Item) → AtBlock (Walks g n) o l → (m : ℕ) × (rest : List Item) × AtBlock (Walks inlined m) o (l ++ rest)
-  block_on n ih None l q = (0, [], append_nil l ∙ q)
-  block_on n ih (Some s) l (inl q) = (0, [], inl (append_nil l ∙ q))
+  block_on n ih None l q = (0, [], append-nil l ∙ q)
+  block_on n ih (Some s) l (inl q) = (0, [], inl (append-nil l ∙ q))
   block_on n ih (Some s) l (inr (r, v, q)) =
       let a = leaves_on n ih s.ending r v in
       (a.0, a.1, inr (r ++ a.1, a.2, ap (λ z. z ++ a.1) q ∙ append_assoc (marks_of s.events) r a.1))
@@ -54,26 +54,26 @@ module _ (g : List Block) (b c : ℕ) (es fs : List Event) (e : Ending) (at_b : 
   -- the block's own events alone are a beginning of the joined ones
   stops_between : (l : List Item) → l ≡ marks_of es → (m : ℕ) × (rest : List Item) × Walks inlined m b (l ++ rest)
   stops_between l q =
-      (1, marks_of fs, closed inlined 0 b joined (l ++ marks_of fs) here (inr ([], leaves_nil (Walks inlined 0) e, ap (λ z. z ++ marks_of fs) q ∙ sym (marks_append es fs) ∙ sym (append_nil (marks_of (es ++ fs))))))
+      (1, marks_of fs, closed inlined 0 b joined (l ++ marks_of fs) here (inr ([], leaves_nil (Walks inlined 0) e, ap (λ z. z ++ marks_of fs) q ∙ sym (marks_append es fs) ∙ sym (append-nil (marks_of (es ++ fs))))))
 
   through : (n : ℕ) → ((y : ℕ) (r : List Item) → Walks g n y r → (m : ℕ) × (rest : List Item) × Walks inlined m y (r ++ rest)) → (l r : List Item) → l ≡ marks_of es ++ r → Walks g n c r → (m : ℕ) × (rest : List Item) × Walks inlined m b (l ++ rest)
-  through zero ih l r q w = stops_between l (q ∙ ap (λ z. marks_of es ++ z) w ∙ append_nil (marks_of es))
+  through zero ih l r q w = stops_between l (q ∙ ap (λ z. marks_of es ++ z) w ∙ append-nil (marks_of es))
   through (suc n) ih l r q w = cases (opened g n c (record { events = fs; ending = e }) r at_c w)
     where
       cases : AtBlock (Walks g n) (Some (record { events = fs; ending = e })) r → (m : ℕ) × (rest : List Item) × Walks inlined m b (l ++ rest)
-      cases (inl h) = stops_between l (q ∙ ap (λ z. marks_of es ++ z) h ∙ append_nil (marks_of es))
+      cases (inl h) = stops_between l (q ∙ ap (λ z. marks_of es ++ z) h ∙ append-nil (marks_of es))
       cases (inr (u, v, h)) =
           let a = leaves_on (suc n) ih e u (leaves_maps (Walks g n) (Walks g (suc n)) (λ y z k. walks_more g n y z k) e u v) in
           let same : l ++ a.1 ≡ marks_of (es ++ fs) ++ (u ++ a.1) = ap (λ z. z ++ a.1) (q ∙ ap (λ z. marks_of es ++ z) h ∙ sym (append_assoc (marks_of es) (marks_of fs) u)) ∙ append_assoc (marks_of es ++ marks_of fs) u a.1 ∙ ap (λ z. z ++ (u ++ a.1)) (sym (marks_append es fs)) in
           (suc a.0, a.1, closed inlined a.0 b joined (l ++ a.1) here (inr (u ++ a.1, a.2, same)))
 
   there : (n x : ℕ) (l : List Item) → Walks g n x l → (m : ℕ) × (rest : List Item) × Walks inlined m x (l ++ rest)
-  there zero x l w = (0, [], append_nil l ∙ w)
+  there zero x l w = (0, [], append-nil l ∙ w)
   there (suc n) x l w = go (λ y r v. there n y r v) (eqb_tells x b)
     where
       at_b_too : ((y : ℕ) (r : List Item) → Walks g n y r → (m : ℕ) × (rest : List Item) × Walks inlined m y (r ++ rest)) → AtBlock (Walks g n) (Some (record { events = es; ending = ToAny (c ∷ []) })) l → (m : ℕ) × (rest : List Item) × Walks inlined m b (l ++ rest)
-      at_b_too ih (inl h) = (0, [], append_nil l ∙ h)
-      at_b_too ih (inr (r, inl h, q)) = stops_between l (q ∙ ap (λ z. marks_of es ++ z) h ∙ append_nil (marks_of es))
+      at_b_too ih (inl h) = (0, [], append-nil l ∙ h)
+      at_b_too ih (inr (r, inl h, q)) = stops_between l (q ∙ ap (λ z. marks_of es ++ z) h ∙ append-nil (marks_of es))
       at_b_too ih (inr (r, inr (y, inl i, v), q)) = through n ih l r q (subst (λ z. Walks g n z r) i v)
       at_b_too ih (inr (r, inr (y, inr i, v), q)) = absurd i
 

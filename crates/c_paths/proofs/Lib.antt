@@ -15,6 +15,7 @@ pub mod TreeExits
 pub mod SoundDrafts
 pub mod StepBodies
 pub mod GraphBodies
+pub mod EngineGraphs
 pub mod ExampleGraphs
 pub mod JoinedBlocks
 pub mod BuiltTexts

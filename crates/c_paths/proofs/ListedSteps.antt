@@ -1,16 +1,16 @@
 -- The list of all steps is right.
-use Rattle.std.proofs.Common.{◌≡◌, ℕ, Bool, true, false, not, List, [], ◌∷◌, ◌++◌, ◌⊎◌, inl, inr, Some, refl, sym, ap, subst}
-use Rattle.std.specs.Prelude.{◌||◌, ◌==◌}
-use Rattle.std.proofs.lemmas.Bool.{eq-eqb, eqb-true}
+use Rattle.std.proofs.Common.{◌≡◌, Bool, true, false, not, List, [], ◌∷◌, ◌++◌, ◌⊎◌, inl, inr, Some, refl, sym, ap, subst}
 use Rattle.path_theory.specs.Marks.{EventMark}
 use Rattle.c_paths.specs.Membership.{Among}
 use Rattle.c_paths.specs.Events.{Item}
 use Rattle.c_paths.specs.Words.{Only, Then}
 use Rattle.c_paths.specs.Forms.{Form, Row, done}
 use Rattle.c_paths.specs.Evaluation.{Happens, Condition, MaybeCondition}
-use Rattle.c_paths.specs.Flow.{Flow, Does, Block, If, While, Do, For, Switch, Case, Default, Label, Goto, Break, Continue, Return, Flows, no_flows, flows}
-use Rattle.c_paths.specs.Steps.{Task, Run, Test, Turn, Behind, Close, Nowhere, in_order, after_break, after_continue, LabelAt, LabelIn, CaseAt, CaseIn, HasDefault, HasDefaultIn, StepOf, Step}
-use Rattle.c_paths.specs.Listing.{words_of, words_in, if_so, labels_at, labels_in, cases_at, cases_in, has_default, has_default_in, with_each, to_each, silently, steps_of, steps}
+use Rattle.c_paths.specs.Flow.{Flow, Does, Block, If, While, Do, For, Switch, Case, Default, Label, Goto, Break, Continue, Return}
+use Rattle.c_paths.specs.Tasks.{Task, Run, Test, Turn, Behind, Close, Nowhere, in_order, after_break, after_continue}
+use Rattle.c_paths.specs.Steps.{StepOf, Step}
+use Rattle.c_paths.specs.Labels.{if_so, labels_at, cases_at, has_default}
+use Rattle.c_paths.specs.Listing.{words_of, words_in, with_each, to_each, silently, steps_of, steps}
 use Rattle.c_paths.proofs.Listed.{among_front, among_back, among_either, Lists, lists_only, lists_then, words_listed, row_listed, maybe_listed}
 
 -- the list has exactly the continuations of the set
@@ -39,84 +39,17 @@ if_task : (b : Bool) (P : Type 0) (k : List Task) → (P → b ≡ true) → (b 
 if_task true P k to from = record { all = λ h p. inl p.1; only = λ h a. elim a [ inl e ↦ (from refl, e) | inr x ↦ absurd x ] }
 if_task false P k to from = record { all = λ h p. let bad : false ≡ true = to p.0 in cc; only = λ h a. absurd a }
 
-mutual
-  labels_listed : (L : ℕ) (s : Flow) (k : List Task) → ListsTasks (LabelAt L s k) (labels_at L s k)
-  labels_listed L (Does r) k = no_tasks _ (λ h x. x)
-  labels_listed L (Block ss) k = labels_in_listed L ss k
-  labels_listed L (If c s t) k = either_task _ _ _ _ (labels_listed L s k) (labels_listed L t k)
-  labels_listed L (While c s) k = labels_listed L s (Turn (Some c) done s ∷ k)
-  labels_listed L (Do s c) k = labels_listed L s (Turn (Some c) done s ∷ k)
-  labels_listed L (For i c u s) k = labels_listed L s (Turn c u s ∷ k)
-  labels_listed L (Switch e s) k = labels_listed L s (Behind ∷ k)
-  labels_listed L (Case s) k = labels_listed L s k
-  labels_listed L (Default s) k = labels_listed L s k
-  labels_listed L (Label M s) k = either_task (λ h. (M ≡ L) × (h ≡ Run s ∷ k)) _ _ _ (if_task (M == L) (M ≡ L) (Run s ∷ k) (λ e. eq-eqb M L e) (λ e. eqb-true M L e)) (labels_listed L s k)
-  labels_listed L (Goto M) k = no_tasks _ (λ h x. x)
-  labels_listed L Break k = no_tasks _ (λ h x. x)
-  labels_listed L Continue k = no_tasks _ (λ h x. x)
-  labels_listed L (Return r e) k = no_tasks _ (λ h x. x)
+-- a list has exactly its own continuations
+themselves : (hs : List (List Task)) → ListsTasks (λ h. Among h hs) hs
+themselves hs = record { all = λ h a. a; only = λ h a. a }
 
-  labels_in_listed : (L : ℕ) (ss : Flows) (k : List Task) → ListsTasks (LabelIn L ss k) (labels_in L ss k)
-  labels_in_listed L no_flows k = no_tasks _ (λ h x. x)
-  labels_in_listed L (flows s ss) k = either_task _ _ _ _ (labels_listed L s (in_order ss k)) (labels_in_listed L ss k)
+untrue : (b : Bool) → not b ≡ true → b ≡ false
+untrue true e = let bad : false ≡ true = e in cc
+untrue false e = refl
 
-mutual
-  cases_listed : (s : Flow) (k : List Task) → ListsTasks (CaseAt s k) (cases_at s k)
-  cases_listed (Does r) k = no_tasks _ (λ h x. x)
-  cases_listed (Block ss) k = cases_in_listed ss k
-  cases_listed (If c s t) k = either_task _ _ _ _ (cases_listed s k) (cases_listed t k)
-  cases_listed (While c s) k = cases_listed s (Turn (Some c) done s ∷ k)
-  cases_listed (Do s c) k = cases_listed s (Turn (Some c) done s ∷ k)
-  cases_listed (For i c u s) k = cases_listed s (Turn c u s ∷ k)
-  cases_listed (Switch e s) k = no_tasks _ (λ h x. x)
-  cases_listed (Case s) k = either_task (λ h. h ≡ Run s ∷ k) _ _ _ (one_task (Run s ∷ k)) (cases_listed s k)
-  cases_listed (Default s) k = either_task (λ h. h ≡ Run s ∷ k) _ _ _ (one_task (Run s ∷ k)) (cases_listed s k)
-  cases_listed (Label M s) k = cases_listed s k
-  cases_listed (Goto M) k = no_tasks _ (λ h x. x)
-  cases_listed Break k = no_tasks _ (λ h x. x)
-  cases_listed Continue k = no_tasks _ (λ h x. x)
-  cases_listed (Return r e) k = no_tasks _ (λ h x. x)
-
-  cases_in_listed : (ss : Flows) (k : List Task) → ListsTasks (CaseIn ss k) (cases_in ss k)
-  cases_in_listed no_flows k = no_tasks _ (λ h x. x)
-  cases_in_listed (flows s ss) k = either_task _ _ _ _ (cases_listed s (in_order ss k)) (cases_in_listed ss k)
-
--- a truth that is true exactly where P holds
-pub record Says (P : Type 0) (b : Bool) : Type 0 where
-  pub true_if : P → b ≡ true
-  pub only_if : b ≡ true → P
-
-says_no : Says ⊥ false
-says_no = record { true_if = λ x. absurd x; only_if = λ e. let bad : false ≡ true = e in cc }
-
-says_either : (P Q : Type 0) (a b : Bool) → Says P a → Says Q b → Says (P ⊎ Q) (a || b)
-says_either P Q true b p q = record { true_if = λ x. refl; only_if = λ e. inl (p.only_if refl) }
-says_either P Q false b p q = record { true_if = λ x. elim x [ inl y ↦ (let bad : false ≡ true = p.true_if y in cc) | inr y ↦ q.true_if y ]; only_if = λ e. inr (q.only_if e) }
-
-says_not : (P : Type 0) (b : Bool) → Says P b → Says (P → ⊥) (not b)
-says_not P true s = record { true_if = λ n. absurd (n (s.only_if refl)); only_if = λ e. let bad : false ≡ true = e in cc }
-says_not P false s = record { true_if = λ n. refl; only_if = λ e p. let bad : false ≡ true = s.true_if p in cc }
-
-mutual
-  pub default_said : (s : Flow) → Says (HasDefault s) (has_default s)
-  default_said (Does r) = says_no
-  default_said (Block ss) = default_in_said ss
-  default_said (If c s t) = says_either _ _ _ _ (default_said s) (default_said t)
-  default_said (While c s) = default_said s
-  default_said (Do s c) = default_said s
-  default_said (For i c u s) = default_said s
-  default_said (Switch e s) = says_no
-  default_said (Case s) = default_said s
-  default_said (Default s) = record { true_if = λ x. refl; only_if = λ e. tt }
-  default_said (Label M s) = default_said s
-  default_said (Goto M) = says_no
-  default_said Break = says_no
-  default_said Continue = says_no
-  default_said (Return r e) = says_no
-
-  default_in_said : (ss : Flows) → Says (HasDefaultIn ss) (has_default_in ss)
-  default_in_said no_flows = says_no
-  default_in_said (flows s ss) = says_either _ _ _ _ (default_said s) (default_in_said ss)
+-- where a switch leads
+switch_tasks : (s : Flow) (k : List Task) → ListsTasks (λ h. Among h (cases_at s (Behind ∷ k)) ⊎ ((has_default s ≡ false) × (h ≡ k))) (cases_at s (Behind ∷ k) ++ if_so (not (has_default s)) k)
+switch_tasks s k = either_task _ (λ h. (has_default s ≡ false) × (h ≡ k)) _ _ (themselves (cases_at s (Behind ∷ k))) (if_task (not (has_default s)) (has_default s ≡ false) k (λ e. ap (λ b. not b) e) (untrue (has_default s)))
 
 among_with : (w : List Item) (h : List Task) (hs : List (List Task)) → Among h hs → Among (w, h) (with_each w hs)
 among_with w h [] a = absurd a
@@ -177,11 +110,11 @@ module _ (body : Flow) (whole : List Task) where
   steps_of_listed (While c s) k = silent_step (Test (Some c) done s ∷ k)
   steps_of_listed (Do s c) k = silent_step (Run s ∷ Turn (Some c) done s ∷ k)
   steps_of_listed (For i c u s) k = row_step i (Test c u s ∷ k)
-  steps_of_listed (Switch r s) k = each_step (Happens r) _ _ _ (row_listed r) (either_task _ (λ h. (HasDefault s → ⊥) × (h ≡ k)) _ _ (cases_listed s (Behind ∷ k)) (let n = says_not _ _ (default_said s) in if_task (not (has_default s)) (HasDefault s → ⊥) k n.true_if n.only_if))
+  steps_of_listed (Switch r s) k = each_step (Happens r) _ _ _ (row_listed r) (switch_tasks s k)
   steps_of_listed (Case s) k = silent_step (Run s ∷ k)
   steps_of_listed (Default s) k = silent_step (Run s ∷ k)
   steps_of_listed (Label M s) k = silent_step (Run s ∷ k)
-  steps_of_listed (Goto L) k = silent_steps (LabelAt L body whole) (labels_at L body whole) (labels_listed L body whole)
+  steps_of_listed (Goto L) k = silent_steps (λ h. Among h (labels_at L body whole)) (labels_at L body whole) (themselves (labels_at L body whole))
   steps_of_listed Break k = silent_step (after_break k)
   steps_of_listed Continue k = silent_step (after_continue k)
   steps_of_listed (Return r e) k = each_step (Then (Happens r) (Only (EventMark e))) (λ h. h ≡ []) _ _ (lists_then _ _ _ _ (row_listed r) (lists_only (EventMark e))) (one_task [])

@@ -5,7 +5,8 @@ use Rattle.c_paths.specs.Membership.{Among}
 use Rattle.c_paths.specs.Events.{Item, Exited}
 use Rattle.c_paths.specs.Facts.{Facts}
 use Rattle.c_paths.specs.Flow.{Flow}
-use Rattle.c_paths.specs.Steps.{Task, Run, Close, Step}
+use Rattle.c_paths.specs.Tasks.{Task, Run, Close}
+use Rattle.c_paths.specs.Steps.{Step}
 use Rattle.c_paths.specs.TreeFlow.{flow_of}
 use Rattle.c_paths.specs.Traces.{Runs, TraceFrom, Definition, Trace}
 use Rattle.c_paths.specs.Listing.{before_each, stepped, or_nothing, steps, longest, holds_of_each, ends_within, longest_traces, finishes_within, Begins}

@@ -10,8 +10,8 @@ use Rattle.c_paths.specs.Forms.{Form, Plain, Inverts, Keeps, Both, Any, Chooses,
 use Rattle.c_paths.specs.Flow.{Flow, Does, Block, If, While, Do, For, Switch, Case, Default, Label, Goto, Break, Continue, Return, Flows, no_flows, flows}
 use Rattle.c_paths.specs.TreeFlow.{flow_of}
 use Rattle.c_paths.specs.Traces.{Definition}
-use Rattle.c_paths.specs.Listing.{if_so, has_default}
-use Rattle.c_paths.specs.Exits.{IsExit, NoExits, IsInner, IsInnerForm, IsInnerRow, IsInnerMaybe, ExitsLast, ExitsLastIn}
+use Rattle.c_paths.specs.Labels.{if_so, has_default}
+use Rattle.c_paths.specs.Exits.{is_exit, NoExits, IsInnerForm, IsInnerRow, IsInnerMaybe, ExitsLast, ExitsLastIn}
 use Rattle.c_paths.specs.Graphs.{ToAny, Calls, Stops}
 use Rattle.c_paths.specs.SoundGraphs.{AllBelow, IsSoundEnd, AreSound, IsSoundGraph}
 use Rattle.c_paths.specs.Fragments.{Way, To, ToEither}
@@ -93,7 +93,7 @@ module _ (N : ℕ) where
   filled_sound (x ∷ ds) zero t s l = ((tt, (l, tt)), s.1)
   filled_sound (x ∷ ds) (suc h) t s l = (s.0, filled_sound ds h t s.1 l)
 
-  item_fine : (i : Item) (next : ℕ) (ds : List Draft) → IsInner i → next < N → SoundDrafts ds → length (item_block i next ds).drafts ≤ N → Fine (item_block i next ds)
+  item_fine : (i : Item) (next : ℕ) (ds : List Draft) → is_exit i ≡ false → next < N → SoundDrafts ds → length (item_block i next ds).drafts ≤ N → Fine (item_block i next ds)
   item_fine (EventMark e) next ds i l s r = push_fine ds (e ∷ []) (Settled (ToAny (next ∷ []))) s ((i, tt), (l, tt)) r
   item_fine (CallMark site) next ds i l s r = push_fine ds [] (Settled (Calls site next)) s (tt, l) r
 
@@ -104,8 +104,8 @@ module _ (N : ℕ) where
       let f = lead t.drafts (Branched n false ∷ []) z in
       let at_f = room f.drafts _ (push_grown f.drafts [] (Settled (ToAny (t.block ∷ f.block ∷ [])))) r in
       let at_t = room t.drafts f.drafts (push_grown t.drafts (Branched n false ∷ []) (Settled (ToAny (z ∷ [])))) at_f in
-      let fine_t = push_fine ds (Branched n true ∷ []) (Settled (ToAny (y ∷ []))) s ((tt, tt), (l.0, tt)) at_t in
-      let fine_f = push_fine t.drafts (Branched n false ∷ []) (Settled (ToAny (z ∷ []))) fine_t.drafts ((tt, tt), (l.1, tt)) at_f in
+      let fine_t = push_fine ds (Branched n true ∷ []) (Settled (ToAny (y ∷ []))) s ((refl, tt), (l.0, tt)) at_t in
+      let fine_f = push_fine t.drafts (Branched n false ∷ []) (Settled (ToAny (z ∷ []))) fine_t.drafts ((refl, tt), (l.1, tt)) at_f in
       push_fine f.drafts [] (Settled (ToAny (t.block ∷ f.block ∷ []))) fine_f.drafts (tt, (fine_t.block, (fine_f.block, tt))) r
 
   mutual
@@ -292,7 +292,7 @@ length_settled : (ps : List Entry) (ds : List Draft) → length (map (settled ps
 length_settled ps [] = refl
 length_settled ps (d ∷ ds) = ap suc (length_settled ps ds)
 
-pub body_graph_sound : (body : Flow) (exit : Event) → ExitsLast body → IsExit exit → (let g = body_graph body exit in IsSoundGraph g.blocks g.entry)
+pub body_graph_sound : (body : Flow) (exit : Event) → ExitsLast body → is_exit (EventMark exit) ≡ true → (let g = body_graph body exit in IsSoundGraph g.blocks g.entry)
 body_graph_sound body exit i x =
     let dead = push [] [] (Settled (ToAny [])) in
     let last = push dead.drafts (exit ∷ []) (Settled Stops) in
@@ -307,4 +307,4 @@ body_graph_sound body exit i x =
     )
 
 pub built_graph_sound : (F : Facts) (d : Definition) → IsSoundGraph (graph_of F d).blocks (graph_of F d).entry
-built_graph_sound F d = body_graph_sound (flow_of F d.place d.body) (Exited d.place d.close) (flow_exits_last F d.place d.body) tt
+built_graph_sound F d = body_graph_sound (flow_of F d.place d.body) (Exited d.place d.close) (flow_exits_last F d.place d.body) refl

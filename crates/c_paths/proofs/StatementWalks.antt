@@ -1,5 +1,8 @@
 -- Each place in the graph where a statement begins or ends has the traces of that place's continuation.
-use Rattle.std.proofs.Common.{◌≡◌, ◌↔◌, ℕ, zero, suc, true, false, List, [], ◌∷◌, ◌++◌, ◌⊎◌, inl, inr, Option, Some, None, refl, sym, ap, ◌∙◌, subst, append_assoc}
+use Rattle.std.proofs.Common.{◌≡◌, ◌↔◌, ℕ, zero, suc, Bool, true, false, List, [], ◌∷◌, ◌++◌, ◌⊎◌, inl, inr, Option, Some, None, refl, sym, ap, ◌∙◌, subst, append_assoc}
+use Rattle.std.specs.Prelude.{not, ◌||◌, ◌==◌}
+use Rattle.std.proofs.lemmas.Bool.{eq-eqb, eqb-true}
+use Rattle.std.proofs.lemmas.List.{append-nil}
 use Rattle.path_theory.specs.Marks.{EventMark}
 use Rattle.c_paths.specs.Membership.{Among}
 use Rattle.c_paths.specs.Events.{Event, Item}
@@ -7,39 +10,58 @@ use Rattle.c_paths.specs.Words.{Nothing, Only, Then, Either}
 use Rattle.c_paths.specs.Forms.{Form, Row, done}
 use Rattle.c_paths.specs.Evaluation.{Happens, Condition}
 use Rattle.c_paths.specs.Flow.{Flow, Does, Block, If, While, Do, For, Switch, Case, Default, Label, Goto, Break, Continue, Return, Flows, no_flows, flows}
-use Rattle.c_paths.specs.Steps.{Task, Run, Test, Turn, Behind, Close, Nowhere, in_order, after_break, after_continue, LabelAt, LabelIn, CaseAt, CaseIn, HasDefault, HasDefaultIn, Step}
+use Rattle.c_paths.specs.Tasks.{Task, Run, Test, Turn, Behind, Close, Nowhere, in_order, after_break, after_continue}
+use Rattle.c_paths.specs.Steps.{Step}
+use Rattle.c_paths.specs.Labels.{if_so, labels_at, labels_in, cases_at, cases_in, has_default, has_default_in}
 use Rattle.c_paths.specs.Traces.{Runs, TraceFrom, BodyTrace}
 use Rattle.c_paths.specs.Graphs.{Block as BasicBlock, ToAny, Stops, AtBlock, Walks, GraphTrace}
 use Rattle.c_paths.specs.Fragments.{ToEither, Has, Fits, FitsRow}
 use Rattle.c_paths.specs.Layout.{Entry, HasEntry, TestAt, Built, BuiltIn, GotoAt, IsGraphOf}
 use Rattle.c_paths.proofs.Listed.{among_front, among_back, among_either}
-use Rattle.c_paths.proofs.Ahead.{append_nil, Ahead, ahead_then, ahead_maps}
+use Rattle.c_paths.proofs.Ahead.{Ahead, ahead_then, ahead_maps}
 use Rattle.c_paths.proofs.GraphWalks.{walks_more, Forward, Within, opened, closed, block_to, reaches_then, stay, stay_back}
 use Rattle.c_paths.proofs.FormWalks.{Two, fits_forward, fits_back, row_forward, row_back}
 
+one_is : (a b : Bool) → (a || b) ≡ true → (a ≡ true) ⊎ (b ≡ true)
+one_is true b e = inl refl
+one_is false b e = inr e
+
 -- a default label has a continuation
 mutual
-  default_case : (s : Flow) → HasDefault s → (k : List Task) → (h : List Task) × CaseAt s k h
-  default_case (Does r) d k = absurd d
+  default_case : (s : Flow) → has_default s ≡ true → (k : List Task) → (h : List Task) × Among h (cases_at s k)
+  default_case (Does r) d k = let bad : false ≡ true = d in cc
   default_case (Block ss) d k = default_in ss d k
-  default_case (If c s t) (inl d) k = let e = default_case s d k in (e.0, inl e.1)
-  default_case (If c s t) (inr d) k = let e = default_case t d k in (e.0, inr e.1)
+  default_case (If c s t) d k = elim (one_is (has_default s) (has_default t) d) [
+    | inl e ↦ let a = default_case s e k in (a.0, among_front a.0 (cases_at s k) (cases_at t k) a.1)
+    | inr e ↦ let a = default_case t e k in (a.0, among_back a.0 (cases_at s k) (cases_at t k) a.1)
+  ]
   default_case (While c s) d k = default_case s d (Turn (Some c) done s ∷ k)
   default_case (Do s c) d k = default_case s d (Turn (Some c) done s ∷ k)
   default_case (For i c u s) d k = default_case s d (Turn c u s ∷ k)
-  default_case (Switch r s) d k = absurd d
+  default_case (Switch r s) d k = let bad : false ≡ true = d in cc
   default_case (Case s) d k = let e = default_case s d k in (e.0, inr e.1)
   default_case (Default s) d k = (Run s ∷ k, inl refl)
   default_case (Label M s) d k = default_case s d k
-  default_case (Goto M) d k = absurd d
-  default_case Break d k = absurd d
-  default_case Continue d k = absurd d
-  default_case (Return r e) d k = absurd d
+  default_case (Goto M) d k = let bad : false ≡ true = d in cc
+  default_case Break d k = let bad : false ≡ true = d in cc
+  default_case Continue d k = let bad : false ≡ true = d in cc
+  default_case (Return r e) d k = let bad : false ≡ true = d in cc
 
-  default_in : (ss : Flows) → HasDefaultIn ss → (k : List Task) → (h : List Task) × CaseIn ss k h
-  default_in no_flows d k = absurd d
-  default_in (flows s ss) (inl d) k = let e = default_case s d (in_order ss k) in (e.0, inl e.1)
-  default_in (flows s ss) (inr d) k = let e = default_in ss d k in (e.0, inr e.1)
+  default_in : (ss : Flows) → has_default_in ss ≡ true → (k : List Task) → (h : List Task) × Among h (cases_in ss k)
+  default_in no_flows d k = let bad : false ≡ true = d in cc
+  default_in (flows s ss) d k = elim (one_is (has_default s) (has_default_in ss) d) [
+    | inl e ↦ let a = default_case s e (in_order ss k) in (a.0, among_front a.0 (cases_at s (in_order ss k)) (cases_in ss k) a.1)
+    | inr e ↦ let a = default_in ss e k in (a.0, among_back a.0 (cases_at s (in_order ss k)) (cases_in ss k) a.1)
+  ]
+
+-- what stands in a list of one, if it is so
+if_so_has : (b : Bool) (P : Type 0) (h k : List Task) → (P → b ≡ true) → P → h ≡ k → Among h (if_so b k)
+if_so_has true P h k to p e = inl e
+if_so_has false P h k to p e = let bad : false ≡ true = to p in cc
+
+of_if_so : (b : Bool) (P : Type 0) (h k : List Task) → (b ≡ true → P) → Among h (if_so b k) → P × (h ≡ k)
+of_if_so true P h k from a = elim a [ inl e ↦ (from refl, e) | inr x ↦ absurd x ]
+of_if_so false P h k from a = absurd a
 
 entries_front : (L b : ℕ) (xs ys : List Entry) → HasEntry L b xs → HasEntry L b (xs ++ ys)
 entries_front L b [] ys h = absurd h
@@ -203,7 +225,7 @@ module _ (g : List BasicBlock) (body : Flow) (whole : List Task) where
     where
       cases : AtBlock (Walks g n) (Some (record { events = p ∷ []; ending = Stops })) l → Ahead (Only (EventMark p)) Nothing l
       cases (inl h) = record { first = EventMark p ∷ []; then = []; rest = EventMark p ∷ []; is_first = refl; is_then = refl; whole = ap (λ m. m ++ EventMark p ∷ []) h }
-      cases (inr (r, h, q)) = record { first = EventMark p ∷ []; then = []; rest = []; is_first = refl; is_then = refl; whole = append_nil l ∙ q ∙ ap (λ m. EventMark p ∷ m) h }
+      cases (inr (r, h, q)) = record { first = EventMark p ∷ []; then = []; rest = []; is_first = refl; is_then = refl; whole = append-nil l ∙ q ∙ ap (λ m. EventMark p ∷ m) h }
 
   nothing_left : (n : ℕ) (l : List Item) → Runs body whole n [] l → l ≡ []
   nothing_left zero l h = h
@@ -260,14 +282,14 @@ module _ (g : List BasicBlock) (body : Flow) (whole : List Task) where
   -- what the blocks of a statement with k behind it represent
   pub record Done (n : ℕ) (s : Flow) (k : List Task) (b : ℕ) (cs : List ℕ) (ls : List Entry) : Type 0 where
     pub entry : Represents n (Run s ∷ k) b
-    pub cases : Covers n (CaseAt s k) (λ c. Among c cs)
-    pub labels : (L : ℕ) → Covers n (LabelAt L s k) (λ c. HasEntry L c ls)
+    pub cases : Covers n (λ h. Among h (cases_at s k)) (λ c. Among c cs)
+    pub labels : (L : ℕ) → Covers n (λ h. Among h (labels_at L s k)) (λ c. HasEntry L c ls)
 
   -- the same of a list of statements
   pub record RowDone (n : ℕ) (ss : Flows) (k : List Task) (b : ℕ) (cs : List ℕ) (ls : List Entry) : Type 0 where
     pub entry : Represents n (in_order ss k) b
-    pub cases : Covers n (CaseIn ss k) (λ c. Among c cs)
-    pub labels : (L : ℕ) → Covers n (LabelIn L ss k) (λ c. HasEntry L c ls)
+    pub cases : Covers n (λ h. Among h (cases_in ss k)) (λ c. Among c cs)
+    pub labels : (L : ℕ) → Covers n (λ h. Among h (labels_in L ss k)) (λ c. HasEntry L c ls)
 
   break_row : (ss : Flows) (k : List Task) → after_break (in_order ss k) ≡ after_break k
   break_row no_flows k = refl
@@ -319,11 +341,11 @@ module _ (g : List BasicBlock) (body : Flow) (whole : List Task) where
       only c (inr e) = absurd e
 
   -- no cases and no labels
-  plain : (n : ℕ) (s : Flow) (k : List Task) (b : ℕ) (cs : List ℕ) (ls : List Entry) → cs ≡ [] → ls ≡ [] → ((k' : List Task) → CaseAt s k k' → ⊥) → ((L : ℕ) (k' : List Task) → LabelAt L s k k' → ⊥) → Represents n (Run s ∷ k) b → Done n s k b cs ls
+  plain : (n : ℕ) (s : Flow) (k : List Task) (b : ℕ) (cs : List ℕ) (ls : List Entry) → cs ≡ [] → ls ≡ [] → ((k' : List Task) → Among k' (cases_at s k) → ⊥) → ((L : ℕ) (k' : List Task) → Among k' (labels_at L s k) → ⊥) → Represents n (Run s ∷ k) b → Done n s k b cs ls
   plain n s k b cs ls ec el nc nl r = record {
     entry = r;
-    cases = subst (λ xs. Covers n (CaseAt s k) (λ c. Among c xs)) (sym ec) (record { each = λ k' p. absurd (nc k' p); only = λ c q. absurd q });
-    labels = λ L. subst (λ xs. Covers n (LabelAt L s k) (λ c. HasEntry L c xs)) (sym el) (record { each = λ k' p. absurd (nl L k' p); only = λ c q. absurd q });
+    cases = subst (λ xs. Covers n (λ h. Among h (cases_at s k)) (λ c. Among c xs)) (sym ec) (record { each = λ k' p. absurd (nc k' p); only = λ c q. absurd q });
+    labels = λ L. subst (λ xs. Covers n (λ h. Among h (labels_at L s k)) (λ c. HasEntry L c xs)) (sym el) (record { each = λ k' p. absurd (nl L k' p); only = λ c q. absurd q });
   }
 
   cases_or : (n : ℕ) (P1 P2 : List Task → Type 0) (c1 c2 cs : List ℕ) → cs ≡ c2 ++ c1 → Covers n P1 (λ c. Among c c1) → Covers n P2 (λ c. Among c c2) → Covers n (λ k. P1 k ⊎ P2 k) (λ c. Among c cs)
@@ -334,22 +356,42 @@ module _ (g : List BasicBlock) (body : Flow) (whole : List Task) where
   labels_or n L P1 P2 l1 l2 ls e a b =
       subst (λ xs. Covers n (λ k. P1 k ⊎ P2 k) (λ c. HasEntry L c xs)) (sym e) (covers_or n P1 P2 _ _ (λ c. HasEntry L c (l2 ++ l1)) (λ c h. entries_back L c l2 l1 h) (λ c h. entries_front L c l2 l1 h) (λ c h. elim (entries_either L c l2 l1 h) [ inl x ↦ inr x | inr x ↦ inl x ]) a b)
 
-  switch_entry : (n : ℕ) (e : Row) (x : Flow) (k : List Task) (b v next : ℕ) (cx targets : List ℕ) → FitsRow (Has g) e v b → Has g v [] (ToAny targets) → (HasDefault x × (targets ≡ cx)) ⊎ ((HasDefault x → ⊥) × (targets ≡ cx ++ next ∷ [])) → Covers n (CaseAt x (Behind ∷ k)) (λ c. Among c cx) → Represents n k next → Represents n (Run (Switch e x) ∷ k) b
+  -- the same said of a list of continuations
+  covers_same : (n : ℕ) (P1 P2 : List Task → Type 0) (Q : ℕ → Type 0) → ((k : List Task) → P1 k → P2 k) → ((k : List Task) → P2 k → P1 k) → Covers n P1 Q → Covers n P2 Q
+  covers_same n P1 P2 Q to from c = record { each = λ k p. c.each k (from k p); only = λ b q. let a = c.only b q in (a.0, to a.0 a.1, a.2) }
+
+  covers_both : (n : ℕ) (xs ys : List (List Task)) (Q : ℕ → Type 0) → Covers n (λ k. Among k xs ⊎ Among k ys) Q → Covers n (λ k. Among k (xs ++ ys)) Q
+  covers_both n xs ys Q c = covers_same n (λ k. Among k xs ⊎ Among k ys) (λ k. Among k (xs ++ ys)) Q (λ k p. elim p [ inl a ↦ among_front k xs ys a | inr a ↦ among_back k xs ys a ]) (λ k p. among_either k xs ys p) c
+
+  cases_both : (n : ℕ) (xs ys : List (List Task)) (c1 c2 cs : List ℕ) → cs ≡ c2 ++ c1 → Covers n (λ k. Among k xs) (λ c. Among c c1) → Covers n (λ k. Among k ys) (λ c. Among c c2) → Covers n (λ k. Among k (xs ++ ys)) (λ c. Among c cs)
+  cases_both n xs ys c1 c2 cs e a b = covers_both n xs ys (λ c. Among c cs) (cases_or n (λ k. Among k xs) (λ k. Among k ys) c1 c2 cs e a b)
+
+  labels_both : (n L : ℕ) (xs ys : List (List Task)) (l1 l2 ls : List Entry) → ls ≡ l2 ++ l1 → Covers n (λ k. Among k xs) (λ c. HasEntry L c l1) → Covers n (λ k. Among k ys) (λ c. HasEntry L c l2) → Covers n (λ k. Among k (xs ++ ys)) (λ c. HasEntry L c ls)
+  labels_both n L xs ys l1 l2 ls e a b = covers_both n xs ys (λ c. HasEntry L c ls) (labels_or n L (λ k. Among k xs) (λ k. Among k ys) l1 l2 ls e a b)
+
+  -- a label, if it is that one
+  covers_if_so : (n L M : ℕ) (k : List Task) (Q : ℕ → Type 0) → Covers n (λ k'. (M ≡ L) × (k' ≡ k)) Q → Covers n (λ k'. Among k' (if_so (M == L) k)) Q
+  covers_if_so n L M k Q c = covers_same n (λ k'. (M ≡ L) × (k' ≡ k)) (λ k'. Among k' (if_so (M == L) k)) Q (λ k' p. if_so_has (M == L) (M ≡ L) k' k (λ e. eq-eqb M L e) p.0 p.1) (λ k' p. of_if_so (M == L) (M ≡ L) k' k (λ e. eqb-true M L e) p) c
+
+  switch_entry : (n : ℕ) (e : Row) (x : Flow) (k : List Task) (b v next : ℕ) (cx targets : List ℕ) → FitsRow (Has g) e v b → Has g v [] (ToAny targets) → targets ≡ cx ++ if_so (not (has_default x)) next → Covers n (λ h. Among h (cases_at x (Behind ∷ k))) (λ c. Among c cx) → Represents n k next → Represents n (Run (Switch e x) ∷ k) b
   switch_entry n e x k b v next cx targets f h t cov r =
-      selects n (Run (Switch e x) ∷ k) P (Happens e) b v targets (λ l k' a. a) (λ l k' a q. (a, q)) (row_forward g e v b f) (λ T w. row_back g e v b n T f w) h (all t) (λ l a. from_ahead (Run (Switch e x) ∷ k) (some t).0 (Happens e) (λ w y. (y, (some t).1)) l (ahead_maps (Happens e) (Happens e) Nothing (From (some t).0) (λ w y. y) (λ w y. subst (From (some t).0) (sym y) (from_nil (some t).0)) l a))
+      selects n (Run (Switch e x) ∷ k) P (Happens e) b v targets (λ l k' a. a) (λ l k' a q. (a, q)) (row_forward g e v b f) (λ T w. row_back g e v b n T f w) h (subst (λ xs. Covers n P (λ c. Among c xs)) (sym t) (all (has_default x) refl)) (λ l a. from_ahead (Run (Switch e x) ∷ k) some.0 (Happens e) (λ w y. (y, some.1)) l (ahead_maps (Happens e) (Happens e) Nothing (From some.0) (λ w y. y) (λ w y. subst (From some.0) (sym y) (from_nil some.0)) l a))
     where
       P : List Task → Type 0
-      P k' = CaseAt x (Behind ∷ k) k' ⊎ ((HasDefault x → ⊥) × (k' ≡ k))
+      P k' = Among k' (cases_at x (Behind ∷ k)) ⊎ ((has_default x ≡ false) × (k' ≡ k))
 
-      some : (HasDefault x × (targets ≡ cx)) ⊎ ((HasDefault x → ⊥) × (targets ≡ cx ++ next ∷ [])) → (k' : List Task) × P k'
-      some (inl a) = let c = default_case x a.0 (Behind ∷ k) in (c.0, inl c.1)
-      some (inr a) = (k, inr (a.0, refl))
+      some_by : (d : Bool) → has_default x ≡ d → (k' : List Task) × P k'
+      some_by true q = let c = default_case x q (Behind ∷ k) in (c.0, inl c.1)
+      some_by false q = (k, inr (q, refl))
 
-      all : (HasDefault x × (targets ≡ cx)) ⊎ ((HasDefault x → ⊥) × (targets ≡ cx ++ next ∷ [])) → Covers n P (λ c. Among c targets)
-      all (inl a) = subst (λ xs. Covers n P (λ c. Among c xs)) (sym a.1) (record { each = λ k' q. elim q [ inl y ↦ cov.each k' y | inr y ↦ absurd (y.0 a.0) ]; only = λ c q. let o = cov.only c q in (o.0, inl o.1, o.2) })
-      all (inr a) = subst (λ xs. Covers n P (λ c. Among c xs)) (sym a.1)
-          (covers_or n (CaseAt x (Behind ∷ k)) (λ k'. (HasDefault x → ⊥) × (k' ≡ k)) (λ c. Among c cx) (λ c. Among c (next ∷ [])) (λ c. Among c (cx ++ next ∷ [])) (λ c q. among_front c cx (next ∷ []) q) (λ c q. among_back c cx (next ∷ []) q) (λ c q. among_either c cx (next ∷ []) q) cov
-          (record { each = λ k' q. (next, inl refl, subst (λ z. Represents n z next) (sym q.1) r); only = λ c q. elim q [ inl y ↦ (k, (a.0, refl), subst (Represents n k) (sym y) r) | inr y ↦ absurd y ] }))
+      some : (k' : List Task) × P k'
+      some = some_by (has_default x) refl
+
+      all : (d : Bool) → has_default x ≡ d → Covers n P (λ c. Among c (cx ++ if_so (not d) next))
+      all true q = subst (λ xs. Covers n P (λ c. Among c xs)) (sym (append-nil cx)) (record { each = λ k' p. elim p [ inl y ↦ cov.each k' y | inr y ↦ (let bad : false ≡ true = sym y.0 ∙ q in cc) ]; only = λ c p. let o = cov.only c p in (o.0, inl o.1, o.2) })
+      all false q =
+          covers_or n (λ h. Among h (cases_at x (Behind ∷ k))) (λ k'. (has_default x ≡ false) × (k' ≡ k)) (λ c. Among c cx) (λ c. Among c (next ∷ [])) (λ c. Among c (cx ++ next ∷ [])) (λ c p. among_front c cx (next ∷ []) p) (λ c p. among_back c cx (next ∷ []) p) (λ c p. among_either c cx (next ∷ []) p) cov
+          (record { each = λ k' p. (next, inl refl, subst (λ z. Represents n z next) (sym p.1) r); only = λ c p. elim p [ inl y ↦ (k, (q, refl), subst (Represents n k) (sym y) r) | inr y ↦ absurd y ] })
 
   mutual
     pub represents : (J : ℕ → ℕ → Type 0) (s : Flow) (next brk cont b : ℕ) (cs : List ℕ) (ls : List Entry) → Built (Has g) J s next brk cont b cs ls → (n : ℕ) (k : List Task) → Represents n k next → Represents n (after_break k) brk → Represents n (after_continue k) cont → Gotos n J → Done n s k b cs ls
@@ -367,8 +409,8 @@ module _ (g : List BasicBlock) (body : Flow) (whole : List Task) where
         let dx = represents J x next brk cont h.0 h.2 h.4 h.7 n k r rb rc j in
         record {
           entry = if_case n c x y k b h.0 h.1 (Run (If c x y) ∷ k) (λ l k' a. a) (λ l k' a. a) h.8 dx.entry dy.entry;
-          cases = cases_or n (CaseAt x k) (CaseAt y k) h.2 h.3 cs h.9 dx.cases dy.cases;
-          labels = λ L. labels_or n L (LabelAt L x k) (LabelAt L y k) h.4 h.5 ls h.10 (dx.labels L) (dy.labels L);
+          cases = cases_both n (cases_at x k) (cases_at y k) h.2 h.3 cs h.9 dx.cases dy.cases;
+          labels = λ L. labels_both n L (labels_at L x k) (labels_at L y k) h.4 h.5 ls h.10 (dx.labels L) (dy.labels L);
         }
     represents J (While c x) next brk cont b cs ls h n k r rb rc j =
         let T = Turn (Some c) done x ∷ k in
@@ -417,14 +459,14 @@ module _ (g : List BasicBlock) (body : Flow) (whole : List Task) where
         let d = represents J x next brk cont b h.0 ls h.1 n k r rb rc j in
         record {
           entry = silent n (Run (Case x) ∷ k) (Run x ∷ k) b (λ l k' a. a) (refl, refl) d.entry;
-          cases = cases_or n (λ k'. k' ≡ Run x ∷ k) (CaseAt x k) (b ∷ []) h.0 cs h.2 (covers_one n (Run x ∷ k) b d.entry) d.cases;
+          cases = cases_or n (λ k'. k' ≡ Run x ∷ k) (λ k'. Among k' (cases_at x k)) (b ∷ []) h.0 cs h.2 (covers_one n (Run x ∷ k) b d.entry) d.cases;
           labels = d.labels;
         }
     represents J (Default x) next brk cont b cs ls h n k r rb rc j =
         let d = represents J x next brk cont b h.0 ls h.1 n k r rb rc j in
         record {
           entry = silent n (Run (Default x) ∷ k) (Run x ∷ k) b (λ l k' a. a) (refl, refl) d.entry;
-          cases = cases_or n (λ k'. k' ≡ Run x ∷ k) (CaseAt x k) (b ∷ []) h.0 cs h.2 (covers_one n (Run x ∷ k) b d.entry) d.cases;
+          cases = cases_or n (λ k'. k' ≡ Run x ∷ k) (λ k'. Among k' (cases_at x k)) (b ∷ []) h.0 cs h.2 (covers_one n (Run x ∷ k) b d.entry) d.cases;
           labels = d.labels;
         }
     represents J (Label M x) next brk cont b cs ls h n k r rb rc j =
@@ -432,7 +474,7 @@ module _ (g : List BasicBlock) (body : Flow) (whole : List Task) where
         record {
           entry = silent n (Run (Label M x) ∷ k) (Run x ∷ k) b (λ l k' a. a) (refl, refl) d.entry;
           cases = d.cases;
-          labels = λ L. labels_or n L (λ k'. (M ≡ L) × (k' ≡ Run x ∷ k)) (LabelAt L x k) (record { label = M; block = b } ∷ []) h.0 ls h.2 (covers_label n L M (Run x ∷ k) b d.entry) (d.labels L);
+          labels = λ L. labels_both n L (if_so (M == L) (Run x ∷ k)) (labels_at L x k) (record { label = M; block = b } ∷ []) h.0 ls h.2 (covers_if_so n L M (Run x ∷ k) _ (covers_label n L M (Run x ∷ k) b d.entry)) (d.labels L);
         }
     represents J (Goto L) next brk cont b cs ls h n k r rb rc j =
         plain n (Goto L) k b cs ls h.1 h.2 (λ k' x. x) (λ M k' x. x) (j L b h.0 k)
@@ -454,12 +496,12 @@ module _ (g : List BasicBlock) (body : Flow) (whole : List Task) where
         let dx = represents J x h.0 brk cont b h.1 h.3 h.6 n (in_order y k) dy.entry (subst (λ q. Represents n q brk) (sym (break_row y k)) rb) (subst (λ q. Represents n q cont) (sym (continue_row y k)) rc) j in
         record {
           entry = dx.entry;
-          cases = cases_or n (CaseAt x (in_order y k)) (CaseIn y k) h.1 h.2 cs h.7 dx.cases dy.cases;
-          labels = λ L. labels_or n L (LabelAt L x (in_order y k)) (LabelIn L y k) h.3 h.4 ls h.8 (dx.labels L) (dy.labels L);
+          cases = cases_both n (cases_at x (in_order y k)) (cases_in y k) h.1 h.2 cs h.7 dx.cases dy.cases;
+          labels = λ L. labels_both n L (labels_at L x (in_order y k)) (labels_in L y k) h.3 h.4 ls h.8 (dx.labels L) (dy.labels L);
         }
 
   -- a `goto`, whose block leads to its labels: one block and one step more
-  jumps_to : (n L b : ℕ) (bs : List ℕ) (k : List Task) → Has g b [] (ToAny bs) → Covers n (LabelAt L body whole) (λ c. Among c bs) → Represents (suc n) (Run (Goto L) ∷ k) b
+  jumps_to : (n L b : ℕ) (bs : List ℕ) (k : List Task) → Has g b [] (ToAny bs) → Covers n (λ h. Among h (labels_at L body whole)) (λ c. Among c bs) → Represents (suc n) (Run (Goto L) ∷ k) b
   jumps_to n L b bs k e cov = record { forward = go; back = λ l w. back l (opens n b bs l e w) }
     where
       go : (l : List Item) → Runs body whole (suc n) (Run (Goto L) ∷ k) l → (m : ℕ) × Walks g m b l
@@ -474,7 +516,7 @@ module _ (g : List BasicBlock) (body : Flow) (whole : List Task) where
       back l (inl h) = subst (From (Run (Goto L) ∷ k)) (sym h) (from_nil _)
       back l (inr (c, i, w)) =
           let a = cov.only c i in
-          from_ahead (Run (Goto L) ∷ k) a.0 Nothing (λ v z. (z, a.1)) l (record { first = []; then = l; rest = []; is_first = refl; is_then = a.2.back l w; whole = append_nil l })
+          from_ahead (Run (Goto L) ∷ k) a.0 Nothing (λ v z. (z, a.1)) l (record { first = []; then = l; rest = []; is_first = refl; is_then = a.2.back l w; whole = append-nil l })
 
 module _ (g : List BasicBlock) (body : Flow) (exit : Event) (entry : ℕ) (is : IsGraphOf g body exit entry) where
   abbrev behind : List Task
@@ -493,8 +535,8 @@ module _ (g : List BasicBlock) (body : Flow) (exit : Event) (entry : ℕ) (is : 
       no_way (suc n) l (inr h) = absurd h.3
 
       back : (n : ℕ) → Within g n is.dead (TraceFrom body behind (Nowhere ∷ []))
-      back zero l w = (0, [], append_nil l ∙ w)
-      back (suc n) l w = (0, [], append_nil l ∙ elim (opens g body behind n is.dead [] l is.at_dead w) [ inl e ↦ e | inr a ↦ absurd a.1 ])
+      back zero l w = (0, [], append-nil l ∙ w)
+      back (suc n) l w = (0, [], append-nil l ∙ elim (opens g body behind n is.dead [] l is.at_dead w) [ inl e ↦ e | inr a ↦ absurd a.1 ])
 
   all_done : (n : ℕ) → Gotos g body behind n (GotoAt g is.labels) → Done g body behind n body behind entry is.cases is.labels
   all_done n j = represents g body behind (GotoAt g is.labels) body is.last is.dead is.dead entry is.cases is.labels is.built n behind (rep_last n) (rep_dead n) (rep_dead n) j

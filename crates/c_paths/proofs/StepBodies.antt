@@ -1,5 +1,6 @@
 -- The walks of a body by steps are its traces, with the end behind an exit.
 use Rattle.std.proofs.Common.{◌≡◌, ℕ, zero, suc, Bool, true, false, List, [], ◌∷◌, ◌++◌, inl, inr, refl, sym, ap, ◌∙◌, subst, append_assoc}
+use Rattle.std.proofs.lemmas.List.{append-nil}
 use Rattle.c_tree.specs.Node.{Node}
 use Rattle.path_theory.specs.Model.{Model}
 use Rattle.path_theory.specs.Trails.{Trail, Start, More}
@@ -8,10 +9,11 @@ use Rattle.c_paths.specs.Events.{Event, Exited, Item}
 use Rattle.c_paths.specs.Facts.{Facts}
 use Rattle.c_paths.specs.Flow.{Flow}
 use Rattle.c_paths.specs.TreeFlow.{flow_of}
-use Rattle.c_paths.specs.Steps.{Task, Run, Close, Step}
+use Rattle.c_paths.specs.Tasks.{Task, Run, Close}
+use Rattle.c_paths.specs.Steps.{Step}
 use Rattle.c_paths.specs.Traces.{Runs, Definition, Trace}
-use Rattle.c_paths.specs.Bodies.{is_exit, Pending, step_bodies, mark_of, marked_then, ends_in_exit}
-use Rattle.c_paths.proofs.Ahead.{append_nil}
+use Rattle.c_paths.specs.Exits.{is_exit}
+use Rattle.c_paths.specs.Bodies.{Pending, step_bodies, mark_of, marked_then, ends_in_exit}
 
 pub ends_snoc : (b : Bool) (w : List Item) (i : Item) → ends_in_exit b (w ++ i ∷ []) ≡ is_exit i
 ends_snoc b [] i = refl
@@ -27,7 +29,7 @@ leads_runs body whole zero k y h l = l.0
 leads_runs body whole (suc n) k y h l = inr (l.0, l.1, l.2, l.3, leads_runs body whole n l.2 l.1 h l.4, l.5)
 
 leads_step : (body : Flow) (whole : List Task) (n : ℕ) (k : List Task) (y : List Item) (h : List Task) (a : List Item) (j : List Task) → Leads body whole n k y h → Step body whole h a j → Leads body whole (suc n) k (y ++ a) j
-leads_step body whole zero k y h a j l s = (a, [], j, subst (λ z. Step body whole z a j) l.1 s, (refl, refl), ap (λ z. z ++ a) l.0 ∙ sym (append_nil a))
+leads_step body whole zero k y h a j l s = (a, [], j, subst (λ z. Step body whole z a j) l.1 s, (refl, refl), ap (λ z. z ++ a) l.0 ∙ sym (append-nil a))
 leads_step body whole (suc n) k y h a j l s =
     (l.0, l.1 ++ a, l.2, l.3, leads_step body whole n l.2 l.1 h a j l.4 s, ap (λ z. z ++ a) l.5 ∙ append_assoc l.0 l.1 a)
 
@@ -96,7 +98,7 @@ module _ (M : Model) (facts : M.Fn → Facts) (definition : M.Fn → Definition)
           is = a.is;
           last = s.1 ∙ a.last;
           count = suc a.count;
-          leads = subst (λ y. Leads body whole (suc a.count) (Run body ∷ whole) y q.behind) (ap (λ z. (a.word ++ z) ++ q.rest) s.0 ∙ ap (λ z. z ++ q.rest) (append_nil a.word))
+          leads = subst (λ y. Leads body whole (suc a.count) (Run body ∷ whole) y q.behind) (ap (λ z. (a.word ++ z) ++ q.rest) s.0 ∙ ap (λ z. z ++ q.rest) (append-nil a.word))
               (leads_step body whole a.count (Run body ∷ whole) (a.word ++ p.rest) p.behind q.rest q.behind a.leads s.2);
         }
     at _ q (MarkedGo {l = l} {p = p} walk e s) =

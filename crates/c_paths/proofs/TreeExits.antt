@@ -1,5 +1,5 @@
 -- In a tree of C exits stand behind what a `return` evaluates alone.
-use Rattle.std.proofs.Common.{Bool, true, false, Option, None, Some}
+use Rattle.std.proofs.Common.{Bool, true, false, Option, None, Some, refl}
 use Rattle.c_tree.specs.declared.operator.BinaryOp.{BinaryOp}
 use Rattle.c_tree.specs.declared.operator.BinaryOp.TheVariants as binary
 use Rattle.c_tree.specs.declared.operator.UnaryOp.{UnaryOp}
@@ -14,23 +14,23 @@ use Rattle.c_paths.specs.TreeFlow.{maybe_row, maybe_form, declared_then, initial
 use Rattle.c_paths.specs.Exits.{IsInnerForm, IsInnerRow, IsInnerMaybe, ExitsLast, ExitsLastIn}
 
 call_inner : (b : Bool) (n : Node) → IsInnerRow (call_itself b n)
-call_inner true n = (tt, (tt, tt))
-call_inner false n = (tt, tt)
+call_inner true n = (refl, (refl, tt))
+call_inner false n = (refl, tt)
 
 unary_inner : (n : Node) (op : UnaryOp) (x : Form) → IsInnerForm x → IsInnerForm (unary_form n op x)
-unary_inner n unary.Not x h = (h, (tt, tt))
-unary_inner n unary.Sizeof x h = (tt, tt)
-unary_inner n _ x h = (h, (tt, tt))
+unary_inner n unary.Not x h = (h, (refl, tt))
+unary_inner n unary.Sizeof x h = (refl, tt)
+unary_inner n _ x h = (h, (refl, tt))
 
 binary_inner : (n : Node) (op : BinaryOp) (zero : Bool) (x y : Form) → IsInnerForm x → IsInnerForm y → IsInnerForm (binary_form n op zero x y)
-binary_inner n binary.LogAnd zero x y h k = (h, k, (tt, tt))
-binary_inner n binary.LogOr zero x y h k = (h, k, (tt, tt))
-binary_inner n binary.Comma zero x y h k = (h, k, (tt, tt))
-binary_inner n binary.Equal true x y h k = (h, (k, (tt, tt)))
-binary_inner n binary.Equal false x y h k = (h, (k, (tt, tt)))
-binary_inner n binary.NotEqual true x y h k = (h, (k, (tt, tt)))
-binary_inner n binary.NotEqual false x y h k = (h, (k, (tt, tt)))
-binary_inner n _ zero x y h k = (h, (k, (tt, tt)))
+binary_inner n binary.LogAnd zero x y h k = (h, k, (refl, tt))
+binary_inner n binary.LogOr zero x y h k = (h, k, (refl, tt))
+binary_inner n binary.Comma zero x y h k = (h, k, (refl, tt))
+binary_inner n binary.Equal true x y h k = (h, (k, (refl, tt)))
+binary_inner n binary.Equal false x y h k = (h, (k, (refl, tt)))
+binary_inner n binary.NotEqual true x y h k = (h, (k, (refl, tt)))
+binary_inner n binary.NotEqual false x y h k = (h, (k, (refl, tt)))
+binary_inner n _ zero x y h k = (h, (k, (refl, tt)))
 
 mutual
   pub form_inner : (F : Facts) (n : Node) → IsInnerForm (form_of F n)
@@ -46,29 +46,29 @@ mutual
   form_inner F (node i p (Jump k)) = tt
 
   primary_inner : (F : Facts) (n : Node) (k : PrimaryShape) → IsInnerForm (primary_form F n k)
-  primary_inner F n (Ident name) = (tt, tt)
-  primary_inner F n (Constant token) = (tt, tt)
-  primary_inner F n (StrConst literals) = (tt, tt)
+  primary_inner F n (Ident name) = (refl, tt)
+  primary_inner F n (Constant token) = (refl, tt)
+  primary_inner F n (StrConst literals) = (refl, tt)
   primary_inner F n (Paren inner) = form_inner F inner
-  primary_inner F n (VaArg list of) = (form_inner F list, (tt, tt))
-  primary_inner F n (Offsetof of member path) = (tt, tt)
-  primary_inner F n (Hole number) = (tt, tt)
+  primary_inner F n (VaArg list of) = (form_inner F list, (refl, tt))
+  primary_inner F n (Offsetof of member path) = (refl, tt)
+  primary_inner F n (Hole number) = (refl, tt)
 
   operation_inner : (F : Facts) (n : Node) (k : OperationShape) → IsInnerForm (operation_form F n k)
-  operation_inner F n (Index array index) = (form_inner F array, (form_inner F index, (tt, tt)))
+  operation_inner F n (Index array index) = (form_inner F array, (form_inner F index, (refl, tt)))
   operation_inner F n (Call callee parenthesis arguments) = (form_inner F callee, operands_inner F arguments (call_itself (F.has_body n) n) (call_inner (F.has_body n) n))
-  operation_inner F n (Member x member) = (form_inner F x, (tt, tt))
-  operation_inner F n (Arrow x member) = (form_inner F x, (tt, (tt, tt)))
-  operation_inner F n (CompoundLit of braces) = (form_inner F braces, (tt, tt))
+  operation_inner F n (Member x member) = (form_inner F x, (refl, tt))
+  operation_inner F n (Arrow x member) = (form_inner F x, (refl, (refl, tt)))
+  operation_inner F n (CompoundLit of braces) = (form_inner F braces, (refl, tt))
   operation_inner F n (Unary op x) = unary_inner n op (form_of F x) (form_inner F x)
-  operation_inner F n (SizeofType of) = (tt, tt)
-  operation_inner F n (Cast to x) = (form_inner F x, (tt, tt))
+  operation_inner F n (SizeofType of) = (refl, tt)
+  operation_inner F n (Cast to x) = (form_inner F x, (refl, tt))
   operation_inner F n (Binary op x y) = binary_inner n op (is_zero y) (form_of F x) (form_of F y) (form_inner F x) (form_inner F y)
-  operation_inner F n (Cond x y z) = (form_inner F x, form_inner F y, form_inner F z, (tt, tt))
-  operation_inner F n (Assign op x y) = (form_inner F x, (form_inner F y, (tt, tt)))
+  operation_inner F n (Cond x y z) = (form_inner F x, form_inner F y, form_inner F z, (refl, tt))
+  operation_inner F n (Assign op x y) = (form_inner F x, (form_inner F y, (refl, tt)))
 
   initializer_inner : (F : Facts) (n : Node) (k : InitializerShape) → IsInnerForm (initializer_form F n k)
-  initializer_inner F n (Init name declarator initial) = (form_inner F initial, (tt, tt))
+  initializer_inner F n (Init name declarator initial) = (form_inner F initial, (refl, tt))
   initializer_inner F n (Braces elements comma) = operands_inner F elements _ tt
   initializer_inner F n (Designated designators initial) = form_inner F initial
 
@@ -86,11 +86,11 @@ maybe_form_inner F (present e) = form_inner F e
 
 declared_inner : (x : Option Variable) (r : Row) → IsInnerRow r → IsInnerRow (declared_then x r)
 declared_inner None r h = h
-declared_inner (Some x) r h = (tt, h)
+declared_inner (Some x) r h = (refl, h)
 
 initialized_inner : (x : Option Variable) (e : Form) (r : Row) → IsInnerForm e → IsInnerRow r → IsInnerRow (initialized_then x e r)
 initialized_inner None e r k h = h
-initialized_inner (Some x) e r k h = (tt, (k, h))
+initialized_inner (Some x) e r k h = (refl, (k, h))
 
 declarator_inner : (F : Facts) (n : Node) (r : Row) → IsInnerRow r → IsInnerRow (declarator_then F n r)
 declarator_inner F (node i p (Initializer (Init name declarator initial))) r h =
@@ -143,7 +143,7 @@ mutual
   jump_exits_last F f p (Goto label) = tt
   jump_exits_last F f p Continue = tt
   jump_exits_last F f p Break = tt
-  jump_exits_last F f p (Return value) = (maybe_row_inner F value, tt)
+  jump_exits_last F f p (Return value) = (maybe_row_inner F value, refl)
 
   maybe_exits_last : (F : Facts) (f : Place) (n : MaybeNode) → ExitsLast (maybe_flow F f n)
   maybe_exits_last F f absent = tt

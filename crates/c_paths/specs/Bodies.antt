@@ -6,21 +6,16 @@ use Rattle.path_theory.specs.Model.{Model}
 use Rattle.path_theory.specs.Trails.{Trail, More}
 use Rattle.path_theory.specs.Marks.{Mark, EventMark, CallMark, Bodies}
 use Rattle.c_paths.specs.Membership.{Among}
-use Rattle.c_paths.specs.Events.{Event, Evaluated, Declared, Branched, Exited, Item}
+use Rattle.c_paths.specs.Events.{Event, Exited, Item}
+use Rattle.c_paths.specs.Exits.{is_exit}
 use Rattle.c_paths.specs.Facts.{Facts}
 use Rattle.c_paths.specs.TreeFlow.{flow_of}
-use Rattle.c_paths.specs.Steps.{Task, Run, Close, Step}
+use Rattle.c_paths.specs.Tasks.{Task, Run, Close}
+use Rattle.c_paths.specs.Steps.{Step}
 use Rattle.c_paths.specs.Traces.{Definition}
 use Rattle.c_paths.specs.Graphs.{Block, Ending, ToAny, Calls, Stops}
 use Rattle.c_paths.specs.Fragments.{Has}
 use Rattle.c_paths.specs.Building.{Graph}
-
-abbrev pub is_exit : Item → Bool
-is_exit (EventMark (Evaluated s)) = false
-is_exit (EventMark (Declared x)) = false
-is_exit (EventMark (Branched n t)) = false
-is_exit (EventMark (Exited f p)) = true
-is_exit (CallMark n) = false
 
 -- within a step: whether the last item was an exit, what the step still gives, and what is to be done behind it
 pub record Pending : Type 0 where

@@ -9,7 +9,7 @@ use Rattle.c_paths.specs.Forms.{Form, Plain, Inverts, Keeps, Both, Any, Chooses,
 use Rattle.c_paths.specs.Flow.{Flow, Does, Block, If, While, Do, For, Switch, Case, Default, Label, Goto, Break, Continue, Return, Flows, no_flows, flows}
 use Rattle.c_paths.specs.TreeFlow.{flow_of}
 use Rattle.c_paths.specs.Traces.{Definition}
-use Rattle.c_paths.specs.Listing.{if_so, has_default}
+use Rattle.c_paths.specs.Labels.{if_so, has_default}
 use Rattle.c_paths.specs.Graphs.{Block as BasicBlock, Ending, ToAny, Calls, Stops}
 use Rattle.c_paths.specs.Fragments.{Way, To, ToEither}
 use Rattle.c_paths.specs.Layout.{Entry}

@@ -4,12 +4,8 @@
 use Rattle.std.specs.Prelude.{ℕ, Bool}
 use Rattle.c_tree.specs.declared.place.Place.{Place}
 use Rattle.c_tree.specs.Node.{Node}
+use Rattle.path_subjects.specs.Subjects.{Subject, Tree, DerefOf}
 use Rattle.path_theory.specs.Marks.{Mark, EventMark, CallMark}
-
--- what has been evaluated: a tree, or the `*x` that is read out of `x->f`, which is given by the x
-pub data Subject : Type 0 where
-  Tree : Node → Subject
-  DerefOf : Node → Subject
 
 -- a variable of a block with automatic storage (ISO 9899:1990, 6.1.2.4), by its declared name; a parameter is none
 pub record Variable : Type 0 where

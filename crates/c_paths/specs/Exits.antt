@@ -1,29 +1,20 @@
 -- Where exits stand: behind what a `return` evaluates, and nowhere in an expression or a declaration.
-use Rattle.std.specs.Prelude.{List, [], ◌∷◌, Option, None, Some}
+use Rattle.std.specs.Prelude.{◌≡◌, Bool, true, false, List, [], ◌∷◌, Option, None, Some}
 use Rattle.path_theory.specs.Marks.{EventMark, CallMark}
 use Rattle.c_paths.specs.Events.{Event, Evaluated, Declared, Branched, Exited, Item}
 use Rattle.c_paths.specs.Forms.{Form, Plain, Inverts, Keeps, Both, Any, Chooses, Follows, Row, done, operand, item}
 use Rattle.c_paths.specs.Flow.{Flow, Does, Block, If, While, Do, For, Switch, Case, Default, Label, Goto, Break, Continue, Return, Flows, no_flows, flows}
 
-abbrev pub IsExit : Event → Type 0
-IsExit (Evaluated s) = ⊥
-IsExit (Declared x) = ⊥
-IsExit (Branched n t) = ⊥
-IsExit (Exited f p) = Unit {0}
-
-abbrev pub IsNoExit : Event → Type 0
-IsNoExit (Evaluated s) = Unit {0}
-IsNoExit (Declared x) = Unit {0}
-IsNoExit (Branched n t) = Unit {0}
-IsNoExit (Exited f p) = ⊥
+abbrev pub is_exit : Item → Bool
+is_exit (EventMark (Evaluated s)) = false
+is_exit (EventMark (Declared x)) = false
+is_exit (EventMark (Branched n t)) = false
+is_exit (EventMark (Exited f p)) = true
+is_exit (CallMark n) = false
 
 abbrev pub NoExits : List Event → Type 0
 NoExits [] = Unit {0}
-NoExits (e ∷ es) = IsNoExit e × NoExits es
-
-abbrev pub IsInner : Item → Type 0
-IsInner (EventMark e) = IsNoExit e
-IsInner (CallMark n) = Unit {0}
+NoExits (e ∷ es) = (is_exit (EventMark e) ≡ false) × NoExits es
 
 -- no evaluation gives an exit
 abbrev mutual
@@ -39,7 +30,7 @@ abbrev mutual
   pub IsInnerRow : Row → Type 0
   IsInnerRow done = Unit {0}
   IsInnerRow (operand x r) = IsInnerForm x × IsInnerRow r
-  IsInnerRow (item i r) = IsInner i × IsInnerRow r
+  IsInnerRow (item i r) = (is_exit i ≡ false) × IsInnerRow r
 
 abbrev pub IsInnerMaybe : Option Form → Type 0
 IsInnerMaybe None = Unit {0}
@@ -61,7 +52,7 @@ abbrev mutual
   ExitsLast (Goto L) = Unit {0}
   ExitsLast Break = Unit {0}
   ExitsLast Continue = Unit {0}
-  ExitsLast (Return r e) = IsInnerRow r × IsExit e
+  ExitsLast (Return r e) = IsInnerRow r × (is_exit (EventMark e) ≡ true)
 
   pub ExitsLastIn : Flows → Type 0
   ExitsLastIn no_flows = Unit {0}

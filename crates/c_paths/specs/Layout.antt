@@ -1,11 +1,11 @@
 -- What the blocks of a statement are: built from the end, with the blocks that they lead to already there.
 -- A `goto` and a `switch` lead to any of a list of blocks, which are found on the way.
-use Rattle.std.specs.Prelude.{◌≡◌, ◌⊎◌, ℕ, List, [], ◌∷◌, ◌++◌, Option, Some, None}
+use Rattle.std.specs.Prelude.{◌≡◌, ◌⊎◌, ℕ, not, List, [], ◌∷◌, ◌++◌, Option, Some, None}
 use Rattle.c_paths.specs.Membership.{Among}
 use Rattle.c_paths.specs.Events.{Event}
 use Rattle.c_paths.specs.Forms.{Form}
 use Rattle.c_paths.specs.Flow.{Flow, Does, Block, If, While, Do, For, Switch, Case, Default, Label, Goto, Break, Continue, Return, Flows, no_flows, flows}
-use Rattle.c_paths.specs.Steps.{HasDefault}
+use Rattle.c_paths.specs.Labels.{if_so, has_default}
 use Rattle.c_paths.specs.Graphs.{Block as BasicBlock, Ending, ToAny, Stops}
 use Rattle.c_paths.specs.Fragments.{ToEither, Has, Fits, FitsRow}
 
@@ -24,10 +24,6 @@ abbrev pub TestAt : (ℕ → List Event → Ending → Type 0) → Option Form �
 TestAt H None body next h = H h [] (ToAny (body ∷ []))
 TestAt H (Some c) body next h = (t : ℕ) × H h [] (ToAny (t ∷ [])) × Fits H c (ToEither body next) t
 
--- where a switch goes on whose body has these cases
-abbrev pub AreTargets : Flow → List ℕ → ℕ → List ℕ → Type 0
-AreTargets s cases next targets = (HasDefault s × (targets ≡ cases)) ⊎ ((HasDefault s → ⊥) × (targets ≡ cases ++ next ∷ []))
-
 -- In H the blocks of the statement begin at b and lead on to next, by `break` to brk and by `continue` to cont. J L b says
 -- that b is the block of a `goto` to the label L. These are its cases for the innermost switch round it, and its labels.
 abbrev mutual
@@ -43,7 +39,7 @@ abbrev mutual
   Built H J (For i c u s) next brk cont b cs ls =
       (h t m : ℕ) × FitsRow H i h b × FitsRow H u h t × TestAt H c m next h × Built H J s t next t m cs ls
   Built H J (Switch r s) next brk cont b cs ls =
-      (v m : ℕ) × (cx targets : List ℕ) × FitsRow H r v b × H v [] (ToAny targets) × Built H J s next next cont m cx ls × AreTargets s cx next targets × (cs ≡ [])
+      (v m : ℕ) × (cx targets : List ℕ) × FitsRow H r v b × H v [] (ToAny targets) × Built H J s next next cont m cx ls × (targets ≡ cx ++ if_so (not (has_default s)) next) × (cs ≡ [])
   Built H J (Case s) next brk cont b cs ls = (cx : List ℕ) × Built H J s next brk cont b cx ls × (cs ≡ cx ++ b ∷ [])
   Built H J (Default s) next brk cont b cs ls = (cx : List ℕ) × Built H J s next brk cont b cx ls × (cs ≡ cx ++ b ∷ [])
   Built H J (Label L s) next brk cont b cs ls = (lx : List Entry) × Built H J s next brk cont b cs lx × (ls ≡ lx ++ record { label = L; block = b } ∷ [])

@@ -9,6 +9,8 @@ pub mod TreeForms
 pub mod Flow
 pub mod TreeFlow
 pub mod Occurrences
+pub mod Tasks
+pub mod Labels
 pub mod Steps
 pub mod Traces
 pub mod Listing
@@ -20,3 +22,4 @@ pub mod Building
 pub mod Exits
 pub mod SoundGraphs
 pub mod Bodies
+pub mod BlockGraphs

@@ -1,6 +1,6 @@
 -- What stands in the text of a function: each item that its expressions, declarations and returns may give, also where no
--- trace comes. What isn't evaluated, as in `sizeof`, isn't there.
-use Rattle.std.specs.Prelude.{◌≡◌, ◌⊎◌, Bool, List, [], ◌∷◌, Option, None, Some}
+-- trace comes. What isn't evaluated, as in `sizeof`, isn't there, and a branch is there only where a condition is asked.
+use Rattle.std.specs.Prelude.{◌≡◌, ◌⊎◌, Bool, true, false, List, [], ◌∷◌, Option, None, Some}
 use Rattle.path_theory.specs.Marks.{EventMark, CallMark}
 use Rattle.c_paths.specs.Events.{Event, Item, branched}
 use Rattle.c_paths.specs.Forms.{Form, Plain, Inverts, Keeps, Both, Any, Chooses, Follows, Row, done, operand, item}
@@ -8,31 +8,40 @@ use Rattle.c_paths.specs.Flow.{Flow, Does, Block, If, While, Do, For, Switch, Ca
 use Rattle.c_paths.specs.Graphs.{Block as BasicBlock, Ending, ToAny, Calls, Stops}
 
 abbrev mutual
-  pub InForm : Item → Form → Type 0
-  InForm i (Plain n r) = ((t : Bool) × (i ≡ branched n t)) ⊎ InRow i r
-  InForm i (Inverts x r) = InForm i x ⊎ InRow i r
-  InForm i (Keeps x r) = InForm i x ⊎ InRow i r
-  InForm i (Both x y r) = InForm i x ⊎ (InForm i y ⊎ InRow i r)
-  InForm i (Any x y r) = InForm i x ⊎ (InForm i y ⊎ InRow i r)
-  InForm i (Chooses x y z r) = InForm i x ⊎ (InForm i y ⊎ (InForm i z ⊎ InRow i r))
-  InForm i (Follows x y r) = InForm i x ⊎ (InForm i y ⊎ InRow i r)
+  -- of an expression that is evaluated for its value, or, where the truth says so, as a condition
+  pub InForm : Item → Bool → Form → Type 0
+  InForm i false (Plain n r) = InRow i r
+  InForm i true (Plain n r) = ((t : Bool) × (i ≡ branched n t)) ⊎ InRow i r
+  InForm i false (Inverts x r) = InForm i false x ⊎ InRow i r
+  InForm i true (Inverts x r) = InForm i true x
+  InForm i false (Keeps x r) = InForm i false x ⊎ InRow i r
+  InForm i true (Keeps x r) = InForm i true x
+  InForm i false (Both x y r) = InForm i true x ⊎ (InForm i true y ⊎ InRow i r)
+  InForm i true (Both x y r) = InForm i true x ⊎ InForm i true y
+  InForm i false (Any x y r) = InForm i true x ⊎ (InForm i true y ⊎ InRow i r)
+  InForm i true (Any x y r) = InForm i true x ⊎ InForm i true y
+  InForm i false (Chooses x y z r) = InForm i true x ⊎ (InForm i false y ⊎ (InForm i false z ⊎ InRow i r))
+  InForm i true (Chooses x y z r) = InForm i true x ⊎ (InForm i true y ⊎ InForm i true z)
+  InForm i false (Follows x y r) = InForm i false x ⊎ (InForm i false y ⊎ InRow i r)
+  InForm i true (Follows x y r) = InForm i false x ⊎ InForm i true y
 
   pub InRow : Item → Row → Type 0
   InRow i done = ⊥
-  InRow i (operand x r) = InForm i x ⊎ InRow i r
+  InRow i (operand x r) = InForm i false x ⊎ InRow i r
   InRow i (item j r) = (i ≡ j) ⊎ InRow i r
 
+-- of a condition that may be left out
 abbrev pub InMaybe : Item → Option Form → Type 0
 InMaybe i None = ⊥
-InMaybe i (Some e) = InForm i e
+InMaybe i (Some e) = InForm i true e
 
 abbrev mutual
   pub InFlow : Item → Flow → Type 0
   InFlow i (Does r) = InRow i r
   InFlow i (Block ss) = InFlows i ss
-  InFlow i (If c s t) = InForm i c ⊎ (InFlow i s ⊎ InFlow i t)
-  InFlow i (While c s) = InForm i c ⊎ InFlow i s
-  InFlow i (Do s c) = InForm i c ⊎ InFlow i s
+  InFlow i (If c s t) = InForm i true c ⊎ (InFlow i s ⊎ InFlow i t)
+  InFlow i (While c s) = InForm i true c ⊎ InFlow i s
+  InFlow i (Do s c) = InForm i true c ⊎ InFlow i s
   InFlow i (For j c u s) = InRow i j ⊎ (InMaybe i c ⊎ (InRow i u ⊎ InFlow i s))
   InFlow i (Switch r s) = InRow i r ⊎ InFlow i s
   InFlow i (Case s) = InFlow i s

@@ -1,7 +1,8 @@
 -- What holds of each graph beside its traces: the blocks that it names are there, and an exit has a block of its own.
-use Rattle.std.specs.Prelude.{◌≡◌, ℕ, ◌<◌, List, [], ◌∷◌, length}
+use Rattle.std.specs.Prelude.{◌≡◌, ℕ, ◌<◌, true, List, [], ◌∷◌, length}
+use Rattle.path_theory.specs.Marks.{EventMark}
 use Rattle.c_paths.specs.Events.{Event}
-use Rattle.c_paths.specs.Exits.{IsExit, NoExits}
+use Rattle.c_paths.specs.Exits.{is_exit, NoExits}
 use Rattle.c_paths.specs.Graphs.{Block, Ending, ToAny, Calls, Stops}
 
 abbrev pub AllBelow : ℕ → List ℕ → Type 0
@@ -12,7 +13,7 @@ AllBelow n (b ∷ bs) = (b < n) × AllBelow n bs
 abbrev pub IsSoundEnd : ℕ → List Event → Ending → Type 0
 IsSoundEnd n es (ToAny bs) = NoExits es × AllBelow n bs
 IsSoundEnd n es (Calls site b) = NoExits es × (b < n)
-IsSoundEnd n es Stops = (e : Event) × IsExit e × (es ≡ e ∷ [])
+IsSoundEnd n es Stops = (e : Event) × (is_exit (EventMark e) ≡ true) × (es ≡ e ∷ [])
 
 abbrev pub AreSound : ℕ → List Block → Type 0
 AreSound n [] = Unit {0}

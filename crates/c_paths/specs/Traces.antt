@@ -6,7 +6,8 @@ use Rattle.c_paths.specs.Events.{Event, Item, Exited}
 use Rattle.c_paths.specs.Facts.{Facts}
 use Rattle.c_paths.specs.Flow.{Flow}
 use Rattle.c_paths.specs.TreeFlow.{flow_of}
-use Rattle.c_paths.specs.Steps.{Task, Run, Close, Step}
+use Rattle.c_paths.specs.Tasks.{Task, Run, Close}
+use Rattle.c_paths.specs.Steps.{Step}
 
 -- what at most n steps from a continuation give, in a function with this body, at whose labels `goto` finds what follows
 -- them if whole stands behind the body

@@ -2,9 +2,6 @@
 use Rattle.std.specs.Prelude.{◌≡◌, List, [], ◌∷◌, ◌++◌, ◌⊎◌}
 use Rattle.c_paths.specs.Events.{Item}
 
-abbrev pub Words : Type 1
-Words = List Item → Type 0
-
 -- nothing
 abbrev pub Nothing : List Item → Type 0
 Nothing l = l ≡ []

@@ -45,7 +45,7 @@ numbered text =
     if prefix_len is_digit text == 0 then None
     else option_and_then (behind_number (drop (prefix_len is_digit text) text)) (value_up_to (2 ^ 31 - 1) 10 (take (prefix_len is_digit text) text))
 
--- how many bytes of the text are the first word of it
+-- the word in front, which may be empty
 abbrev pub first_word : List ℕ → List ℕ
 first_word text = take (prefix_len is_word_byte text) text
 

@@ -7,3 +7,4 @@ pub mod Forget
 pub mod Height
 pub mod Phrase
 pub mod Tokens
+pub mod TokenPlaces

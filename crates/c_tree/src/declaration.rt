@@ -87,7 +87,7 @@ pub enum Declarator<'a> {
         name: &'a Token,
         suffixes: Trees<'a>,
     },
-    /// A declarator in parentheses.
+    /// A declarator around one in parentheses.
     Nested {
         pointers: &'a [Token],
         inner: &'a Tree<'a>,

@@ -2,7 +2,7 @@
 use Rattle.std.proofs.Common.{◌≡◌, ℕ, List, [], ◌∷◌, ◌++◌, length, drop, Bool, true, false, cond, nat_eq, ◌&&◌, ◌||◌, ap, refl, ◌∙◌, sym, subst, arith}
 use Rattle.std.proofs.lemmas.Bool.Decides.{nat_tests}
 use Rattle.std.proofs.Math.Seq.{drop-append_seam}
-use Rattle.c_typing.specs.Functions.{is_static_var, was_static}
+use Rattle.c_typing.specs.Functions.{is_file_static, was_static}
 use Rattle.c_typing.specs.Options.{if_there}
 use Rattle.c_typing.specs.Scopes.{Scopes, Entry, is_among}
 use Rattle.c_typing.specs.Stays.{Stays}
@@ -20,8 +20,8 @@ among-append n (x ∷ xs) ys = ap (λ b. nat_eq n x || b) (among-append n xs ys)
 static-append : (n : ℕ) (xs ys : List Entry) → was_static n (xs ++ ys) ≡ was_static n xs || was_static n ys
 static-append n [] ys = refl
 static-append n (x ∷ xs) ys =
-    ap (λ b. nat_eq x.name n && if_there x.var false is_static_var || b) (static-append n xs ys)
-    ∙ sym (or-assoc (nat_eq x.name n && if_there x.var false is_static_var) (was_static n xs) (was_static n ys))
+    ap (λ b. nat_eq x.name n && if_there x.var false is_file_static || b) (static-append n xs ys)
+    ∙ sym (or-assoc (nat_eq x.name n && if_there x.var false is_file_static) (was_static n xs) (was_static n ys))
 
 among-one : (n m : ℕ) (b : Bool) → is_among n (cond b (m ∷ []) []) ≡ nat_eq m n && b
 among-one n m true = by (nat_eq n m) (nat_eq m n) (grind (arith, nat_tests))
@@ -41,8 +41,8 @@ among-statics : (n : ℕ) (ks : List Entry) → is_among n (statics_in ks) ≡ w
 among-statics n [] = refl
 among-statics n (k ∷ ks) =
     among-append n (static_name k) (statics_in ks)
-    ∙ ap (λ b. b || is_among n (statics_in ks)) (among-one n k.name (if_there k.var false is_static_var))
-    ∙ ap (λ b. nat_eq k.name n && if_there k.var false is_static_var || b) (among-statics n ks)
+    ∙ ap (λ b. b || is_among n (statics_in ks)) (among-one n k.name (if_there k.var false is_file_static))
+    ∙ ap (λ b. nat_eq k.name n && if_there k.var false is_file_static || b) (among-statics n ks)
 
 -- the names of an external definition more
 pub knows-more : (old : List ℕ) (v w : Scopes) (before : ℕ) (new : List Entry) → KnowsStatics old v → Stays v w → before ≡ length v.names → new ≡ drop before w.names → KnowsStatics (old ++ statics_in new) w

@@ -1,11 +1,11 @@
 -- The names that are declared static.
 use Rattle.std.specs.Prelude.{ℕ, List, [], ◌∷◌, ◌++◌, false, cond}
-use Rattle.c_typing.specs.Functions.{is_static_var}
+use Rattle.c_typing.specs.Functions.{is_file_static}
 use Rattle.c_typing.specs.Options.{if_there}
 use Rattle.c_typing.specs.Scopes.{Entry}
 
 abbrev pub static_name : Entry → List ℕ
-static_name k = cond (if_there k.var false is_static_var) (k.name ∷ []) []
+static_name k = cond (if_there k.var false is_file_static) (k.name ∷ []) []
 
 abbrev pub statics_in : List Entry → List ℕ
 statics_in [] = []

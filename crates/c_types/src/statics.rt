@@ -1,7 +1,7 @@
 //! The names that are `static` at file scope (ISO 9899:1990, 6.1.2.2).
 
 ghost use Rattle.std.specs.Prelude.{◌≡◌, ◌++◌, [], false, map, IfOk};
-ghost use Rattle.c_typing.specs.Functions.{is_static_var};
+ghost use Rattle.c_typing.specs.Functions.{is_file_static};
 ghost use Rattle.c_typing.specs.Options.{if_there};
 ghost use Rattle.c_typing.specs.Scopes.{is_among};
 ghost use Rattle.c_types.specs.Statics.{statics_in};
@@ -28,8 +28,8 @@ impl Model for Statics {
 }
 
 /// Whether a name that was declared so is `static`.
-fn is_static_var(entry: &NameEntry) -> bool
-    ensures { result ≡ if_there (name_entry entry.now).var false is_static_var }
+fn is_file_static(entry: &NameEntry) -> bool
+    ensures { result ≡ if_there (name_entry entry.now).var false is_file_static }
 {
     match entry.var {
         Some(Var::FileStatic { .. }) => true,
@@ -59,7 +59,7 @@ impl Statics {
         ensures { IfOk result (λ _. self.new ≡ self.old ++ statics_in (map name_entry entries.now)) }
     {
         for entry in entries {
-            if is_static_var(entry) {
+            if is_file_static(entry) {
                 self.names.push(entry.name)?;
             }
         }

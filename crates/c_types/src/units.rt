@@ -1,6 +1,7 @@
 //! The types of a translation unit (ISO 9899:1990, 6.7).
 
 ghost use Rattle.std.specs.Prelude.{◌≡◌, ◌++◌, [], ◌∷◌, None, Some, map, IfOk, IfErr};
+ghost use Rattle.c_tree.specs.TokenPlaces.{StandInFile};
 ghost use Rattle.c_tree.specs.Views.{node_of, nodes_of};
 ghost use Rattle.c_typing.specs.Definition.{first_fault};
 ghost use Rattle.c_typing.specs.Faults.{Fault};
@@ -119,6 +120,7 @@ pub fn type_unit<'a>(
     alloc: Global,
     unit: Unit<'a>,
 ) -> Result<TypedUnit<'a>, TypeFault>
+    requires placed { StandInFile unit.file unit.tokens.now }
     requires standing { StandOver (nodes_of unit.chunks) unit.tokens.now }
     ensures unit { IfOk result (λ typed. typed.unit ≡ unit.entry) }
     ensures fine { IfOk result (λ _. first_fault (places_of (nodes_of unit.entry.chunks)) ≡ None) }

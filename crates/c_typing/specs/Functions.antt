@@ -72,17 +72,17 @@ abbrev pub is_static : Storage → Bool
 is_static stored.Static = true
 is_static _ = false
 
-abbrev pub is_static_var : CVar → Bool
-is_static_var (vars.FileStatic file name) = true
-is_static_var _ = false
+abbrev pub is_file_static : CVar → Bool
+is_file_static (vars.FileStatic file name) = true
+is_file_static _ = false
 
 -- one of these declarations of the name is `static`
 abbrev pub was_static : ℕ → List Entry → Bool
 was_static name [] = false
-was_static name (k ∷ ks) = nat_eq k.name name && if_there k.var false is_static_var || was_static name ks
+was_static name (k ∷ ks) = nat_eq k.name name && if_there k.var false is_file_static || was_static name ks
 
--- A definition belongs to its file alone where it is `static` or `inline`, or where an earlier declaration of its name is
--- `static` (6.1.2.2).
+-- A definition belongs to its file alone where it is `static` or `inline`, or where an earlier declaration of its name at file
+-- scope is `static` (6.1.2.2).
 abbrev pub defined : Scopes → Node → Node → Node → Token → Defined
 defined v specs declarator block name = record {
   name = name.name;

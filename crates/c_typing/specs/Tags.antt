@@ -46,7 +46,8 @@ same_sort a b = nat_eq (sort_number a) (sort_number b)
 abbrev pub is_here : Scopes → Tag → Bool
 is_here v g = nat_eq g.depth v.depth
 
--- A mention is of the visible tag where that is of its sort, and in this scope if the mention has a body or stands alone.
+-- A mention is of the visible tag where that is of its sort, and in this scope if the mention has a body or stands alone; an
+-- enumeration without a body is never declared anew.
 abbrev pub is_meant : Scopes → Mention → Sort → Tag → Bool
 is_meant v how sort g = same_sort g.sort sort && (is_plain how || is_enum sort && not (has_body how) || is_here v g)
 

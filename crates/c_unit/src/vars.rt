@@ -1,7 +1,7 @@
 //! Variables: what a name stands for, if it stands for a variable.
 
-/// A variable by its linkage and storage (ISO 9899:1990, 6.1.2.2, 6.1.2.4). The token is that of the declared name in its file.
-/// The first three have static storage. No name stands for the last two.
+/// A variable by its linkage and storage (ISO 9899:1990, 6.1.2.2, 6.1.2.4). The token of a declared variable is that of its name in
+/// its file. The first three have static storage. No name stands for the last two.
 #[derive(Clone, Copy, PartialEq, Eq)]
 pub enum Var {
     /// One over all files, by its name.
@@ -16,6 +16,6 @@ pub enum Var {
     Local { file: u16, token: u32, name: u32 },
     /// What a return leaves behind.
     Result,
-    /// What a call leaves behind: the call that begins there.
+    /// What a call leaves behind: the token is that of its opening parenthesis, the name its callee's.
     Called { file: u16, token: u32, name: u32 },
 }

@@ -7,7 +7,7 @@ use Rattle.hole_matching.specs.Holes.{Setting}
 use Rattle.hole_matching.specs.Matched.{matched, nothing_taken}
 use Rattle.hole_matching.specs.Matching.{Taking, Binding, Stands, IsBinding}
 use Rattle.hole_matching.specs.Pattern.{Pattern}
-use Rattle.hole_matching.specs.Subjects.{Subject}
+use Rattle.path_subjects.specs.Subjects.{Subject}
 use Rattle.hole_matching.specs.Written.{pattern_of}
 use Rattle.hole_matching.proofs.Bindings.{bound_all, bound_all-append, all-bound, bound-all, at-first, HaveSlots, slots-append}
 use Rattle.hole_matching.proofs.Standing.{then-same, then-found, stands-matched, stands-slots, matched-stands}

@@ -25,7 +25,7 @@ use Rattle.hole_matching.specs.Holes.{Setting}
 use Rattle.metal_machines.specs.Machine as holes
 use Rattle.hole_matching.specs.Matched.{matched, nothing_taken}
 use Rattle.hole_matching.specs.Matching.{Taken, Binding, slot}
-use Rattle.hole_matching.specs.Subjects.{Subject, Tree}
+use Rattle.path_subjects.specs.Subjects.{Subject, Tree}
 use Rattle.hole_matching.specs.Written.{pattern_of}
 
 -- the types of the nodes 8 to 15: `char *`, `struct t *`, `struct t`, `int`, `unsigned int`, an untagged `struct *`, `union t *`,

@@ -8,10 +8,11 @@ use Rattle.c_tree.specs.declared.token.TokenKind.TheVariants as kinds
 use Rattle.c_tree.specs.Node.{Node, Primary, StrConst}
 use Rattle.c_typing.specs.Options.{◌>?◌}
 use Rattle.metal_machines.specs.Machine.{Item, Base, Holds, EndOfPath, Condition}
-use Rattle.hole_matching.specs.Alternatives.{matched_alternative, bound_object}
+use Rattle.hole_matching.specs.Alternatives.{matched_alternative, IsPlainAlternative, AppliesAtEnd, has_end_of_path, all_hold, bound_object}
 use Rattle.hole_matching.specs.Callouts.{holds}
+use Rattle.hole_matching.specs.Matched.{nothing_taken}
 use Rattle.hole_matching.specs.Matching.{One, Many}
-use Rattle.hole_matching.specs.Subjects.{Subject, Tree, DerefOf}
+use Rattle.path_subjects.specs.Subjects.{Subject, Tree, DerefOf}
 use Rattle.hole_matching.proofs.Building.{setting, hole, named, calling, starred, assigning, call_of, assigned, initialized, braces}
 
 abbrev condition : ℕ → ℕ → Condition
@@ -188,7 +189,7 @@ callout_first = refl
 callout_fails : is_some (matched_alternative setting (Base (starred (hole 0)) ∷ Holds (condition 3 0) ∷ []) (Tree (star (name 0)))) ≡ false
 callout_fails = refl
 
--- an alternative without a base pattern, over anything, a name with a braced initial among it; `$end_of_path$` asks nothing
+-- an alternative without a base pattern, over anything, a name with a braced initial among it; `$end_of_path$` asks nothing of it
 no_pattern : is_some (matched_alternative setting (Holds (condition 7 0) ∷ []) (Tree (initialized (name 1) (braces [])))) ≡ true
 no_pattern = refl
 
@@ -197,3 +198,37 @@ end_of_path = refl
 
 end_of_path_with_callout : is_some (matched_alternative setting (EndOfPath ∷ Holds (condition 6 0) ∷ []) (Tree (name 0))) ≡ false
 end_of_path_with_callout = refl
+
+-- at the end of a function: `$end_of_path$`, also twice, and beside callouts that hold: `${ mc_in_function("..") }`, `${ 1 }`
+at_end : AppliesAtEnd setting (EndOfPath ∷ [])
+at_end = record { end = refl; conditions = refl }
+
+at_end_twice : AppliesAtEnd setting (EndOfPath ∷ EndOfPath ∷ [])
+at_end_twice = record { end = refl; conditions = refl }
+
+at_end_of_function : AppliesAtEnd setting (Holds (condition 5 20) ∷ EndOfPath ∷ Holds (condition 7 0) ∷ [])
+at_end_of_function = record { end = refl; conditions = refl }
+
+-- not at the end of another function, nor where a callout is `${ 0 }`
+end_of_other_function : all_hold setting (EndOfPath ∷ Holds (condition 5 21) ∷ []) nothing_taken ≡ false
+end_of_other_function = refl
+
+never_at_end : all_hold setting (Holds (condition 6 0) ∷ EndOfPath ∷ []) nothing_taken ≡ false
+never_at_end = refl
+
+-- a callout that asks of a hole doesn't hold there, since nothing is taken; so its negation does
+nothing_at_end : all_hold setting (EndOfPath ∷ Holds (condition 3 0) ∷ []) nothing_taken ≡ false
+nothing_at_end = refl
+
+negation_at_end : AppliesAtEnd setting (EndOfPath ∷ Holds (negation 3 0) ∷ [])
+negation_at_end = record { end = refl; conditions = refl }
+
+-- what is asked of subjects alone: a pattern, callouts, nothing at all; and so not at the end
+plain_pattern : IsPlainAlternative (Base (starred (hole 0)) ∷ Holds (condition 7 0) ∷ [])
+plain_pattern = refl
+
+plain_callout : IsPlainAlternative (Holds (condition 7 0) ∷ [])
+plain_callout = refl
+
+no_plain_alternative : has_end_of_path (Holds (condition 7 0) ∷ EndOfPath ∷ []) ≡ true
+no_plain_alternative = refl

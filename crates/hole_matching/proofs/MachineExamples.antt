@@ -3,12 +3,13 @@ use Rattle.std.proofs.Common.{◌≡◌, ℕ, true, false, [], ◌∷◌, Option
 use Rattle.std.specs.Prelude.{is_some}
 use Rattle.c_objects.specs.Objects.{Object, path}
 use Rattle.c_objects.proofs.Building.{p, name, paren, star}
-use Rattle.metal_machines.specs.Machine.{AnyExpr, FromGlobal, FromObject, ToObject, ToUnknown, Always, Base, Holds, Machine}
-use Rattle.hole_matching.specs.MachineMatches.{matched_rule, object_bound}
-use Rattle.hole_matching.specs.Subjects.{Subject, Tree, DerefOf}
+use Rattle.metal_machines.specs.Machine.{AnyExpr, FromGlobal, FromObject, ToObject, ToUnknown, Always, Base, Holds, EndOfPath, Machine}
+use Rattle.hole_matching.specs.MachineMatches.{RuleAppliesAtEnd, matched_rule, object_bound}
+use Rattle.path_subjects.specs.Subjects.{Subject, Tree, DerefOf}
 use Rattle.hole_matching.proofs.Building.{some_facts, hole, named, calling, starred, call_of}
 
--- `start: { g(v) } ==> v.freed; v.freed: { *v } && ${ mc_in_function("..") } || { g(v) } ==> v.stop;`, where the text is name 20
+-- `start: { g(v) } ==> v.freed; v.freed: { *v } && ${ mc_in_function("..") } || { g(v) } ==> v.stop
+-- | $end_of_path$ && ${ mc_in_function("..") } || $end_of_path$ && ${ 0 } ==> v.stop;`, where the text is name 20
 abbrev machine : Machine
 machine = record {
   name = 21;
@@ -19,6 +20,7 @@ machine = record {
   rules =
       (record { number = 1; position = 9; source = FromGlobal 0; alternatives = (Base (calling (named 6) (hole 0 ∷ [])) ∷ []) ∷ []; dest = Always (ToObject 0 0); action = None })
       ∷ (record { number = 2; position = 24; source = FromObject 0 0; alternatives = (Base (starred (hole 0)) ∷ Holds (record { negated = false; row = 5; hole = 0; text = 20 }) ∷ []) ∷ (Base (calling (named 6) (hole 0 ∷ [])) ∷ []) ∷ []; dest = Always (ToUnknown 0); action = None })
+      ∷ (record { number = 3; position = 50; source = FromObject 0 0; alternatives = (EndOfPath ∷ Holds (record { negated = false; row = 5; hole = 0; text = 20 }) ∷ []) ∷ (EndOfPath ∷ Holds (record { negated = false; row = 6; hole = 0; text = 0 }) ∷ []) ∷ []; dest = Always (ToUnknown 0); action = None })
       ∷ [];
 }
 
@@ -48,7 +50,7 @@ other_alternative = refl
 no_alternative : is_some (matched_rule machine 2 2 some_facts 4 20 (Tree (star (name 0)))) ≡ false
 no_alternative = refl
 
-no_rule : is_some (matched_rule machine 3 0 some_facts 4 20 (Tree (star (name 0)))) ≡ false
+no_rule : is_some (matched_rule machine 4 0 some_facts 4 20 (Tree (star (name 0)))) ≡ false
 no_rule = refl
 
 -- the object of `*q` has one selector: a state variable takes it at depth 1 and not at 0
@@ -57,3 +59,17 @@ at_depth_1 = refl
 
 at_depth_0 : is_some (matched_rule machine 1 0 some_facts 0 20 (Tree (call_of (name 6) (star (name 5) ∷ [])))) ≡ false
 at_depth_0 = refl
+
+-- the third rule at the end of a function: by its first alternative in this function, in no other, and never by its second
+first_at_end : RuleAppliesAtEnd machine 3 0 some_facts 4 20
+first_at_end = (_, refl, record { end = refl; conditions = refl })
+
+not_at_other_end : RuleAppliesAtEnd machine 3 0 some_facts 4 19 → ⊥
+not_at_other_end (items, given, applies) = cc
+
+second_at_end : RuleAppliesAtEnd machine 3 1 some_facts 4 20 → ⊥
+second_at_end (items, given, applies) = cc
+
+-- an alternative without `$end_of_path$` doesn't apply there
+pattern_at_end : RuleAppliesAtEnd machine 2 1 some_facts 4 20 → ⊥
+pattern_at_end (items, given, applies) = cc

@@ -13,7 +13,7 @@ use Rattle.c_tree.specs.Node.{Node, node, Primary, Operation, Initializer, Decla
 use Rattle.hole_matching.specs.Matching.{One, Many}
 use Rattle.metal_machines.specs.Machine.{Bytes, HoleText}
 use Rattle.hole_matching.specs.Message.{Source, message, shortened}
-use Rattle.hole_matching.specs.Subjects.{Tree, DerefOf}
+use Rattle.path_subjects.specs.Subjects.{Tree, DerefOf}
 use Rattle.hole_matching.proofs.Building.{setting}
 
 -- a token with this spelling, as the one of this number

@@ -10,7 +10,8 @@ use Rattle.hole_matching.specs.Holes.{Setting, has_slot, takes_type, is_rest_typ
 use Rattle.hole_matching.specs.Matched.{bound, rest_hole, is_head, matched, matched_all}
 use Rattle.hole_matching.specs.Matching.{Taken, One, Many, Taking, taking, Binding, TakesRest, Stands, StandAll}
 use Rattle.hole_matching.specs.Pattern.{Head, Pattern, hole, likewise, other, Patterns, no_more, more}
-use Rattle.hole_matching.specs.Subjects.{Subject, inner, is_expression, subject_type, subject_object, head_of, parts_of}
+use Rattle.path_subjects.specs.Subjects.{Subject}
+use Rattle.hole_matching.specs.Subjects.{inner, is_expression, subject_type, subject_object, head_of, parts_of}
 use Rattle.hole_matching.proofs.Bindings.{bound_all, bound_all-append, HaveSlots, slots-append}
 use Rattle.hole_matching.proofs.Heads.{and-left, same_head-true, same_head-refl}
 
@@ -38,7 +39,7 @@ hole-not-rest u (Some k) t true false c d e h = cc
 hole-not-rest u (Some k) t true true c d e h = type-not-rest u k t (and-left (takes_type u k t) c h)
 
 one-not-rest : (g : Setting) (n : ℕ) (s : Subject) → may_take g n s ≡ true → takes_rest g n ≡ false
-one-not-rest g n s h = hole-not-rest g.facts (slice_get g.holes n) (subject_type g.facts s) (has_slot g n) (is_expression s) (not (is_variable g n) || is_some (subject_object g.facts g.depth s)) true true h
+one-not-rest g n s h = hole-not-rest g.facts (slice_get g.holes n) (subject_type g.facts s) (has_slot n) (is_expression s) (not (is_variable g n) || is_some (subject_object g.facts g.depth s)) true true h
 
 stands-not-rest : (g : Setting) (p : Pattern) (ps : Patterns) (s : Subject) (ts : List Taking) → Stands g p s ts → rest_hole g p ps ≡ None
 stands-not-rest g (hole n) no_more s ts h = ap (λ c. cond c (Some n) None) (one-not-rest g n (inner s) h.0)
@@ -97,10 +98,10 @@ first-of-four true b c d h = refl
 first-of-four false b c d h = cc
 
 slot-of : (g : Setting) (n : ℕ) (s : Subject) → may_take g n s ≡ true → n < most_holes
-slot-of g n s h = below n (first-of-four (has_slot g n) (is_expression s) (if_there (slice_get g.holes n) false (λ k. takes_type g.facts k (subject_type g.facts s))) (not (is_variable g n) || is_some (subject_object g.facts g.depth s)) h)
+slot-of g n s h = below n (first-of-four (has_slot n) (is_expression s) (if_there (slice_get g.holes n) false (λ k. takes_type g.facts k (subject_type g.facts s))) (not (is_variable g n) || is_some (subject_object g.facts g.depth s)) h)
 
 rest-slots : (g : Setting) (p : Pattern) (ps : Patterns) (ss : List Subject) (ts : List Taking) → TakesRest g p ps ss ts → HaveSlots ts
-rest-slots g (hole n) no_more ss ts h = subst HaveSlots (sym h.1) (below n (and-left (has_slot g n) (if_there (slice_get g.holes n) false is_rest_type) h.0), tt)
+rest-slots g (hole n) no_more ss ts h = subst HaveSlots (sym h.1) (below n (and-left (has_slot n) (if_there (slice_get g.holes n) false is_rest_type) h.0), tt)
 rest-slots g (hole n) (more q qs) ss ts h = absurd h
 rest-slots g (likewise k qs) ps ss ts h = absurd h
 rest-slots g other ps ss ts h = absurd h

@@ -1,4 +1,4 @@
--- Callouts (Metal: conditions in `${ }`): what they ask of a binding.
+-- Callouts, `${ .. }` in Metal: what they ask of a binding.
 use Rattle.std.specs.Prelude.{ℕ, nat_eq, List, [], ◌∷◌, get_or, Bool, true, false, cond, not, ◌&&◌, Option, None, Some, is_none}
 use Rattle.metal_machines.specs.Machine.{Condition}
 use Rattle.c_objects.specs.Facts.{Facts, numbered_type, numbered_var}
@@ -9,9 +9,10 @@ use Rattle.c_typing.specs.Types.{is_arithmetic}
 use Rattle.c_typing.specs.Vars.{CVar, Param, Local}
 use Rattle.hole_matching.specs.Holes.{Setting}
 use Rattle.hole_matching.specs.Matching.{Taken, One, Many, Binding, slot}
-use Rattle.hole_matching.specs.Subjects.{Subject, Tree, DerefOf, subject_object}
+use Rattle.path_subjects.specs.Subjects.{Subject, Tree, DerefOf}
+use Rattle.hole_matching.specs.Subjects.{subject_object}
 
--- a name without a variable whose type is arithmetic is an enumerator; a function has the type of one
+-- a name without a variable whose type is arithmetic is an enumerator: the name of a function has function type
 abbrev pub is_enumerator : Facts → ℕ → Bool
 is_enumerator u i = is_none (numbered_var u i) && is_arithmetic (numbered_type u i)
 

@@ -1,5 +1,6 @@
 -- WHAT TWO TREES ARE COMPARED BY: the pattern without holes that a tree is. Trees are equal where they are compared by equal
--- values.
+-- values. It is meant of what a hole takes: expressions, and names with an initializer that isn't braced. A name with a braced one,
+-- a declarator or a statement is compared by `other`, and so as equal to every other of these.
 use Rattle.std.specs.Prelude.{List, [], ◌∷◌, Option, cond}
 use Rattle.c_objects.specs.Facts.{Facts}
 use Rattle.c_tree.specs.declared.operator.UnaryOp.TheVariants as unary
@@ -8,7 +9,8 @@ use Rattle.c_tree.specs.Node.{Node, node, Shape, Primary, Operation, Initializer
 use Rattle.c_tree.specs.Node as nodes
 use Rattle.c_typing.specs.Options.{if_there}
 use Rattle.hole_matching.specs.Pattern.{Head, VaArg, Index, Call, CompoundLit, Unary, SizeofType, Cast, Binary, Cond, Assign, Member, Offsetof, IndexDesignator, Braces, Designated, Pattern, likewise, other, Patterns, no_more, more}
-use Rattle.hole_matching.specs.Subjects.{Subject, Tree, DerefOf, is_braced, primary_head, specifier_head, part_head}
+use Rattle.path_subjects.specs.Subjects.{Subject, Tree, DerefOf}
+use Rattle.hole_matching.specs.Subjects.{is_braced, primary_head, specifier_head, part_head}
 use Rattle.hole_matching.specs.Written.{one_part, two_parts}
 
 -- this head with these parts, if there is one

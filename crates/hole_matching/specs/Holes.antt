@@ -8,7 +8,8 @@ use Rattle.c_typing.specs.Types.{CType}
 use Rattle.c_typing.specs.Types as types
 use Rattle.hole_matching.specs.MatchedTypes.{MatchedType, Tagged, matched_type, basic, same_type}
 use Rattle.hole_matching.specs.MatchedTypes as matched
-use Rattle.hole_matching.specs.Subjects.{Subject, is_expression, subject_type, subject_object}
+use Rattle.path_subjects.specs.Subjects.{Subject}
+use Rattle.hole_matching.specs.Subjects.{is_expression, subject_type, subject_object}
 
 abbrev pub named_type : NamedType → MatchedType
 named_type (Basic words) = basic words
@@ -47,8 +48,8 @@ abbrev pub is_rest_type : HoleType → Bool
 is_rest_type AnyArguments = true
 is_rest_type _ = false
 
-abbrev pub has_slot : Setting → ℕ → Bool
-has_slot g n = nat_lt n most_holes
+abbrev pub has_slot : ℕ → Bool
+has_slot n = nat_lt n most_holes
 
 abbrev pub is_variable : Setting → ℕ → Bool
 is_variable g n = nat_lt n g.variables
@@ -56,10 +57,10 @@ is_variable g n = nat_lt n g.variables
 -- A HOLE TAKES A SUBJECT that isn't in parentheses: an expression of its type, and for a state variable one that has an object.
 abbrev pub may_take : Setting → ℕ → Subject → Bool
 may_take g n s =
-    has_slot g n && is_expression s
+    has_slot n && is_expression s
     && if_there (slice_get g.holes n) false (λ h. takes_type g.facts h (subject_type g.facts s))
     && (not (is_variable g n) || is_some (subject_object g.facts g.depth s))
 
 -- a hole takes the rest of a list of arguments
 abbrev pub takes_rest : Setting → ℕ → Bool
-takes_rest g n = has_slot g n && if_there (slice_get g.holes n) false is_rest_type
+takes_rest g n = has_slot n && if_there (slice_get g.holes n) false is_rest_type

@@ -1,14 +1,14 @@
--- The rules of a machine over subjects.
+-- The rules of a machine over subjects, and at the end of a function.
 use Rattle.std.specs.Prelude.{◌≡◌, ℕ, List, map, Option, Some}
 use Rattle.c_objects.specs.Facts.{Facts}
 use Rattle.c_objects.specs.Objects.{Object}
 use Rattle.c_typing.specs.Options.{◌>?◌}
 use Rattle.metal_machines.specs.Machine.{Item, Machine}
 use Rattle.metal_machines.specs.Rules.{alternative_numbered}
-use Rattle.hole_matching.specs.Alternatives.{Matches, matched_alternative, bound_object}
+use Rattle.hole_matching.specs.Alternatives.{Matches, AppliesAtEnd, matched_alternative, bound_object}
 use Rattle.hole_matching.specs.Holes.{Setting}
 use Rattle.hole_matching.specs.Matching.{Binding}
-use Rattle.hole_matching.specs.Subjects.{Subject}
+use Rattle.path_subjects.specs.Subjects.{Subject}
 
 -- what a machine is matched under in a function of this name, where objects have this depth
 abbrev pub setting_of : Machine → Facts → ℕ → ℕ → Setting
@@ -18,6 +18,11 @@ setting_of m u depth function = record { facts = u; depth = depth; variables = m
 abbrev pub RuleMatches : Machine → ℕ → ℕ → Facts → ℕ → ℕ → Subject → Binding → Type 0
 RuleMatches m number k u depth function s b =
     (items : List Item) × (alternative_numbered m.rules number k ≡ Some items) × Matches (setting_of m u depth function) items s b
+
+-- AN ALTERNATIVE OF A RULE APPLIES AT THE END of a function: that of the rule of this number, by its place.
+abbrev pub RuleAppliesAtEnd : Machine → ℕ → ℕ → Facts → ℕ → ℕ → Type 0
+RuleAppliesAtEnd m number k u depth function =
+    (items : List Item) × (alternative_numbered m.rules number k ≡ Some items) × AppliesAtEnd (setting_of m u depth function) items
 
 -- the binding with which it matches
 abbrev pub matched_rule : Machine → ℕ → ℕ → Facts → ℕ → ℕ → Subject → Option Binding

@@ -7,7 +7,8 @@ use Rattle.metal_machines.specs.Limits.{most_holes}
 use Rattle.hole_matching.specs.Holes.{Setting, may_take, takes_rest}
 use Rattle.hole_matching.specs.Matching.{Taken, One, Many, Binding, slot}
 use Rattle.hole_matching.specs.Pattern.{Head, Pattern, hole, likewise, other, Patterns, no_more, more, same_head, same_pattern, same_patterns}
-use Rattle.hole_matching.specs.Subjects.{Subject, inner, head_of, parts_of}
+use Rattle.path_subjects.specs.Subjects.{Subject}
+use Rattle.hole_matching.specs.Subjects.{inner, head_of, parts_of}
 
 abbrev pub nothing_taken : Binding
 nothing_taken = replicate most_holes None

@@ -5,7 +5,8 @@ use Rattle.hole_matching.specs.ComparedSubjects.{compared, compared_all}
 use Rattle.metal_machines.specs.Limits.{most_holes}
 use Rattle.hole_matching.specs.Holes.{Setting, may_take, takes_rest}
 use Rattle.hole_matching.specs.Pattern.{Pattern, hole, likewise, other, Patterns, no_more, more}
-use Rattle.hole_matching.specs.Subjects.{Subject, inner, head_of, parts_of}
+use Rattle.path_subjects.specs.Subjects.{Subject}
+use Rattle.hole_matching.specs.Subjects.{inner, head_of, parts_of}
 
 -- One subject, or the arguments that are the rest of a list.
 pub data Taken : Type 0 where

@@ -6,12 +6,12 @@ use Rattle.c_objects.specs.Text.{text_of, object_text}
 use Rattle.c_tree.specs.declared.place.Place.{Place}
 use Rattle.c_tree.specs.declared.token.Token.{Token}
 use Rattle.c_tree.specs.Forget.{syntax_of}
-use Rattle.c_tree.specs.Node.{Node, node}
+use Rattle.c_tree.specs.Node.{Node}
 use Rattle.c_tree.specs.Tokens.{tokens_of}
 use Rattle.c_typing.specs.Options.{if_there}
 use Rattle.hole_matching.specs.Holes.{Setting, is_variable}
 use Rattle.hole_matching.specs.Matching.{Taken, One, Many, Binding, slot}
-use Rattle.hole_matching.specs.Subjects.{Subject, Tree, DerefOf}
+use Rattle.path_subjects.specs.Subjects.{Subject, Tree, DerefOf, first_of}
 
 -- What messages are written from: the texts of names by their numbers, and the tokens of the unit.
 pub record Source : Type 0 where
@@ -26,12 +26,9 @@ abbrev pub from_place : Place → List Token → List Token
 from_place p [] = []
 from_place p (t ∷ ts) = cond (is_at p t) (t ∷ ts) (from_place p ts)
 
-abbrev pub first_place : Node → Place
-first_place (node i p s) = p
-
 -- THE TOKENS OF A TREE: those of the unit from its first on, as many as its line of the grammar has
 abbrev pub tree_tokens : Source → Node → List Token
-tree_tokens w e = take (length (tokens_of (syntax_of e))) (from_place (first_place e) w.tokens)
+tree_tokens w e = take (length (tokens_of (syntax_of e))) (from_place (first_of e) w.tokens)
 
 abbrev pub spelled : Source → List Token → List (List ℕ)
 spelled w ts = map (λ t. text_of w.names t.name) ts

@@ -1,4 +1,4 @@
--- Subjects: what a pattern is matched with, read level by level. Parentheses are seen through, `x->f` is `(*x).f`, and a name
+-- Subjects, as a pattern is matched with them, level by level. Parentheses are seen through, `x->f` is `(*x).f`, and a name
 -- with an initializer that isn't braced is an assignment to the name.
 use Rattle.std.specs.Prelude.{ℕ, List, [], ◌∷◌, Bool, true, false, Option, None, Some, cond}
 use Rattle.c_objects.specs.Facts.{Facts, numbered_type, type_in}
@@ -13,13 +13,9 @@ use Rattle.c_tree.specs.Node.{Node, node, Shape, Primary, Operation, Initializer
 use Rattle.c_tree.specs.Node as nodes
 use Rattle.c_typing.specs.Options.{if_there}
 use Rattle.c_typing.specs.Types.{CType, pointed}
+use Rattle.path_subjects.specs.Subjects.{Subject, Tree, DerefOf}
 use Rattle.hole_matching.specs.MatchedTypes.{matched_type}
 use Rattle.hole_matching.specs.Pattern.{Head, Identifier, Integer, Spelled, Strings, VaArg, Offsetof, Index, Call, Member, CompoundLit, Unary, SizeofType, Cast, Binary, Cond, Assign, Named, MemberDesignator, IndexDesignator, Braces, Designated}
-
--- A tree, or the `*x` that is read out of `x->f`.
-pub data Subject : Type 0 where
-  Tree : Node → Subject
-  DerefOf : Node → Subject
 
 -- what stands in the parentheses
 abbrev pub inside : Node → Node

@@ -13,7 +13,8 @@ use Rattle.hole_matching.specs.Matching.{Taking, Binding, Stands, IsBinding}
 use Rattle.hole_matching.specs.Pattern.{Pattern, hole, likewise, other, Patterns, no_more, more}
 use Rattle.hole_matching.specs.Plain.{IsPlain}
 use Rattle.hole_matching.specs.Written.{pattern_of}
-use Rattle.hole_matching.specs.Subjects.{Subject, Tree, inner, head_of, parts_of}
+use Rattle.path_subjects.specs.Subjects.{Subject, Tree}
+use Rattle.hole_matching.specs.Subjects.{inner, head_of, parts_of}
 
 abbrev mutual
   pub IsWithoutHoles : Pattern → Type 0

@@ -13,9 +13,16 @@ pub mod CompleteParts
 pub mod CompleteRules
 pub mod Complete
 pub mod Texts
-pub mod Machines
 pub mod Plain
 pub mod Cuts
 pub mod Passing
 pub mod Whole
+pub mod Known
+pub mod Machines
 pub mod Limited
+pub mod HolesNumbered
+pub mod Numbered
+pub mod StatesNumbered
+pub mod RulesNumbered
+pub mod RulesKept
+pub mod Kept

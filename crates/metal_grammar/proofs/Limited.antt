@@ -33,7 +33,7 @@ none_passes count limit before position (c ∷ cs) b h =
     omega arith
 
 -- no fault is there if none of two is
-neither_fault : (a b : Option Fault) → or_else a b ≡ None → (a ≡ None) × (b ≡ None)
+pub neither_fault : (a b : Option Fault) → or_else a b ≡ None → (a ≡ None) × (b ≡ None)
 neither_fault None b h = (refl, h)
 neither_fault (Some fault) b h = cc
 
@@ -171,7 +171,7 @@ numbered n number [] w = tt
 numbered n number (r ∷ rs) w = (w.0, numbered n (number + 1) rs w.1)
 
 -- the machine of a text that has no fault
-limited : (spelling : Spelling) (cs : List Clause) → fault_of spelling cs ≡ None → IsLimited (machine_of spelling cs)
+pub limited : (spelling : Spelling) (cs : List Clause) → fault_of spelling cs ≡ None → IsLimited (machine_of spelling cs)
 limited spelling cs h =
     let a = neither_fault (too_many Variables (passing count_of_variables most_variables 0 0 cs)) _ h in
     let b = neither_fault (too_many Holes (passing count_of_holes most_holes 0 0 cs)) _ a.1 in
@@ -197,4 +197,4 @@ limited spelling cs h =
     }
 
 pub machines_are_limited : MachinesAreLimited
-machines_are_limited spelling ts m (cs, w, n, e) = subst IsLimited (sym e) (limited spelling cs n)
+machines_are_limited spelling ts m (cs, w, n, k, e) = subst IsLimited (sym e) (limited spelling cs n)

@@ -153,7 +153,7 @@ maybe_action-sound ts a r h =
           (taken marks.Comma ts o.0 o.1 ∙ action-sound o.0 b.0.0 b.0.1 b.1)
     ]
 
-rule-sound : IsSound read_rule rule_phrase IsRule
+pub rule-sound : IsSound read_rule rule_phrase IsRule
 rule-sound ts x r h =
     let a = bound (read_row read_alternative marks.OrOr (suc (length ts)) ts) _ _ h in
     let s = row-sound read_alternative alternative_phrase IsAlternative marks.OrOr (suc (length ts)) ts a.0.0 a.0.1 alternative-sound a.1 in

@@ -1,7 +1,7 @@
 -- The table of callouts: which row a written callout is.
 use Rattle.std.specs.Prelude.{ℕ, cond, codes, Option, None, Some}
 use Rattle.c_tree.specs.Symbol.{Symbol, IntLiteral}
-use Rattle.metal_grammar.specs.Words.{Spelling, is_spelled, name_spelled, contents_of}
+use Rattle.metal_grammar.specs.Words.{Spelling, Literal, is_spelled, name_spelled, contents_of}
 use Rattle.metal_grammar.specs.Written.{Name, Text, WrittenCallout, Digit, Asked}
 
 -- the rows that ask of a hole alone
@@ -37,6 +37,12 @@ row_of spelling (Asked name (Text text) (Some other)) = None
 abbrev pub hole_asked : WrittenCallout → Option ℕ
 hole_asked (Asked name (Name hole) text) = Some hole
 hole_asked _ = None
+
+-- the string that it asks of
+abbrev pub literal_asked : WrittenCallout → Option Literal
+literal_asked (Digit digit) = None
+literal_asked (Asked name (Name hole) text) = text
+literal_asked (Asked name (Text text) other) = Some text
 
 -- The text that it asks of, as a name: the bytes between the quotes. It is 0 where the callout has none.
 abbrev pub text_asked : Spelling → WrittenCallout → ℕ

@@ -8,6 +8,7 @@ pub mod Grammar
 pub mod Message
 pub mod Rules
 pub mod Callouts
+pub mod Known
 pub mod Faults
 pub mod FirstFault
 pub mod Meaning

@@ -132,7 +132,7 @@ abbrev pub is_plain_type : Syntax → Bool
 is_plain_type (Specifier (TypeName (Specifier (Specs words)) declarator)) = are_plain_words words && is_plain_declarator declarator
 is_plain_type _ = false
 
--- each type name in an expression is plain
+-- Each type name in an expression is plain, and its holes are still names.
 abbrev mutual
   pub has_plain_types : Syntax → Bool
   has_plain_types (Primary k) = primary_has_plain_types k
@@ -144,6 +144,7 @@ abbrev mutual
   primary_has_plain_types (Paren inner) = has_plain_types inner
   primary_has_plain_types (VaArg list of) = has_plain_types list && is_plain_type of
   primary_has_plain_types (Offsetof of member path) = is_plain_type of && path_has_plain_types path
+  primary_has_plain_types (Hole number) = false
   primary_has_plain_types _ = true
 
   pub operation_has_plain_types : OperationSyntax → Bool

@@ -1,12 +1,15 @@
 -- The theorems of this crate as statements, which contracts can name.
-use Rattle.std.specs.Prelude.{◌≡◌, ◌↔◌, ◌⊎◌, ℕ, true, List}
+use Rattle.std.specs.Prelude.{◌≡◌, ◌↔◌, ◌⊎◌, ℕ, true, List, None}
 use Rattle.c_tree.specs.Symbol.{Symbol}
 use Rattle.metal_grammar.specs.Words.{Spelling}
 use Rattle.metal_grammar.specs.Written.{Clause}
 use Rattle.metal_grammar.specs.Grammar.{nothing_before, IsText, IsSyntaxFault, text_tokens, AreWellFormed}
 use Rattle.metal_machines.specs.Machine.{Machine}
 use Rattle.metal_machines.specs.Limits.{IsLimited}
-use Rattle.metal_grammar.specs.FirstFault.{Fault}
+use Rattle.metal_machines.specs.Kept.{IsKept}
+use Rattle.metal_grammar.specs.FirstFault.{Fault, fault_of}
+use Rattle.metal_grammar.specs.Meaning.{machine_of}
+use Rattle.metal_grammar.specs.Known.{AreKnown, StringsAreKnown}
 use Rattle.metal_grammar.specs.Definition.{IsMachine, IsFirstFault}
 use Rattle.metal_grammar.specs.Reading.{AllRead, Unread, read_text, Accepted, Refused, read_machine}
 
@@ -18,9 +21,13 @@ TextsAreRead = (spelling : Spelling) (ts : List Symbol) (cs : List Clause) → (
 abbrev pub SyntaxFaultsAreRead : Type 0
 SyntaxFaultsAreRead = (spelling : Spelling) (ts : List Symbol) (at : ℕ) → (read_text spelling ts ≡ Unread at) ↔ IsSyntaxFault spelling ts at
 
--- the machine that is read is exactly that of the symbols
+-- Where the contents of all strings are names, the texts of all callouts are.
+abbrev pub TextsAreKnown : Type 0
+TextsAreKnown = (spelling : Spelling) (ts : List Symbol) (cs : List Clause) → StringsAreKnown spelling ts → IsText spelling cs ts → AreKnown spelling cs
+
+-- Where the contents of all strings are names, the machine that is read is exactly that of the symbols,
 abbrev pub MachinesAreRead : Type 0
-MachinesAreRead = (spelling : Spelling) (ts : List Symbol) (m : Machine) → (read_machine spelling ts ≡ Accepted m) ↔ IsMachine spelling ts m
+MachinesAreRead = (spelling : Spelling) (ts : List Symbol) (m : Machine) → StringsAreKnown spelling ts → (read_machine spelling ts ≡ Accepted m) ↔ IsMachine spelling ts m
 
 -- and the fault exactly the first one
 abbrev pub FirstFaultsAreRead : Type 0
@@ -36,9 +43,9 @@ MachinesAreUnique = (spelling : Spelling) (ts : List Symbol) (a b : Machine) →
 abbrev pub FirstFaultsAreUnique : Type 0
 FirstFaultsAreUnique = (spelling : Spelling) (ts : List Symbol) (a b : Fault) → IsFirstFault spelling ts a → IsFirstFault spelling ts b → a ≡ b
 
--- symbols are a machine or have a first fault, and not both
+-- symbols are a machine or have a first fault, where the contents of all strings are names, and never both
 abbrev pub MachineOrFault : Type 0
-MachineOrFault = (spelling : Spelling) (ts : List Symbol) → ((m : Machine) × IsMachine spelling ts m) ⊎ ((fault : Fault) × IsFirstFault spelling ts fault)
+MachineOrFault = (spelling : Spelling) (ts : List Symbol) → StringsAreKnown spelling ts → ((m : Machine) × IsMachine spelling ts m) ⊎ ((fault : Fault) × IsFirstFault spelling ts fault)
 
 abbrev pub NeverBoth : Type 0
 NeverBoth = (spelling : Spelling) (ts : List Symbol) (m : Machine) (fault : Fault) → IsMachine spelling ts m → IsFirstFault spelling ts fault → ⊥
@@ -51,3 +58,10 @@ TextsAreTheirTokens = (spelling : Spelling) (ts : List Symbol) (cs : List Clause
 -- from 1 in their order.
 abbrev pub MachinesAreLimited : Type 0
 MachinesAreLimited = (spelling : Spelling) (ts : List Symbol) (m : Machine) → IsMachine spelling ts m → IsLimited m
+
+-- A text without a fault is a machine whose numbers are in range, and whose rules are sound; and so each machine is.
+abbrev pub TextsAreKept : Type 0
+TextsAreKept = (spelling : Spelling) (ts : List Symbol) (cs : List Clause) → IsText spelling cs ts → fault_of spelling cs ≡ None → IsKept (machine_of spelling cs)
+
+abbrev pub MachinesAreKept : Type 0
+MachinesAreKept = (spelling : Spelling) (ts : List Symbol) (m : Machine) → IsMachine spelling ts m → IsKept m

@@ -5,11 +5,14 @@ ghost use Rattle.metal_grammar.specs.Theorems.{
   FirstFaultsAreRead,
   FirstFaultsAreUnique,
   MachineOrFault,
+  MachinesAreKept,
   MachinesAreLimited,
   MachinesAreRead,
   MachinesAreUnique,
   NeverBoth,
   SyntaxFaultsAreRead,
+  TextsAreKept,
+  TextsAreKnown,
   TextsAreRead,
   TextsAreTheirTokens,
   TextsAreUnique,
@@ -30,7 +33,13 @@ pub fn syntax_faults_are_read()
     ensures { SyntaxFaultsAreRead }
 {}
 
-/// The plain reader accepts symbols as a machine just where they have no fault and this is their machine.
+/// Where the contents of all strings are names, so are the texts of all callouts.
+pub fn texts_are_known()
+    ensures { TextsAreKnown }
+{}
+
+/// Where the contents of all strings are names, the plain reader accepts symbols as a machine just where they have no fault and
+/// this is their machine.
 pub fn machines_are_read()
     ensures { MachinesAreRead }
 {}
@@ -55,7 +64,7 @@ pub fn first_faults_are_unique()
     ensures { FirstFaultsAreUnique }
 {}
 
-/// All symbols are a machine or have a first fault.
+/// All symbols whose strings have contents that are names are a machine or have a first fault.
 pub fn machine_or_fault()
     ensures { MachineOrFault }
 {}
@@ -69,4 +78,16 @@ pub fn never_both()
 /// numbered from 1 in their order.
 pub fn machines_are_limited()
     ensures { MachinesAreLimited }
+{}
+
+/// A text without a fault is a machine that keeps its numbers in range, and whose rules are sound.
+pub fn texts_are_kept()
+    ensures { TextsAreKept }
+{}
+
+/// Each machine keeps its numbers in range: of holes, variables and states, and the rows of its callouts. Its rules are sound: each
+/// is about one variable at most, splits as it may, goes from a state that it may leave to one of the same kind, and binds what
+/// it asks of.
+pub fn machines_are_kept()
+    ensures { MachinesAreKept }
 {}

@@ -1,4 +1,6 @@
 pub mod Machine
 pub mod Limits
+pub mod Numbers
+pub mod Kept
 pub mod Rules
 pub mod Theorems

@@ -1,17 +1,18 @@
 -- A request whose files are told: without a fault and without a failed call its reports are printed, and with a fault it is refused.
-use Rattle.std.proofs.Common.{◌≡◌, ◌≢◌, ◌⊎◌, inl, inr, ℕ, zero, suc, ◌+◌, ◌-◌, ◌<◌, ◌≤◌, min, true, false, List, [], ◌∷◌, ◌++◌, length, slice_get, Option, Some, None, refl, sym, ap, ◌∙◌, subst, length-append, add-zero, zero-add, arith}
+use Rattle.std.proofs.Common.{◌≡◌, ◌≢◌, ◌⊎◌, inl, inr, ℕ, zero, suc, ◌+◌, ◌-◌, true, List, [], ◌∷◌, ◌++◌, length, slice_get, Option, Some, None, refl, sym, ap, ◌∙◌, subst, length-append, add-zero, zero-add, arith}
 use Rattle.std.proofs.lemmas.Bool.{true≢false}
 use Rattle.mx_io.specs.Reads.{Stands}
 use Rattle.path_model.specs.declared.report.Report.{Report}
 use Rattle.path_model.specs.Reports.{text_of}
 use Rattle.metalcheck.specs.declared.fault.Fault.{Fault}
-use Rattle.metalcheck.specs.declared.fault.Fault.TheVariants.{TooLarge, NotYet}
+use Rattle.metalcheck.specs.declared.fault.Fault.TheVariants.{TooLarge, InText, NotYet}
+use Rattle.metalcheck.specs.Located.{Located}
 use Rattle.metalcheck.specs.declared.status.Status.{Status}
 use Rattle.metalcheck.specs.declared.status.Status.TheVariants.{Clean, Reports, Usage, Refused, ReadFault, WriteFault, NoMemory}
 use Rattle.metalcheck.specs.Due.{IsDue, IsReported}
 use Rattle.metalcheck.specs.Judged.{AreJudged}
 use Rattle.metalcheck.specs.Ran.{Ran, Tells, NoRise, Completes}
-use Rattle.metalcheck.specs.Reading.{total_limit, file_limit, HasFault, IsSmall, IsSound, AreSound, AreSoundFrom, Agree, IsTurn, FaultyAt, left_after}
+use Rattle.metalcheck.specs.Reading.{total_limit, HasFaultOf, IsSound, IsFaultless, AreFrom, AreSoundFrom, AreFaultlessFrom, Agree, FaultyAt, UnsoundAt, left_after}
 use Rattle.metalcheck.specs.Words.{is_request_of}
 use Rattle.metalcheck.specs.Written.{SinkStep, Written, Took}
 
@@ -32,30 +33,31 @@ same_texts told (n ∷ ns) (b ∷ bs) (x ∷ ts) a t h =
     let rest : bs ≡ ts = same_texts told ns bs ts a.1 t.1 (omega (arith, h)) in
     cc
 
--- a file among sound ones is sound, where so many bytes may come as the files before leave
-sound_at : (told : List ℕ → Option (List ℕ)) (position left k : ℕ) (ns before ts : List (List ℕ)) (name bytes : List ℕ)
-    → AreSoundFrom position left ts → Tells told ns ts → Agree told ns before → length before ≡ k → slice_get ns k ≡ Some name → Stands (told name) bytes
-    → IsSound (position + k) (left_after left before) bytes
-sound_at told position left zero [] [] ts name bytes s t a h named stands = cc
-sound_at told position left zero (n ∷ ns) [] [] name bytes s t a h named stands = absurd t
-sound_at told position left zero (n ∷ ns) [] (x ∷ ts) name bytes s t a h named stands =
+-- a file among such files is such a file, where so many bytes may come as the files before leave
+at_turn : (Is : ℕ → ℕ → List ℕ → List ℕ → Type 0) (told : List ℕ → Option (List ℕ)) (position left k : ℕ) (ns before ts : List (List ℕ)) (name bytes : List ℕ)
+    → AreFrom Is position left ns ts → Tells told ns ts → Agree told ns before → length before ≡ k → slice_get ns k ≡ Some name → Stands (told name) bytes
+    → Is (position + k) (left_after left before) name bytes
+at_turn Is told position left zero [] [] ts name bytes s t a h named stands = cc
+at_turn Is told position left zero (n ∷ ns) [] [] name bytes s t a h named stands = absurd t
+at_turn Is told position left zero (n ∷ ns) [] (x ∷ ts) name bytes s t a h named stands =
     let same : n ≡ name = cc in
     let here : bytes ≡ x = stands_told (told name) bytes x stands (subst (λ m. told m ≡ Some x) same t.0) in
-    subst (λ p. IsSound p left bytes) (sym (add-zero position)) (subst (IsSound position left) (sym here) s.0)
-sound_at told position left (suc k) ns [] ts name bytes s t a h named stands = absurd (omega (arith, h))
-sound_at told position left k [] (b ∷ before) ts name bytes s t a h named stands = absurd a
-sound_at told position left k (n ∷ ns) (b ∷ before) [] name bytes s t a h named stands = absurd t
-sound_at told position left zero (n ∷ ns) (b ∷ before) (x ∷ ts) name bytes s t a h named stands = absurd (omega (arith, h))
-sound_at told position left (suc k) (n ∷ ns) (b ∷ before) (x ∷ ts) name bytes s t a h named stands =
+    subst (λ p. Is p left name bytes) (sym (add-zero position)) (subst (λ m. Is position left m bytes) same (subst (Is position left n) (sym here) s.0))
+at_turn Is told position left (suc k) ns [] ts name bytes s t a h named stands = absurd (omega (arith, h))
+at_turn Is told position left k [] (b ∷ before) ts name bytes s t a h named stands = absurd a
+at_turn Is told position left k (n ∷ ns) (b ∷ before) [] name bytes s t a h named stands = absurd t
+at_turn Is told position left zero (n ∷ ns) (b ∷ before) (x ∷ ts) name bytes s t a h named stands = absurd (omega (arith, h))
+at_turn Is told position left (suc k) (n ∷ ns) (b ∷ before) (x ∷ ts) name bytes s t a h named stands =
     let first : b ≡ x = stands_told (told n) b x a.0 t.0 in
-    let rest : IsSound (position + 1 + k) (left_after (left - length x) before) bytes = sound_at told (position + 1) (left - length x) k ns before ts name bytes s.1 t.1 a.1 (omega (arith, h)) named stands in
+    let rest : Is (position + 1 + k) (left_after (left - length x) before) name bytes = at_turn Is told (position + 1) (left - length x) k ns before ts name bytes s.1 t.1 a.1 (omega (arith, h)) named stands in
     let there : position + 1 + k ≡ position + suc k = omega arith in
-    subst (λ p. IsSound p (left_after (left - length b) before) bytes) there (subst (λ y. IsSound (position + 1 + k) (left_after (left - length y) before) bytes) (sym first) rest)
+    subst (λ p. Is p (left_after (left - length b) before) name bytes) there (subst (λ y. Is (position + 1 + k) (left_after (left - length y) before) name bytes) (sym first) rest)
 
--- a sound file has no fault
-sound_faultless : (position left : ℕ) (bytes : List ℕ) (fault : Fault) → IsSound position left bytes → HasFault position left bytes fault → ⊥
-sound_faultless position left bytes TooLarge s h = omega (arith, s.fits, h)
-sound_faultless position left bytes NotYet s h = h.1 s.small
+-- a faultless file has no fault
+no_fault : (position left : ℕ) (word bytes : List ℕ) (l : Located) (fault : Fault) → IsFaultless position left word bytes → HasFaultOf position left word bytes l fault → ⊥
+no_fault position left word bytes l TooLarge s h = let x = h.0 in omega (arith, s.fits, x)
+no_fault position left word bytes l (InText fault) s h = s.faultless fault l.file l.line h.1
+no_fault position left word bytes l NotYet s h = h.2 s.small
 
 longer : (old : List (List ℕ)) (name : List ℕ) → old ++ name ∷ [] ≡ old → ⊥
 longer old name e = omega (arith, length-append old (name ∷ []), ap length e)
@@ -73,14 +75,21 @@ module _ (told : List ℕ → Option (List ℕ)) (names old new texts : List (Li
     subst (Took errs) r.line_is e,
   )
 
-  -- no file among sound ones has a fault
-  faultless : (position : ℕ) (fault : Fault) → AreSoundFrom 0 total_limit texts → FaultyAt told names position fault → ⊥
+  -- no file among faultless ones has a fault
+  faultless : (position : ℕ) (fault : Located) → AreFaultlessFrom 0 total_limit names texts → FaultyAt told names position fault → ⊥
   faultless position fault sound f =
       let turn = f.turn in
-      let s : IsSound (0 + position) (left_after total_limit turn.texts) f.bytes = sound_at told 0 total_limit position names turn.texts texts turn.name f.bytes sound tells turn.before.agree turn.count turn.named f.stands in
-      sound_faultless position (left_after total_limit turn.texts) f.bytes fault (subst (λ p. IsSound p (left_after total_limit turn.texts) f.bytes) (zero-add position) s) f.faulty
+      let s : IsFaultless (0 + position) (left_after total_limit turn.texts) turn.name f.bytes = at_turn IsFaultless told 0 total_limit position names turn.texts texts turn.name f.bytes sound tells turn.before.agree turn.count turn.named f.stands in
+      no_fault position (left_after total_limit turn.texts) turn.name f.bytes fault fault.fault (subst (λ p. IsFaultless p (left_after total_limit turn.texts) turn.name f.bytes) (zero-add position) s) f.faulty
 
-  pub complete : AreSoundFrom 0 total_limit texts → Ran told names old new result out errs → NoRise out.faults_before out.faults_after → NoRise errs.faults_before errs.faults_after → result ≢ NoMemory
+  -- all files among sound ones are sound
+  all_sound : (position : ℕ) → AreSoundFrom 0 total_limit names texts → UnsoundAt told names position → ⊥
+  all_sound position sound u =
+      let turn = u.turn in
+      let s : IsSound (0 + position) (left_after total_limit turn.texts) turn.name u.bytes = at_turn IsSound told 0 total_limit position names turn.texts texts turn.name u.bytes sound tells turn.before.agree turn.count turn.named u.stands in
+      u.unsound (subst (λ p. IsSound p (left_after total_limit turn.texts) turn.name u.bytes) (zero-add position) s)
+
+  pub complete : AreFaultlessFrom 0 total_limit names texts → Ran told names old new result out errs → NoRise out.faults_before out.faults_after → NoRise errs.faults_before errs.faults_after → result ≢ NoMemory
       → Completes names texts result out errs
   complete sound (inl stops) no-out no-errs ne = absurd (ne stops.status)
   complete sound (inr c) no-out no-errs ne = by c.status c.due c.written
@@ -96,15 +105,15 @@ module _ (told : List ℕ → Option (List ℕ)) (names old new texts : List (Li
       by WriteFault due (inl w) = absurd due
       by NoMemory due (inl w) = absurd due
 
-  pub faulty : (position : ℕ) (fault : Fault) → FaultyAt told names position fault → Ran told names old new result out errs → (result ≡ Refused) ⊎ ((result ≡ WriteFault) ⊎ (result ≡ NoMemory))
-  faulty position fault f (inl stops) = inr (inr stops.status)
-  faulty position fault f (inr c) = by c.status c.due c.written
+  pub faulty : (position : ℕ) → UnsoundAt told names position → Ran told names old new result out errs → (result ≡ Refused) ⊎ ((result ≡ WriteFault) ⊎ (result ≡ NoMemory))
+  faulty position u (inl stops) = inr (inr stops.status)
+  faulty position u (inr c) = by c.status c.due c.written
     where
       by : (s : Status) → IsDue told names old new s c.text c.line → Written s c.text c.line result out errs → (result ≡ Refused) ⊎ ((result ≡ WriteFault) ⊎ (result ≡ NoMemory))
       by s due (inr (inl w)) = inr (inl w.0)
       by s due (inr (inr w)) = inr (inl w.0)
-      by Clean due (inl w) = absurd (faultless position fault (subst (AreSoundFrom 0 total_limit) (same_texts told names due.texts texts due.accepted.read.agree tells due.accepted.whole) due.accepted.read.sound) f)
-      by Reports due (inl w) = absurd (faultless position fault (subst (AreSoundFrom 0 total_limit) (same_texts told names due.texts texts due.accepted.read.agree tells due.accepted.whole) due.accepted.read.sound) f)
+      by Clean due (inl w) = absurd (all_sound position (subst (AreSoundFrom 0 total_limit names) (same_texts told names due.texts texts due.accepted.read.agree tells due.accepted.whole) due.accepted.read.sound) u)
+      by Reports due (inl w) = absurd (all_sound position (subst (AreSoundFrom 0 total_limit names) (same_texts told names due.texts texts due.accepted.read.agree tells due.accepted.whole) due.accepted.read.sound) u)
       by Usage due (inl w) = absurd (true≢false (sym request ∙ due.words))
       by Refused due (inl w) = inl w.0
       by ReadFault due (inl w) = absurd (longer old due.failed.turn.name (sym due.failed.grew ∙ same))

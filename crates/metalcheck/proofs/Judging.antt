@@ -11,16 +11,17 @@ use Rattle.path_model.specs.declared.machine.Source.TheVariants as sources
 use Rattle.path_model.specs.declared.machine.Target.{Target}
 use Rattle.path_model.specs.declared.machine.Target.TheVariants as targets
 use Rattle.path_model.specs.declared.report.Report.{Report}
+use Rattle.metalcheck.specs.Located.{Located, located_of, at_start}
 use Rattle.metalcheck.specs.declared.fault.Fault.{Fault}
 use Rattle.metalcheck.specs.declared.fault.Fault.TheVariants as faults
 use Rattle.metalcheck.specs.declared.judge.Stopped.{Stopped}
 use Rattle.metalcheck.specs.declared.judge.Stopped.TheVariants as stops
 use Rattle.metalcheck.specs.Judged.{IsJudged}
-use Rattle.metalcheck.specs.Reading.{total_limit, file_limit, HasFault, IsSound, AreSound, IsTurn, FailedAt, FaultyAt}
-use Rattle.metalcheck.specs.SmallBody.{IsBody}
-use Rattle.metalcheck.specs.SmallChecker.{Checker, Origin, Start, State, Shape, Call, Dereference, Line, IsMachine, IsSource, IsPattern, IsTarget, AreRules, rules_of}
-use Rattle.metalcheck.specs.SmallSource as source
-use Rattle.metalcheck.specs.Stages.{AnswersStopped, IsLoaded, IsChecked, IsUnread, failed_after_stop}
+use Rattle.metalcheck.specs.Reading.{total_limit, file_limit, HasFaultOf, HasFault, IsSound, AreSound, IsTurn, FailedAt, FaultyAt}
+use Rattle.small_form.specs.SmallBody.{IsBody}
+use Rattle.small_form.specs.SmallChecker.{Checker, Origin, Start, State, Shape, Call, Dereference, Line, IsMachine, IsSource, IsPattern, IsTarget, AreRules, rules_of}
+use Rattle.small_form.specs.SmallSource as source
+use Rattle.metalcheck.specs.Stages.{AnswersStopped, IsAtStart, IsLoaded, IsChecked, IsUnread, failed_after_stop}
 
 -- a machine stays what it is when names are added
 module _ (old new : List (List ℕ)) (kept : (n : ℕ) (t : List ℕ) → slice_get old n ≡ Some t → slice_get new n ≡ Some t) where
@@ -59,8 +60,8 @@ module _ (old new : List (List ℕ)) (kept : (n : ℕ) (t : List ℕ) → slice_
   machine_kept c machine m = record { name = kept machine.name c.name m.name; rules = rules_kept 1 (rules_of c) machine.rules.items m.rules }
 
 -- the text of a body is small
-pub small_of_body : (names : List (List ℕ)) (word bytes : List ℕ) (s : source.Source) (body : _) → IsBody names word bytes s body → source.IsSmallSource bytes s
-small_of_body names word bytes s body b = record { pieces = b.tokens.pieces; cut = b.tokens.cut; spelled = b.spelled; well = b.well }
+pub small_of_body : (names : List (List ℕ)) (word bytes : List ℕ) (s : source.Source) (body : _) → IsBody names word bytes s body → source.IsSmallSource word bytes s
+small_of_body names word bytes s body b = record { pieces = b.lexed.pieces; reading = b.lexed.reading; spelled = b.spelled; well = b.well }
 
 module _ (told : List ℕ → Option (List ℕ)) (c s : List ℕ) (old new : List (List ℕ)) where
   abbrev first_turn : IsTurn told (c ∷ s ∷ []) 0
@@ -69,12 +70,12 @@ module _ (told : List ℕ → Option (List ℕ)) (c s : List ℕ) (old new : Lis
   pub first_failed : new ≡ old ++ c ∷ [] → FailedAt told (c ∷ s ∷ []) old new 0
   first_failed e = record { turn = first_turn; grew = e }
 
-  pub first_faulty : (fault : Fault) (bytes : List ℕ) → Stands (told c) bytes → HasFault 0 33554432 bytes fault → FaultyAt told (c ∷ s ∷ []) 0 fault
+  pub first_faulty : (fault : Located) (bytes : List ℕ) → Stands (told c) bytes → HasFault 0 33554432 c bytes fault → FaultyAt told (c ∷ s ∷ []) 0 fault
   first_faulty fault bytes stands h = record { turn = first_turn; bytes = bytes; stands = stands; faulty = h }
 
   module _ (names : List (List ℕ)) (size : ℕ) (machine : Machine) (l : IsLoaded (told c) names size machine) where
-    abbrev pub first_sound : IsSound 0 total_limit l.bytes
-    first_sound = record { fits = omega (arith, l.sized, l.fits); small = (l.checker, l.small) }
+    abbrev pub first_sound : IsSound 0 total_limit c l.bytes
+    first_sound = record { fits = omega (arith, l.sized, l.fits); fine = tt; small = (l.checker, l.small) }
 
     abbrev second_turn : IsTurn told (c ∷ s ∷ []) 1
     second_turn = record { texts = l.bytes ∷ []; before = record { agree = (l.stands, tt); sound = (first_sound, tt) }; count = refl; name = s; named = refl }
@@ -82,10 +83,10 @@ module _ (told : List ℕ → Option (List ℕ)) (c s : List ℕ) (old new : Lis
     pub second_failed : new ≡ old ++ s ∷ [] → FailedAt told (c ∷ s ∷ []) old new 1
     second_failed e = record { turn = second_turn; grew = e }
 
-    pub second_faulty : (fault : Fault) (left : ℕ) (bytes : List ℕ) → left ≡ 33554432 - size → Stands (told s) bytes → HasFault 1 left bytes fault → FaultyAt told (c ∷ s ∷ []) 1 fault
+    pub second_faulty : (fault : Located) (left : ℕ) (bytes : List ℕ) → left ≡ 33554432 - size → Stands (told s) bytes → HasFault 1 left s bytes fault → FaultyAt told (c ∷ s ∷ []) 1 fault
     second_faulty fault left bytes e stands h =
         let same : left ≡ 33554432 - length l.bytes = e ∙ ap (λ n. 33554432 - n) (sym l.sized) in
-        record { turn = second_turn; bytes = bytes; stands = stands; faulty = subst (λ n. HasFault 1 n bytes fault) same h }
+        record { turn = second_turn; bytes = bytes; stands = stands; faulty = subst (λ n. HasFault 1 n s bytes fault) same h }
 
     module _ (grown : List (List ℕ)) (left : ℕ) (reports : List Report) (e : left ≡ 33554432 - size) (k : IsChecked (told s) left grown s machine reports) where
       pub both_sound : AreSound told (c ∷ s ∷ []) (l.bytes ∷ k.bytes ∷ [])
@@ -93,7 +94,7 @@ module _ (told : List ℕ → Option (List ℕ)) (c s : List ℕ) (old new : Lis
           let same : left ≡ 33554432 - length l.bytes = e ∙ ap (λ n. 33554432 - n) (sym l.sized) in
           record {
             agree = (l.stands, (k.stands, tt));
-            sound = (first_sound, (record { fits = subst (λ n. length k.bytes ≤ min file_limit n) same k.fits; small = (k.has.source, small_of_body grown s k.bytes k.has.source k.has.body k.has.body_is) }, tt));
+            sound = (first_sound, (record { fits = subst (λ n. length k.bytes ≤ min file_limit n) same k.fits; fine = k.has.fine; small = (k.has.source, small_of_body grown s k.bytes k.has.source k.has.body k.has.body_is) }, tt));
           }
 
       pub judged : HasNoRepeats grown → ((n : ℕ) (t : List ℕ) → slice_get names n ≡ Some t → slice_get grown n ≡ Some t) → IsJudged s l.bytes k.bytes reports
@@ -110,17 +111,28 @@ module _ (told : List ℕ → Option (List ℕ)) (c s : List ℕ) (old new : Lis
         reports_are = k.has.reports_are;
       }
 
+-- a fault of bytes that fit is a fault of the file, wherever so many may still come
+fault_fits : (left : ℕ) (word bytes : List ℕ) (l : Located) (fault : Fault) → length bytes ≤ min file_limit left → HasFaultOf 1 (length bytes) word bytes l fault → HasFaultOf 1 left word bytes l fault
+fault_fits left word bytes l faults.TooLarge h u = let x = u.0 in absurd (omega (arith, h, x))
+fault_fits left word bytes l (faults.InText fault) h u = (h, u.1)
+fault_fits left word bytes l faults.NotYet h u = (h, u.1, u.2, u.3)
+
 -- why the bytes of a C file gave nothing is why its file did
-pub unread_stopped : {X : Type 0} (told : Option (List ℕ)) (left : ℕ) (bytes : List ℕ) (r : Result X Stopped) → Stands told bytes → length bytes ≤ min file_limit left → IfErr r (IsUnread bytes) → IfErr r (AnswersStopped told 1 left)
-unread_stopped told left bytes (Ok x) s h u = u
-unread_stopped told left bytes (Err stops.NotRead) s h u = absurd u
-unread_stopped told left bytes (Err (stops.Faulty faults.TooLarge)) s h u = absurd u
-unread_stopped told left bytes (Err (stops.Faulty faults.NotYet)) s h u = (bytes, s, (h, u))
-unread_stopped told left bytes (Err stops.NoMemory) s h u = tt
+pub unread_stopped : {X : Type 0} (told : Option (List ℕ)) (left : ℕ) (word bytes : List ℕ) (r : Result X Stopped) → Stands told bytes → length bytes ≤ min file_limit left → IfErr r (IsUnread word bytes) → IfErr r (AnswersStopped told 1 left word)
+unread_stopped told left word bytes (Ok x) s h u = u
+unread_stopped told left word bytes (Err stops.NotRead) s h u = absurd u
+unread_stopped told left word bytes (Err (stops.Faulty l)) s h u = (bytes, s, fault_fits left word bytes (located_of l) l.fault h u)
+unread_stopped told left word bytes (Err stops.NoMemory) s h u = tt
 
 -- and no read failed
-pub unread_failed : {X : Type 0} (old new : List (List ℕ)) (word bytes : List ℕ) (r : Result X Stopped) → new ≡ old → IfErr r (IsUnread bytes) → IfErr r (λ e. new ≡ failed_after_stop old word e)
+pub unread_failed : {X : Type 0} (old new : List (List ℕ)) (word bytes : List ℕ) (r : Result X Stopped) → new ≡ old → IfErr r (IsUnread word bytes) → IfErr r (λ e. new ≡ failed_after_stop old word e)
 unread_failed old new word bytes (Ok x) e u = u
 unread_failed old new word bytes (Err stops.NotRead) e u = absurd u
-unread_failed old new word bytes (Err (stops.Faulty fault)) e u = e
+unread_failed old new word bytes (Err (stops.Faulty l)) e u = e
 unread_failed old new word bytes (Err stops.NoMemory) e u = e
+
+-- a fault of a whole file, from what was read of it
+pub stopped_at_start : (told : Option (List ℕ)) (position left : ℕ) (word bytes : List ℕ) (fault : Fault) (stop : Stopped) → Stands told bytes → HasFaultOf position left word bytes (at_start word fault) fault → IsAtStart word fault stop → AnswersStopped told position left word stop
+stopped_at_start told position left word bytes fault stops.NotRead s h i = absurd i
+stopped_at_start told position left word bytes fault (stops.Faulty l) s h i = (bytes, s, subst (HasFault position left word bytes) (sym i) h)
+stopped_at_start told position left word bytes fault stops.NoMemory s h i = tt

@@ -4,8 +4,8 @@ use Rattle.std.proofs.lemmas.List.{length-map}
 use Rattle.std.proofs.lemmas.Option.{slice_get_within}
 use Rattle.path_model.specs.declared.report.Report.{Report}
 use Rattle.path_model.specs.Reports.{text_of}
-use Rattle.metalcheck.specs.declared.fault.Fault.{Fault}
-use Rattle.metalcheck.specs.Due.{IsLacking, IsRefused, IsReported, not_read_line, refused_line}
+use Rattle.metalcheck.specs.Located.{Located, refused_line}
+use Rattle.metalcheck.specs.Due.{IsLacking, IsRefused, IsReported, not_read_line}
 use Rattle.metalcheck.specs.Judged.{AreJudged}
 use Rattle.metalcheck.specs.Reading.{AreSound, IsTurn, FailedAt, FaultyAt}
 use Rattle.metalcheck.specs.Words.{is_request_of}
@@ -32,16 +32,18 @@ module _ {X : Type 0} (f : X → List ℕ) (words : List X) (told : List ℕ →
     pub lacks : FailedAt told (map f words) old new k → line ≡ not_read_line name → IsLacking told (map f words) old new text line
     lacks failed line-is = record { request = request; position = k; failed = failed; text_is = none; line_is = line-is ∙ ap not_read_line (name_of_turn failed.turn) }
 
-    pub refuses : (fault : Fault) → FaultyAt told (map f words) k fault → new ≡ old → line ≡ refused_line name fault → IsRefused told (map f words) old new text line
-    refuses fault faulty same line-is = record {
-      request = request;
-      position = k;
-      fault = fault;
-      faulty = faulty;
-      none_failed = same;
-      text_is = none;
-      line_is = line-is ∙ ap (λ n. refused_line n fault) (name_of_turn faulty.turn);
-    }
+-- a file has the first fault
+pub refuses : (told : List ℕ → Option (List ℕ)) (names old new : List (List ℕ)) (text line : List ℕ) (position : ℕ) (fault : Located)
+    → is_request_of names ≡ true → FaultyAt told names position fault → new ≡ old → text ≡ [] → line ≡ refused_line fault → IsRefused told names old new text line
+refuses told names old new text line position fault request faulty same text-is line-is = record {
+  request = request;
+  position = position;
+  fault = fault;
+  faulty = faulty;
+  none_failed = same;
+  text_is = text-is;
+  line_is = line-is;
+}
 
 -- the list of reports
 pub reports_due : (told : List ℕ → Option (List ℕ)) (names old new : List (List ℕ)) (text line : List ℕ) (IsAsked : List Report → Type 0) (reports : List Report)

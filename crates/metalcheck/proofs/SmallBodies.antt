@@ -1,5 +1,5 @@
 -- The body of a small C file is simple: its statements are calls with the parameter and dereferences of it, one behind the other.
-use Rattle.std.proofs.Common.{◌≡◌, ◌≢◌, ℕ, zero, suc, ◌+◌, ◌<◌, ◌≤◌, true, false, List, [], ◌∷◌, ◌++◌, length, drop, flat_map, slice_get, Some, refl, sym, ap, ◌∙◌, subst, add-zero, zero-add, suc-add, arith}
+use Rattle.std.proofs.Common.{◌≡◌, ◌≢◌, ℕ, zero, suc, ◌+◌, ◌<◌, ◌≤◌, true, false, List, [], ◌∷◌, ◌++◌, length, drop, map, flat_map, slice_get, Some, refl, sym, ap, ◌∙◌, subst, add-zero, zero-add, suc-add, arith}
 use Rattle.std.proofs.lemmas.Bool.{true≢false}
 use Rattle.std.proofs.lemmas.Option.{slice_get_within}
 use Rattle.std.proofs.lemmas.Slice.Eq.{bytes_eq-Decides}
@@ -10,39 +10,42 @@ use Rattle.mx_base.proofs.NameLaws.{one_number}
 use Rattle.c_tree.specs.Node.{Node, Nodes, no_more, more}
 use Rattle.c_tree.specs.declared.punctuator.Punctuator.TheVariants.{CloseBrace}
 use Rattle.c_tree.specs.declared.token.Token.{Token}
+use Rattle.c_lexer.specs.Tokens.{IsToken, AreTokens}
+use Rattle.c_reading.specs.declared.mode.Mode.TheVariants.{C}
+use Rattle.c_reading.specs.Pieces.{beginning}
+use Rattle.c_reading.specs.Reading.{Lexeme, lexemes}
 use Rattle.path_model.specs.Events.{Body, first_of}
 use Rattle.metalcheck.specs.Simple.{IsSimple, IsPlaced, AreSimple}
 use Rattle.metalcheck.specs.Simple as simple
-use Rattle.metalcheck.specs.SmallBody.{AreStatementNodes, IsBody}
-use Rattle.metalcheck.specs.SmallSource.{Source, Statement, IsStatement, statement_lexemes, source_lexemes, head_lexemes}
-use Rattle.metalcheck.specs.SmallSource as source
-use Rattle.metalcheck.specs.SmallText.{Lexeme, Word, Sign, Piece, Space, LineFeed, Spelled, Spot, spot_behind, lexemes_of, spelling, IsTokenOf, AreTokens}
+use Rattle.small_form.specs.SmallBody.{AreStatementNodes, IsBody}
+use Rattle.small_form.specs.SmallSource.{Source, Statement, IsStatement, statement_lexemes, source_lexemes, head_lexemes}
+use Rattle.small_form.specs.SmallSource as source
+use Rattle.small_form.specs.SmallText.{Word, Sign, spelling}
+use Rattle.small_form.specs.SmallText.{Lexeme as Spelled}
 
 -- the lexeme behind a token
-pub record IsAt (names : List (List ℕ)) (file : ℕ) (word : List ℕ) (lexemes : List Lexeme) (base k : ℕ) (t : Token) : Type 0 where
+pub record IsAt (names : List (List ℕ)) (lexemes : List Lexeme) (before k : ℕ) (t : Token) : Type 0 where
   pub lexeme : Lexeme
   pub there : slice_get lexemes k ≡ Some lexeme
-  pub spot : Spot
-  pub number : spot.token ≡ base + k
-  pub is : IsTokenOf names file word lexeme spot t
+  pub is : IsToken 0 names (before + k) lexeme t
 
-pub token_at : (names : List (List ℕ)) (file : ℕ) (word : List ℕ) (spot : Spot) (ps : List Piece) (ts : List Token) (k : ℕ) (t : Token)
-    → AreTokens names file word spot ps ts → slice_get ts k ≡ Some t → IsAt names file word (lexemes_of ps) spot.token k t
-token_at names file word spot [] [] k t a e = cc
-token_at names file word spot [] (u ∷ ts) k t a e = absurd a
-token_at names file word spot (Spelled l ∷ ps) [] k t a e = absurd a
-token_at names file word spot (Spelled l ∷ ps) (u ∷ ts) zero t a e =
+pub token_at : (names : List (List ℕ)) (before : ℕ) (ls : List Lexeme) (ts : List Token) (k : ℕ) (t : Token) → AreTokens 0 names before ls ts → slice_get ts k ≡ Some t → IsAt names ls before k t
+token_at names before [] [] k t a e = cc
+token_at names before [] (u ∷ ts) k t a e = absurd a
+token_at names before (l ∷ ls) [] k t a e = absurd a
+token_at names before (l ∷ ls) (u ∷ ts) zero t a e =
     let same : u ≡ t = cc in
-    record { lexeme = l; there = refl; spot = spot; number = sym (add-zero spot.token); is = subst (λ x. IsTokenOf names file word l spot x) same a.0 }
-token_at names file word spot (Spelled l ∷ ps) (u ∷ ts) (suc k) t a e =
-    let rest = token_at names file word (spot_behind (Spelled l) spot) ps ts k t a.1 e in
-    record { lexeme = rest.lexeme; there = rest.there; spot = rest.spot; number = omega (arith, rest.number); is = rest.is }
-token_at names file word spot (Space ∷ ps) ts k t a e =
-    let rest = token_at names file word (spot_behind Space spot) ps ts k t a e in
-    record { lexeme = rest.lexeme; there = rest.there; spot = rest.spot; number = rest.number; is = rest.is }
-token_at names file word spot (LineFeed ∷ ps) ts k t a e =
-    let rest = token_at names file word (spot_behind LineFeed spot) ps ts k t a e in
-    record { lexeme = rest.lexeme; there = rest.there; spot = rest.spot; number = rest.number; is = rest.is }
+    record { lexeme = l; there = refl; is = subst (λ x. IsToken 0 names (before + 0) l x) same (subst (λ n. IsToken 0 names n l u) (sym (add-zero before)) a.0) }
+token_at names before (l ∷ ls) (u ∷ ts) (suc k) t a e =
+    let rest = token_at names (before + 1) ls ts k t a.1 e in
+    let number : before + 1 + k ≡ before + suc k = omega arith in
+    record { lexeme = rest.lexeme; there = rest.there; is = subst (λ n. IsToken 0 names n rest.lexeme t) number rest.is }
+
+-- an element, seen through a function
+mapped_at : {X Y : Type 0} (f : X → Y) (xs : List X) (k : ℕ) (x : X) → slice_get xs k ≡ Some x → slice_get (map f xs) k ≡ Some (f x)
+mapped_at f [] k x e = cc
+mapped_at f (y ∷ xs) zero x e = let same : y ≡ x = cc in ap (λ z. Some (f z)) same
+mapped_at f (y ∷ xs) (suc k) x e = mapped_at f xs k x e
 
 bytes_eq-self : (w : List ℕ) → bytes_eq w w ≡ true
 bytes_eq-self w = (bytes_eq-Decides w w).1 refl
@@ -70,17 +73,17 @@ lower size tokens parameter floor later (more n ns) h a =
     (a.0, record { token = p.token; stands = p.stands; there = p.there; presumed = p.presumed; filed = p.filed; behind = omega (arith, h, p.behind) }, a.2)
 
 module _ (names : List (List ℕ)) (word bytes : List ℕ) (s : Source) (body : Body) (distinct : HasNoRepeats names) (b : IsBody names word bytes s body) where
-  at : (k : ℕ) (t : Token) → slice_get body.tokens k ≡ Some t → IsAt names 0 word (source_lexemes s) 0 k t
-  at k t e =
-      let found = token_at names 0 word _ b.tokens.pieces body.tokens k t b.tokens.tokens_are e in
-      record { lexeme = found.lexeme; there = ap (λ l. slice_get l k) (sym b.spelled) ∙ found.there; spot = found.spot; number = found.number; is = found.is }
+  abbrev all : List Lexeme
+  all = lexemes C (beginning word) b.lexed.pieces
+
+  at : (k : ℕ) (t : Token) → slice_get body.tokens k ≡ Some t → IsAt names all 0 k t
+  at k t e = token_at names 0 all body.tokens k t b.lexed.tokens_are e
 
   -- a token that is spelled so
-  spelled_at : (k : ℕ) (t : Token) (l : Lexeme) → slice_get body.tokens k ≡ Some t → slice_get (source_lexemes s) k ≡ Some l → slice_get names t.name ≡ Some (spelling l)
+  spelled_at : (k : ℕ) (t : Token) (l : Spelled) → slice_get body.tokens k ≡ Some t → slice_get (source_lexemes s) k ≡ Some l → slice_get names t.name ≡ Some (spelling l)
   spelled_at k t l e h =
       let there = at k t e in
-      let same : there.lexeme ≡ l = let x = there.there in cc in
-      there.is.spelled ∙ ap (λ x. Some (spelling x)) same
+      there.is.name ∙ sym (mapped_at (λ x. x.spelling) all k there.lexeme there.there) ∙ ap (λ x. slice_get x k) b.spelled ∙ mapped_at spelling (source_lexemes s) k l h
 
   parameter : slice_get names body.parameter.name ≡ Some s.parameter
   parameter = spelled_at 5 body.parameter (Word s.parameter) b.parameter refl
@@ -97,18 +100,18 @@ module _ (names : List (List ℕ)) (word bytes : List ℕ) (s : Source) (body : 
   placed : (k : ℕ) (t : Token) → slice_get body.tokens k ≡ Some t → IsPlaced (length names) body.tokens k t.place
   placed k t e =
       let there = at k t e in
-      let number : t.place.token ≡ k = ap (λ p. p.token) there.is.place ∙ there.number ∙ omega arith in
+      let number : t.place.token ≡ k = there.is.place ∙ zero-add k in
       record {
         token = t;
         stands = ap (slice_get body.tokens) number ∙ e;
         there = refl;
-        presumed = slice_get_within names t.source word there.is.presumed;
-        filed = ap (λ p. p.file) there.is.place;
+        presumed = slice_get_within names t.source there.lexeme.here.file there.is.source;
+        filed = there.is.file;
         behind = omega (arith, number);
       }
 
   number_of_place : (k : ℕ) (t : Token) → slice_get body.tokens k ≡ Some t → t.place.token ≡ k
-  number_of_place k t e = let there = at k t e in ap (λ p. p.token) there.is.place ∙ there.number ∙ omega arith
+  number_of_place k t e = (at k t e).is.place ∙ zero-add k
 
   module _ (k : ℕ) (n : Node) (ns : Nodes) (first : Token) (e : slice_get body.tokens k ≡ Some first) (is : first_of n ≡ first.place) where
     -- a statement at a token, and the statements behind it

@@ -1,14 +1,14 @@
 -- What each status says of a run.
-use Rattle.std.proofs.Common.{◌≡◌, ◌≢◌, ◌⊎◌, inl, inr, ℕ, false, List, [], Option, sym, ◌∙◌, subst}
+use Rattle.std.proofs.Common.{◌≡◌, ◌≢◌, ◌⊎◌, inl, inr, ℕ, false, List, [], Option, refl, sym, ◌∙◌, subst}
 use Rattle.std.proofs.lemmas.Bool.{true≢false}
 use Rattle.mx_io.specs.Causes.{Rose}
 use Rattle.path_model.specs.declared.report.Report.{Report}
 use Rattle.metalcheck.specs.declared.status.Status.{Status}
 use Rattle.metalcheck.specs.declared.status.Status.TheVariants.{Clean, Reports, Usage, Refused, ReadFault, WriteFault, NoMemory}
 use Rattle.metalcheck.specs.Due.{IsDue, IsReported, IsRefused, IsLacking}
-use Rattle.metalcheck.specs.Ran.{Ran, Prints, Refuses, Misses}
+use Rattle.metalcheck.specs.Ran.{Ran, Prints, Misuses, Refuses, Misses}
 use Rattle.metalcheck.specs.Words.{is_request_of}
-use Rattle.metalcheck.specs.Written.{SinkStep, Written, Took}
+use Rattle.metalcheck.specs.Written.{SinkStep, Written, Took, IsStill}
 
 module _ (told : List ℕ → Option (List ℕ)) (names old new : List (List ℕ)) (result : Status) (out errs : SinkStep) where
   -- what was due under a status was written whole
@@ -18,44 +18,57 @@ module _ (told : List ℕ → Option (List ℕ)) (names old new : List (List ℕ
     pub due : IsDue told names old new s text line
     pub took_out : Took out text
     pub took_errs : Took errs line
+    pub out_still : IsStill out
+    pub errs_still : IsStill errs
 
   done : (s : Status) → s ≢ NoMemory → s ≢ WriteFault → Ran told names old new result out errs → result ≡ s → Done s
   done s memory fault (inl stops) e = absurd (memory (sym e ∙ stops.status))
   done s memory fault (inr c) e = by c.written
     where
       by : Written c.status c.text c.line result out errs → Done s
-      by (inl w) = record { text = c.text; line = c.line; due = subst (λ x. IsDue told names old new x c.text c.line) (sym w.0 ∙ e) c.due; took_out = w.1; took_errs = w.2 }
+      by (inl w) = record { text = c.text; line = c.line; due = subst (λ x. IsDue told names old new x c.text c.line) (sym w.0 ∙ e) c.due; took_out = w.1; took_errs = w.2; out_still = w.3; errs_still = w.4 }
       by (inr (inl w)) = absurd (fault (sym e ∙ w.0))
       by (inr (inr w)) = absurd (fault (sym e ∙ w.0))
 
-  prints : (IsAsked : List Report → Type 0) (text line : List ℕ) → IsReported told names old new text line IsAsked → Took out text → Took errs line → Prints told names old new out errs IsAsked
-  prints IsAsked text line r o e = record {
+  prints : (IsAsked : List Report → Type 0) (text line : List ℕ) → IsReported told names old new text line IsAsked → Took out text → Took errs line → IsStill out → IsStill errs
+      → Prints told names old new out errs IsAsked
+  prints IsAsked text line r o e out-still errs-still = record {
     texts = r.texts;
     reports = r.reports;
     accepted = r.accepted;
     asked = r.asked;
     printed = subst (Took out) r.text_is o;
     nothing = subst (Took errs) r.line_is e;
+    out_still = out-still;
+    errs_still = errs-still;
   }
 
   pub clean : Ran told names old new result out errs → result ≡ Clean → Prints told names old new out errs (λ reports. reports ≡ [])
-  clean ran e = let d = done Clean (λ k. cc) (λ k. cc) ran e in prints (λ reports. reports ≡ []) d.text d.line d.due d.took_out d.took_errs
+  clean ran e = let d = done Clean (λ k. cc) (λ k. cc) ran e in prints (λ reports. reports ≡ []) d.text d.line d.due d.took_out d.took_errs d.out_still d.errs_still
 
   pub reports : Ran told names old new result out errs → result ≡ Reports → Prints told names old new out errs (λ reports. reports ≢ [])
-  reports ran e = let d = done Reports (λ k. cc) (λ k. cc) ran e in prints (λ rs. rs ≢ []) d.text d.line d.due d.took_out d.took_errs
+  reports ran e = let d = done Reports (λ k. cc) (λ k. cc) ran e in prints (λ rs. rs ≢ []) d.text d.line d.due d.took_out d.took_errs d.out_still d.errs_still
 
-  pub usage : Ran told names old new result out errs → result ≡ Usage → is_request_of names ≡ false
-  usage ran e = (done Usage (λ k. cc) (λ k. cc) ran e).due.words
+  pub usage : Ran told names old new result out errs → result ≡ Usage → Misuses names old new out errs
+  usage ran e =
+      let d = done Usage (λ k. cc) (λ k. cc) ran e in
+      record {
+        cause = record { words = d.due.words; none_failed = d.due.none_failed; text_is = refl; line_is = refl };
+        nothing = subst (Took out) d.due.text_is d.took_out;
+        printed = subst (Took errs) d.due.line_is d.took_errs;
+        out_still = d.out_still;
+        errs_still = d.errs_still;
+      }
 
   pub refused : Ran told names old new result out errs → result ≡ Refused → Refuses told names old new out errs
   refused ran e =
       let d = done Refused (λ k. cc) (λ k. cc) ran e in
-      record { line = d.line; cause = subst (λ t. IsRefused told names old new t d.line) d.due.text_is d.due; nothing = subst (Took out) d.due.text_is d.took_out; printed = d.took_errs }
+      record { line = d.line; cause = subst (λ t. IsRefused told names old new t d.line) d.due.text_is d.due; nothing = subst (Took out) d.due.text_is d.took_out; printed = d.took_errs; out_still = d.out_still; errs_still = d.errs_still }
 
   pub read_fault : Ran told names old new result out errs → result ≡ ReadFault → Misses told names old new out errs
   read_fault ran e =
       let d = done ReadFault (λ k. cc) (λ k. cc) ran e in
-      record { line = d.line; cause = subst (λ t. IsLacking told names old new t d.line) d.due.text_is d.due; nothing = subst (Took out) d.due.text_is d.took_out; printed = d.took_errs }
+      record { line = d.line; cause = subst (λ t. IsLacking told names old new t d.line) d.due.text_is d.due; nothing = subst (Took out) d.due.text_is d.took_out; printed = d.took_errs; out_still = d.out_still; errs_still = d.errs_still }
 
   pub write_fault : Ran told names old new result out errs → result ≡ WriteFault → Rose out.faults_before out.faults_after ⊎ Rose errs.faults_before errs.faults_after
   write_fault (inl stops) e = let k = stops.status in cc

@@ -2,8 +2,7 @@
 use Rattle.std.specs.Prelude.{◌≡◌, ◌≢◌, ℕ, true, false, ◌⊎◌, List, [], ◌∷◌, ◌++◌, length, Option, codes}
 use Rattle.path_model.specs.declared.report.Report.{Report}
 use Rattle.path_model.specs.Reports.{text_of}
-use Rattle.metalcheck.specs.declared.fault.Fault.{Fault}
-use Rattle.metalcheck.specs.declared.fault.Fault.TheVariants.{TooLarge, NotYet}
+use Rattle.metalcheck.specs.Located.{Located, refused_line}
 use Rattle.metalcheck.specs.declared.status.Status.{Status}
 use Rattle.metalcheck.specs.declared.status.Status.TheVariants.{Clean, Reports, Usage, Refused, ReadFault, WriteFault, NoMemory}
 use Rattle.metalcheck.specs.Judged.{AreJudged}
@@ -15,13 +14,6 @@ usage_line = codes "usage: metalcheck [--depth N] [--format NAME] [--stats] FILE
 
 abbrev pub not_read_line : List ℕ → List ℕ
 not_read_line name = name ++ (codes ": not read" ++ 10 ∷ [])
-
-abbrev pub fault_name : Fault → List ℕ
-fault_name TooLarge = codes "TooLarge"
-fault_name NotYet = codes "NotYet"
-
-abbrev pub refused_line : List ℕ → Fault → List ℕ
-refused_line name fault = name ++ (codes ":1: refused: " ++ (fault_name fault ++ 10 ∷ []))
 
 -- at most one read failed: that of a file whose turn had come
 abbrev pub FailedInTurn : (List ℕ → Option (List ℕ)) → List (List ℕ) → List (List ℕ) → List (List ℕ) → Type 0
@@ -55,11 +47,11 @@ pub record IsMisused (names old new : List (List ℕ)) (text line : List ℕ) : 
 pub record IsRefused (told : List ℕ → Option (List ℕ)) (names old new : List (List ℕ)) (text line : List ℕ) : Type 0 where
   pub request : is_request_of names ≡ true
   pub position : ℕ
-  pub fault : Fault
+  pub fault : Located
   pub faulty : FaultyAt told names position fault
   pub none_failed : new ≡ old
   pub text_is : text ≡ []
-  pub line_is : line ≡ refused_line faulty.turn.name fault
+  pub line_is : line ≡ refused_line fault
 
 -- a read failed
 pub record IsLacking (told : List ℕ → Option (List ℕ)) (names old new : List (List ℕ)) (text line : List ℕ) : Type 0 where

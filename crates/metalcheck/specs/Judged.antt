@@ -5,9 +5,9 @@ use Rattle.path_model.specs.declared.machine.Machine.{Machine}
 use Rattle.path_model.specs.declared.report.Report.{Report}
 use Rattle.path_model.specs.Events.{Body}
 use Rattle.path_model.specs.Reports.{AreReports}
-use Rattle.metalcheck.specs.SmallBody.{IsBody}
-use Rattle.metalcheck.specs.SmallChecker.{Checker, IsSmallChecker, IsMachine}
-use Rattle.metalcheck.specs.SmallSource.{Source}
+use Rattle.small_form.specs.SmallBody.{IsBody}
+use Rattle.small_form.specs.SmallChecker.{Checker, IsSmallChecker, IsMachine}
+use Rattle.small_form.specs.SmallSource.{Source}
 
 -- under some numbering of names the checker's text is this machine, the C file's text has this body, and these are the reports
 pub record IsJudged (word checker_bytes source_bytes : List ℕ) (reports : List Report) : Type 0 where

@@ -5,9 +5,9 @@ use Rattle.path_model.specs.declared.report.Report.{Report}
 use Rattle.path_model.specs.Reports.{text_of}
 use Rattle.metalcheck.specs.declared.status.Status.{Status}
 use Rattle.metalcheck.specs.declared.status.Status.TheVariants.{Clean, Reports, NoMemory}
-use Rattle.metalcheck.specs.Due.{IsDue, FailedInTurn, IsAccepted, IsRefused, IsLacking}
+use Rattle.metalcheck.specs.Due.{IsDue, FailedInTurn, IsAccepted, IsMisused, IsRefused, IsLacking, usage_line}
 use Rattle.metalcheck.specs.Judged.{AreJudged}
-use Rattle.metalcheck.specs.Written.{SinkStep, Written, Took}
+use Rattle.metalcheck.specs.Written.{SinkStep, Written, Took, IsStill}
 
 abbrev pub sink_step : Option (List ℕ) → Option (List ℕ) → ℕ → ℕ → SinkStep
 sink_step before after faults_before faults_after = record { before = before; after = after; faults_before = faults_before; faults_after = faults_after }
@@ -42,6 +42,8 @@ pub record Prints (told : List ℕ → Option (List ℕ)) (names old new : List 
   pub asked : IsAsked reports
   pub printed : Took out (text_of reports)
   pub nothing : Took errs []
+  pub out_still : IsStill out
+  pub errs_still : IsStill errs
 
 -- the line of a refusal was printed, and nothing else
 pub record Refuses (told : List ℕ → Option (List ℕ)) (names old new : List (List ℕ)) (out errs : SinkStep) : Type 0 where
@@ -49,6 +51,8 @@ pub record Refuses (told : List ℕ → Option (List ℕ)) (names old new : List
   pub cause : IsRefused told names old new [] line
   pub nothing : Took out []
   pub printed : Took errs line
+  pub out_still : IsStill out
+  pub errs_still : IsStill errs
 
 -- the line on a file that wasn't read was printed, and nothing else
 pub record Misses (told : List ℕ → Option (List ℕ)) (names old new : List (List ℕ)) (out errs : SinkStep) : Type 0 where
@@ -56,6 +60,16 @@ pub record Misses (told : List ℕ → Option (List ℕ)) (names old new : List 
   pub cause : IsLacking told names old new [] line
   pub nothing : Took out []
   pub printed : Took errs line
+  pub out_still : IsStill out
+  pub errs_still : IsStill errs
+
+-- the line on the use of the command was printed, and nothing else
+pub record Misuses (names old new : List (List ℕ)) (out errs : SinkStep) : Type 0 where
+  pub cause : IsMisused names old new [] usage_line
+  pub nothing : Took out []
+  pub printed : Took errs usage_line
+  pub out_still : IsStill out
+  pub errs_still : IsStill errs
 
 -- all contents are told, and these are they
 abbrev pub Tells : (List ℕ → Option (List ℕ)) → List (List ℕ) → List (List ℕ) → Type 0

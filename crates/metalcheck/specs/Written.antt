@@ -23,9 +23,13 @@ Took s bytes = Appends s.before s.after bytes
 abbrev pub Broke : SinkStep → List ℕ → Type 0
 Broke s bytes = Rose s.faults_before s.faults_after × AppendsPart s.before s.after bytes
 
--- all was written; or `out` broke; or `errs` broke after `out` took all
+-- no write failed
+abbrev pub IsStill : SinkStep → Type 0
+IsStill s = s.faults_after ≡ s.faults_before
+
+-- all was written, and no write failed; or `out` broke; or `errs` broke after `out` took all
 abbrev pub Written : Status → List ℕ → List ℕ → Status → SinkStep → SinkStep → Type 0
 Written status text line result out errs =
-    ((result ≡ status) × Took out text × Took errs line)
-    ⊎ (((result ≡ WriteFault) × Broke out text × Took errs [])
-    ⊎ ((result ≡ WriteFault) × Took out text × Broke errs line))
+    ((result ≡ status) × Took out text × Took errs line × IsStill out × IsStill errs)
+    ⊎ (((result ≡ WriteFault) × Broke out text × Took errs [] × IsStill errs)
+    ⊎ ((result ≡ WriteFault) × Took out text × Broke errs line × IsStill out))

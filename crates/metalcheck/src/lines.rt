@@ -8,7 +8,7 @@ use path_model::Report;
 use std::alloc::{AllocError, Global};
 
 /// Appends texts, one behind the other.
-fn append_all(texts: &[&[u8]], text: &mut Vec<u8>) -> Result<(), AllocError>
+pub fn append_all(texts: &[&[u8]], text: &mut Vec<u8>) -> Result<(), AllocError>
     ensures { OnOk result (text.new.items ≡ text.old.items ++ flat_map (λ t. t.now) texts.now) }
 {
     for piece in texts {

@@ -9,7 +9,6 @@ mod lines;
 mod plan;
 mod program;
 mod refusal;
-mod small;
 mod status;
 #[cfg(test)]
 mod tests;

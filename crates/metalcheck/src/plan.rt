@@ -42,8 +42,8 @@ pub fn decide<F: Files>(alloc: Global, words: &[String], files: &mut F) -> Resul
                 line,
             })
         }
-        Outcome::Faulty(position, fault) => {
-            let line = refused(alloc, words[position].as_str(), fault)?;
+        Outcome::Faulty(_, located) => {
+            let line = refused(alloc, &located)?;
             Ok(Plan {
                 status: Status::Refused,
                 text,

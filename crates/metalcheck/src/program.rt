@@ -2,9 +2,8 @@
 
 ghost use Rattle.std.specs.Prelude.{◌≡◌, ◌≢◌, ◌⊎◌, ℕ, List, [], true, false, map, string_bytes};
 ghost use Rattle.mx_io.specs.Causes.{Rose};
-ghost use Rattle.metalcheck.specs.Ran.{Ran, Prints, Refuses, Misses, Tells, NoRise, Completes, sink_step};
-ghost use Rattle.metalcheck.specs.Reading.{AreSoundFrom, FaultyAt};
-ghost use Rattle.metalcheck.specs.declared.fault.Fault.{Fault};
+ghost use Rattle.metalcheck.specs.Ran.{Ran, Prints, Misuses, Refuses, Misses, Tells, NoRise, Completes, sink_step};
+ghost use Rattle.metalcheck.specs.Reading.{AreFaultlessFrom, UnsoundAt};
 ghost use Rattle.metalcheck.specs.Words.{is_request_of};
 
 use crate::plan::decide;
@@ -60,7 +59,10 @@ pub fn run<F: Files, O: Sink, E: Sink>(
         Prints (F.contents files.old) (map string_bytes words.now) (F.failed files.old) (F.failed files.new)
         (sink_step (O.received out.old) (O.received out.new) (O.faults out.old) (O.faults out.new))
         (sink_step (E.received errs.old) (E.received errs.new) (E.faults errs.old) (E.faults errs.new)) (λ reports. reports ≢ []) }
-    ensures usage { result ≡ Status.Usage → is_request_of (map string_bytes words.now) ≡ false }
+    ensures usage { result ≡ Status.Usage →
+        Misuses (map string_bytes words.now) (F.failed files.old) (F.failed files.new)
+        (sink_step (O.received out.old) (O.received out.new) (O.faults out.old) (O.faults out.new))
+        (sink_step (E.received errs.old) (E.received errs.new) (E.faults errs.old) (E.faults errs.new)) }
     ensures refused { result ≡ Status.Refused →
         Refuses (F.contents files.old) (map string_bytes words.now) (F.failed files.old) (F.failed files.new)
         (sink_step (O.received out.old) (O.received out.new) (O.faults out.old) (O.faults out.new))
@@ -74,15 +76,15 @@ pub fn run<F: Files, O: Sink, E: Sink>(
 
     // What leads to each status. The contents are told in these two; over files in memory they are.
     ensures complete { (texts : List (List ℕ)) → is_request_of (map string_bytes words.now) ≡ true →
-        Tells (F.contents files.old) (map string_bytes words.now) texts → AreSoundFrom 0 33554432 texts →
+        Tells (F.contents files.old) (map string_bytes words.now) texts → AreFaultlessFrom 0 33554432 (map string_bytes words.now) texts →
         F.failed files.new ≡ F.failed files.old → NoRise (O.faults out.old) (O.faults out.new) →
         NoRise (E.faults errs.old) (E.faults errs.new) → result ≢ Status.NoMemory →
         Completes (map string_bytes words.now) texts result
         (sink_step (O.received out.old) (O.received out.new) (O.faults out.old) (O.faults out.new))
         (sink_step (E.received errs.old) (E.received errs.new) (E.faults errs.old) (E.faults errs.new)) }
-    ensures faulty { (texts : List (List ℕ)) (position : ℕ) (fault : Fault) → is_request_of (map string_bytes words.now) ≡ true →
+    ensures faulty { (texts : List (List ℕ)) (position : ℕ) → is_request_of (map string_bytes words.now) ≡ true →
         Tells (F.contents files.old) (map string_bytes words.now) texts →
-        FaultyAt (F.contents files.old) (map string_bytes words.now) position fault →
+        UnsoundAt (F.contents files.old) (map string_bytes words.now) position →
         F.failed files.new ≡ F.failed files.old →
         (result ≡ Status.Refused) ⊎ ((result ≡ Status.WriteFault) ⊎ (result ≡ Status.NoMemory)) }
     ensures no_request { is_request_of (map string_bytes words.now) ≡ false →

@@ -1,9 +1,12 @@
 //! The lines that a run writes to `errs`.
 
 ghost use Rattle.std.specs.Prelude.{◌≡◌, ◌++◌, IfOk};
-ghost use Rattle.metalcheck.specs.Due.{not_read_line, refused_line, usage_line};
+ghost use Rattle.metalcheck.specs.Due.{not_read_line, usage_line};
+ghost use Rattle.metalcheck.specs.Located.{located_of, refused_line};
 
-use crate::fault::Fault;
+use crate::fault::LocatedFault;
+use crate::lines::append_all;
+use itoa::Buffer;
 use std::alloc::{AllocError, Global};
 
 /// How the command is called.
@@ -16,28 +19,29 @@ pub fn usage(alloc: Global) -> Result<Vec<u8>, AllocError>
     )
 }
 
-/// A name and what follows it.
-fn line_with(alloc: Global, name: &str, rest: &[u8]) -> Result<Vec<u8>, AllocError>
-    ensures { IfOk result (λ line. line.items ≡ name.now ++ rest.now) }
-{
-    let mut line = Vec::from_slice(alloc, name.as_bytes())?;
-    line.extend_from_slice(rest)?;
-    Ok(line)
-}
-
 /// A file was not read.
 pub fn not_read(alloc: Global, name: &str) -> Result<Vec<u8>, AllocError>
     ensures { IfOk result (λ line. line.items ≡ not_read_line name.now) }
 {
-    line_with(alloc, name, b": not read\n")
+    let mut line = Vec::from_slice(alloc, name.as_bytes())?;
+    line.extend_from_slice(b": not read\n")?;
+    Ok(line)
 }
 
-/// A file has a fault. The small form names line 1.
-pub fn refused(alloc: Global, name: &str, fault: Fault) -> Result<Vec<u8>, AllocError>
-    ensures { IfOk result (λ line. line.items ≡ refused_line name.now fault) }
+/// A file has a fault.
+pub fn refused(alloc: Global, located: &LocatedFault) -> Result<Vec<u8>, AllocError>
+    ensures { IfOk result (λ line. line.items ≡ refused_line (located_of located.now)) }
 {
-    match fault {
-        Fault::TooLarge => line_with(alloc, name, b":1: refused: TooLarge\n"),
-        Fault::NotYet => line_with(alloc, name, b":1: refused: NotYet\n"),
-    }
+    let mut number = Buffer::new();
+    let place = [
+        located.file.as_slice(),
+        b":",
+        number.format(located.line).as_bytes(),
+        b": refused: ",
+    ];
+    let mut line = Vec::new(alloc);
+    append_all(&place, &mut line)?;
+    line.extend_from_slice(located.fault.name().as_bytes())?;
+    line.push(b'\n')?;
+    Ok(line)
 }

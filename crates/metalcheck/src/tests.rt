@@ -115,6 +115,74 @@ fn refusals_name_their_file(rt: HostRuntime) -> Result<(), Fail> {
     Ok(())
 }
 
+/// C files, and the line that refuses each.
+const REFUSED: &[(&[u8], &[u8])] = &[
+    (b"int x = 08;", b"a.c:1: refused: BadNumber\n"),
+    (b"int c = 'a;", b"a.c:1: refused: OpenText\n"),
+    (b"int @;", b"a.c:1: refused: BadByte\n"),
+    (b"# x", b"a.c:1: refused: BadMarker\n"),
+    (
+        b"# 7 \"b.h\"\nint x;\nint y = 08;",
+        b"b.h:8: refused: BadNumber\n",
+    ),
+    (
+        b"void f(void){ }\n\nvoid g(void){ f() }\nvoid h(void){ g() }\n",
+        b"a.c:3: refused: Syntax\n",
+    ),
+    (b"# 7 \"b.h\"\nint x\n", b"b.h:7: refused: Syntax\n"),
+    (b"void f(void){ x; }", b"a.c:1: refused: Undeclared\n"),
+    (b"void f(int i){ *i; }", b"a.c:1: refused: NotPointer\n"),
+    (b"void f(int i){ i.a; }", b"a.c:1: refused: NotStruct\n"),
+    (
+        b"struct s { int a; }; void f(struct s *p){ p->b; }",
+        b"a.c:1: refused: NoField\n",
+    ),
+    (b"void f(int i){ i(); }", b"a.c:1: refused: NotFunction\n"),
+    (
+        b"void f(int i){ (i + 1) = 2; }",
+        b"a.c:1: refused: NotLvalue\n",
+    ),
+    (b"void f(int i){ int i; }", b"a.c:1: refused: Redeclared\n"),
+    (
+        b"void f(int i){\n i();\n *i; }",
+        b"a.c:2: refused: NotFunction\n",
+    ),
+    (
+        b"# 3 \"c.h\"\nvoid f(int i){\n *i; }",
+        b"c.h:4: refused: NotPointer\n",
+    ),
+    (b"void f(void){ x(); }", b"a.c:1: refused: NotYet\n"),
+    (
+        b"# 3 \"c.h\"\nvoid f(void){ x(); }",
+        b"a.c:1: refused: NotYet\n",
+    ),
+];
+
+#[test]
+fn a_fault_of_a_text_is_named_at_its_line(rt: HostRuntime) -> Result<(), Fail> {
+    for (source, line) in REFUSED {
+        let it = run_over(rt.alloc(), source)?;
+        assert_eq!(rt; it.status, Status::Refused);
+        assert_eq!(rt; it.out.len(), 0);
+        assert_eq!(rt; it.errs.as_slice(), *line);
+    }
+    Ok(())
+}
+
+#[test]
+fn blanks_comments_and_markers_may_stand_in_a_small_file(rt: HostRuntime) -> Result<(), Fail> {
+    let it = run_over(
+        rt.alloc(),
+        b"# 5 \"b.c\"\nvoid f(char *p){ /* gone */\n\tkfree(p);\n\t*p; }",
+    )?;
+    assert_eq!(rt; it.status, Status::Reports);
+    assert_eq!(rt;
+        it.out.as_slice(),
+        b"b.c:7:2: free_checker: using p after free!\n".as_slice()
+    );
+    Ok(())
+}
+
 #[test]
 fn failed_calls_end_the_run(rt: HostRuntime) -> Result<(), Fail> {
     // what fails, the status, and how many bytes `out` and `errs` took

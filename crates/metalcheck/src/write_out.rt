@@ -14,6 +14,7 @@ fn write_whole<S: Sink>(text: &[u8], sink: &mut S) -> Result<(), SinkFailed>
     ensures ok { OnOk result (Appends (S.received sink.old) (S.received sink.new) text.now) }
     ensures part { OnErr result (AppendsPart (S.received sink.old) (S.received sink.new) text.now) }
     ensures rose { OnErr result (Rose (S.faults sink.old) (S.faults sink.new)) }
+    ensures still { OnOk result (S.faults sink.new ≡ S.faults sink.old) }
 {
     let mut at = 0;
     while at < text.len() {

@@ -100,15 +100,14 @@ exit_global Copy a g r i = absurd a
 exit_global Disable a g r i = absurd a
 
 -- the end of a called frame does nothing that its caller could see
-pub ends_quietly : EndsQuietly locks lock_origins IsExit
+pub ends_quietly : EndsQuietly locks IsExit
 ends_quietly = record {
   global = λ e a f g. exit_next e a g;
-  source = exit_source;
   fires = λ e a f g o x r i. exit_report e a o x r i;
   fires_global = λ e a f g r i. exit_global e a g r i;
 }
 
-abbrev pub exits : Exits locks lock_origins
+abbrev pub exits : Exits locks
 exits = record { IsExit = IsExit; Stays = Stays; same = ignores_kind; quiet = ends_quietly }
 
 either_is : (f : Function) (b : Block) → EachStays exits (events_of f b) ⊎ Ends f b
@@ -195,7 +194,7 @@ kept_at Copy i s o a d x = absurd i
 kept_at Disable i s o a d x = absurd i
 
 pub apart : ExitsApart locks lock_origins exits graphs
-apart = record { next = λ n. next_stays _ _ _ n; call = λ n. call_stays _ _ _ _ _ n; last = λ n. last_is _ _ n; kept = λ j e i g o a d x. kept_at e i _ o a d x; either = either_is }
+apart = record { next = λ n. next_stays _ _ _ n; call = λ n. call_stays _ _ _ _ _ n; last = λ n. last_is _ _ n; unmoved = λ j e i o a d. exit_source e i a; kept = λ j e i g o a d x. kept_at e i _ o a d x; either = either_is }
 
 pub own_of_root : (f : Function) (t : Fact locks) → IsRoot f → IsUnknown locks t → is_own f Enabled t ≡ true
 own_of_root Walk NoObject r u = refl

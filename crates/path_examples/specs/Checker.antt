@@ -1,7 +1,7 @@
 -- The rules of the checker, on whole maps: a lock that is held mustn't be taken again nor be held at the end of a
 -- frame, and interrupts mustn't be off at the end of a root.
 -- At the end of a called frame only its local is asked.
-use Rattle.std.specs.Prelude.{◌≡◌, Bool, true, false, Option, Some, None, if◌then◌else◌}
+use Rattle.std.specs.Prelude.{◌≡◌, Bool, true, false, Option, Some, None, if◌then◌else◌, option_and_then}
 use Rattle.path_examples.specs.declared.checker.Variable.{Variable}
 use Rattle.path_examples.specs.declared.checker.Variable.TheVariants.{WalkFormal, WalkLocal, StartFormal, HelpFormal}
 use Rattle.path_examples.specs.declared.checker.Event.{Event}
@@ -16,7 +16,7 @@ use Rattle.path_examples.specs.declared.program.Function.{Function}
 use Rattle.path_examples.specs.declared.program.CallSite.{CallSite}
 use Rattle.path_examples.specs.declared.program.CallSite.TheVariants.{WalkAgain, FirstHelp, SecondHelp}
 use Rattle.path_theory.specs.Model.{Model}
-use Rattle.path_theory.specs.Origins.{Origins, and_then, handed}
+use Rattle.path_theory.specs.Origins.{Origins, handed}
 
 -- the local of walk takes the state of its formal
 abbrev pub source_of : Event → Variable → Option Variable
@@ -98,8 +98,8 @@ locks = record {
   State = LockState;
   Report = Report;
   start = Enabled;
-  moved = λ e m o. and_then (source_of e o) m;
-  entered = λ s m o. and_then (into_of s o) m;
+  moved = λ e m o. option_and_then m (source_of e o);
+  entered = λ s m o. option_and_then m (into_of s o);
   returned = λ s n m o. handed (out_of s o) n (m o);
   next_global = λ e f k g. next_interrupts e g;
   choose = λ e f k g o x. choice e k o x;

@@ -26,7 +26,7 @@ module _ (M : Model) (L : Origins M) (A : Objects M) (G : FlowGraphs M) (C : Kin
     saved = λ x c s j y l d. k _ _ _ x y (StepSaved _ _ _ _ s _ c j refl refl l d);
   }
 
-  module _ (E : Exits M L) (N : ExitsApart M L E G) (I : IsLocal M L) (Q : IsClosed M (supergraph M G) L A) where
+  module _ (E : Exits M) (N : ExitsApart M L E G) (I : IsLocal M L) (Q : IsClosed M (supergraph M G) L A) where
     -- the entry is a path edge in the kind of frame of its context
     Fits : Entry M G → Type 0
     Fits e = MergedEdge M L A G C e.fn e.global₀ e.fact₀ e.block e.global e.fact

@@ -5,8 +5,8 @@ use Rattle.path_theory.specs.Model.{Model}
 use Rattle.path_theory.specs.Supergraph.{Supergraph}
 use Rattle.path_theory.specs.Trails.{Trail, Start, More}
 use Rattle.path_theory.specs.Paths.{Callers, NoCaller, Waiting, Path, Begin, Skip, Go, Call, Return, Maps, Now, after, Reported, ReportOf, ReportOfGlobal}
-use Rattle.path_theory.specs.Actions.{Action, Did, Called, Returned, Actions, Frame, State, go, call, back_to, fold, Errors}
-use Rattle.path_theory.specs.FlatPaths.{root_of, actions_of, IsPath, Taken, InErrors}
+use Rattle.path_theory.specs.Actions.{Action, Did, Called, Returned, Actions, Frame, State, go, call, back_to, fold, TakenAt, Errors}
+use Rattle.path_theory.specs.FlatPaths.{root_of, actions_of, IsPath, InErrors}
 use Rattle.path_theory.proofs.SmallFacts.{start_more, more_init}
 
 more_did : {E S F : Type 0} {l m : Trail (Action E S F)} {a b : E} → More l (Did a) ≡ More m (Did b) → a ≡ b
@@ -70,7 +70,15 @@ module _ (M : Model) (K : Supergraph M) where
   last_event (Call P s h t) d = called_did d
   last_event (Return s P t) d = returned_did d
 
-  pub taken : (r : M.Report) → Reported M K r → Taken M K r
+  -- some path takes the report at its last event
+  pub record Taken (r : M.Report) : Type 0 where
+    pub root : M.Fn
+    pub actions : Actions M
+    pub event : M.Event
+    pub path : IsPath M K root (More actions (Did event))
+    pub takes : TakenAt M event (fold M root actions) r
+
+  pub taken : (r : M.Report) → Reported M K r → Taken r
   taken r (ReportOf {f = f} {k = k} P e t o i) = record {
     root = root_of M K P;
     actions = actions_of M K P;
@@ -86,7 +94,7 @@ module _ (M : Model) (K : Supergraph M) where
     takes = inr (subst (λ (n : State M). M.FiresGlobal e n.top.fn n.top.is_root n.global r) (sym (folded P)) i);
   }
 
-  pub of_taken : (r : M.Report) → Taken M K r → Reported M K r
+  pub of_taken : (r : M.Report) → Taken r → Reported M K r
   of_taken r w =
       let v = last_event w.path.path w.path.actions_are in
       let same : fold M w.root w.actions ≡ state_of v.fn v.kind (after M K v.path) =
@@ -97,7 +105,7 @@ module _ (M : Model) (K : Supergraph M) where
       ]
 
   -- a report on the way is one at the end of a prefix
-  errors_taken : (f : M.Fn) (l : Actions M) (r : M.Report) → IsPath M K f l → Errors M f l r → Taken M K r
+  errors_taken : (f : M.Fn) (l : Actions M) (r : M.Report) → IsPath M K f l → Errors M f l r → Taken r
   errors_taken f Start r w e = absurd e
   errors_taken f (More l (Did d)) r w e =
       elim e [

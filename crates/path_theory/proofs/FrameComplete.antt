@@ -1,11 +1,11 @@
 -- Each run of a frame is met by frame edges of its length, without object and for each object that is followed; and
 -- open frames are met by beginnings.
 -- The induction goes over the run, the runs of callees among its parts, and then over the open frames.
-use Rattle.std.proofs.Common.{◌≡◌, ℕ, suc, ◌+◌, Bool, false, Option, Some, None, refl, sym, ◌∙◌, ap, subst}
+use Rattle.std.proofs.Common.{◌≡◌, ℕ, suc, ◌+◌, Bool, false, Option, Some, None, refl, sym, ◌∙◌, ap, subst, option_and_then}
 use Rattle.path_theory.specs.Model.{Model}
 use Rattle.path_theory.specs.Supergraph.{Supergraph}
 use Rattle.path_theory.specs.Paths.{Callers, Map}
-use Rattle.path_theory.specs.Origins.{Origins, IsLocal, and_then, handed}
+use Rattle.path_theory.specs.Origins.{Origins, IsLocal, handed}
 use Rattle.path_theory.specs.Runs.{Run, Here, Skipped, Gone, Closed, run_global, run_map, origin}
 use Rattle.path_theory.specs.OpenFrames.{OpenFrames, RootFrame, CalledFrame, at_entry}
 use Rattle.path_theory.specs.Facts.{NoObject, HasObject, Fact, Gives, fact_of, Objects}
@@ -20,8 +20,8 @@ module _ (M : Model) (K : Supergraph M) (L : Origins M) (I : IsLocal M L) (A : O
   closed_origin : {f h : M.Fn} {p q r : K.Place} (R : Run M K f p) (s : M.Site) (t : K.Calls f p s h q)
       (C : Run M K h r) (e : K.Ends h r) (o : M.Obj) (z : Option M.Obj)
       → L.out s o ≡ z
-      → origin M K L (Closed R s t C e) o ≡ handed z (λ c. and_then (and_then (origin M K L C c) (L.into s)) (origin M K L R)) (origin M K L R o)
-  closed_origin R s t C e o z d = ap (λ y. handed y (λ c. and_then (and_then (origin M K L C c) (L.into s)) (origin M K L R)) (origin M K L R o)) d
+      → origin M K L (Closed R s t C e) o ≡ handed z (λ c. option_and_then (origin M K L R) (option_and_then (L.into s) (origin M K L C c))) (origin M K L R o)
+  closed_origin R s t C e o z d = ap (λ y. handed y (λ c. option_and_then (origin M K L R) (option_and_then (L.into s) (origin M K L C c))) (origin M K L R o)) d
 
   closed_state : {f h : M.Fn} {p q r : K.Place} (R : Run M K f p) (s : M.Site) (t : K.Calls f p s h q)
       (C : Run M K h r) (e : K.Ends h r) (k : Bool) (g : M.Global) (m : Map M) (o : M.Obj) (z : Option M.Obj)
@@ -44,7 +44,7 @@ module _ (M : Model) (K : Supergraph M) (L : Origins M) (I : IsLocal M L) (A : O
 
   pub covers : {f : M.Fn} {p : K.Place} (R : Run M K f p) (k : Bool) (g : M.Global) (m : Map M) → Costed R k g m
       → (z : Option M.Obj) → ((b : M.Obj) → z ≡ Some b → A f b)
-      → D f k g (fact_of (and_then z (origin M K L R)) m) p (run_global M K R k g) (fact_of z (run_map M K R k g m)) (run_length M K R)
+      → D f k g (fact_of (option_and_then (origin M K L R) z) m) p (run_global M K R k g) (fact_of z (run_map M K R k g m)) (run_length M K R)
   covers R k g m c None h = c.bare
   covers R k g m c (Some o) h = c.object o (h o refl)
 
@@ -54,7 +54,7 @@ module _ (M : Model) (K : Supergraph M) (L : Origins M) (I : IsLocal M L) (A : O
   costed_go {f = f} R e t k g m c = record {
     bare = AlongEventIn c.bare e t EventNone;
     object = λ o a. same
-        (AlongEventIn (covers R k g m c (L.source e o) (λ b d. Q.source o b (event_of M K R e t) d a)) e t (EventObject o (and_then (L.source e o) (run_map M K R k g m)) (if_no_object (fact_of (L.source e o) (run_map M K R k g m)) a) (gives_fact_of (L.source e o) (run_map M K R k g m))))
+        (AlongEventIn (covers R k g m c (L.source e o) (λ b d. Q.source o b (event_of M K R e t) d a)) e t (EventObject o (option_and_then (run_map M K R k g m) (L.source e o)) (if_no_object (fact_of (L.source e o) (run_map M K R k g m)) a) (gives_fact_of (L.source e o) (run_map M K R k g m))))
         refl
         (ap (λ x. HasObject o (M.choose e f k (run_global M K R k g) o x)) (sym (I.moved e (run_map M K R k g m) o)));
   }
@@ -63,7 +63,7 @@ module _ (M : Model) (K : Supergraph M) (L : Origins M) (I : IsLocal M L) (A : O
       (C : Run M K h r) (e : K.Ends h r) (k : Bool) (g : M.Global) (m : Map M)
       → Costed R k g m → Costed C false (run_global M K R k g) (M.entered s (run_map M K R k g m)) → (o b : M.Obj)
       → A f o → A h b → L.out s o ≡ Some b → (y : Option M.Obj) → origin M K L C b ≡ y
-      → D f k g (fact_of (and_then (and_then y (L.into s)) (origin M K L R)) m) q (run_global M K C false (run_global M K R k g)) (HasObject o (in_callee M K R s C k g m b)) (suc (suc (run_length M K R + run_length M K C)))
+      → D f k g (fact_of (option_and_then (origin M K L R) (option_and_then (L.into s) y)) m) q (run_global M K C false (run_global M K R k g)) (HasObject o (in_callee M K R s C k g m b)) (suc (suc (run_length M K R + run_length M K C)))
   handed_object R s t C e k g m c v o b a l d None i =
       OverCallIn c.bare s t CallNone (same (v.object b l) (ap (λ y. fact_of y (M.entered s (run_map M K R k g m))) i) refl) e (ReturnObject o b _ a d)
   handed_object {h = h} R s t C e k g m c v o b a l d (Some z) i =
@@ -105,7 +105,7 @@ module _ (M : Model) (K : Supergraph M) (L : Origins M) (I : IsLocal M L) (A : O
   begins_fact O c (Some o) h = c.object o (h o refl)
 
   pub leads_in : {f : M.Fn} {p : K.Place} (R : Run M K f p) (z : Option M.Obj) → ((o : M.Obj) → z ≡ Some o → A f o)
-      → (b : M.Obj) → and_then z (origin M K L R) ≡ Some b → A f b
+      → (b : M.Obj) → option_and_then (origin M K L R) z ≡ Some b → A f b
   leads_in R z h b d = let w = then_known z (origin M K L R) b d in origin_in M K L I A Q R w.0 b w.2 (h w.0 w.1)
 
   -- open frames have their beginnings
@@ -121,7 +121,7 @@ module _ (M : Model) (K : Supergraph M) (L : Origins M) (I : IsLocal M L) (A : O
         object = λ o a.
             let into = λ (x : M.Obj) (d : L.into s o ≡ Some x). Q.into o x (call_of M K R s t) d a in
             subst (λ x. Begins M K L A h false (run_global M K R k g) (HasObject o x) (suc (frames_length M K O + run_length M K R))) (sym (I.entered s (run_map M K R k g m) o))
-            (BeginsCall (begins_fact O b (and_then (L.into s o) (origin M K L R)) (leads_in R (L.into s o) into)) (covers R k g m c (L.into s o) into) s t
-            (CallObject o (and_then (L.into s o) (run_map M K R k g m)) a (gives_fact_of (L.into s o) (run_map M K R k g m))));
+            (BeginsCall (begins_fact O b (option_and_then (origin M K L R) (L.into s o)) (leads_in R (L.into s o) into)) (covers R k g m c (L.into s o) into) s t
+            (CallObject o (option_and_then (run_map M K R k g m) (L.into s o)) a (gives_fact_of (L.into s o) (run_map M K R k g m))));
         known = known_entered M K L I A Q R s t (run_map M K R k g m) (known_run M K L I A Q R k g m b.known);
       }

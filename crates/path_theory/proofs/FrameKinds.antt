@@ -16,7 +16,7 @@ use Rattle.path_theory.specs.FrameEnds.{Exits, EachStays, ExitsApart}
 use Rattle.path_theory.proofs.Independence.{independent}
 use Rattle.path_theory.proofs.SmallFacts.{no_object_object, fact_of_same, fact_of_some}
 
-module _ (M : Model) (L : Origins M) (E : Exits M L) where
+module _ (M : Model) (L : Origins M) (E : Exits M) where
   module _ (K : Supergraph M) where
     -- no event of the frame itself ends it
     abbrev pub IsInside : {f : M.Fn} {p : K.Place} → Run M K f p → Type 0

@@ -1,11 +1,11 @@
--- Each object that has a known state on a path, or takes a rule there, is among those that are followed; and so is
+-- Each object that has a known state on a path, or gives a report there, is among those that are followed; and so is
 -- each from which such an object has its state.
-use Rattle.std.proofs.Common.{◌≡◌, Bool, false, Option, Some, None, refl, sym, ◌∙◌, subst, inl, inr}
+use Rattle.std.proofs.Common.{◌≡◌, Bool, false, Option, Some, None, refl, sym, ◌∙◌, subst, inl, inr, option_and_then}
 use Rattle.path_theory.specs.Model.{Model}
 use Rattle.path_theory.specs.Supergraph.{Supergraph}
 use Rattle.path_theory.specs.Walks.{Walk, WalkStart, WalkSkip, WalkGo, WalkCall}
 use Rattle.path_theory.specs.Paths.{Map}
-use Rattle.path_theory.specs.Origins.{Origins, IsLocal, and_then}
+use Rattle.path_theory.specs.Origins.{Origins, IsLocal}
 use Rattle.path_theory.specs.Runs.{Run, Here, Skipped, Gone, Closed, run_global, run_map, origin, labels_of}
 use Rattle.path_theory.specs.Facts.{Objects}
 use Rattle.path_theory.specs.Relevant.{EventOf, CallOf, IsClosed}
@@ -40,9 +40,9 @@ module _ (M : Model) (K : Supergraph M) (L : Origins M) (I : IsLocal M L) (A : O
       let w = then_known (L.source e o) (origin M K L R) b d in
       origin_in R w.0 b w.2 (Q.source o w.0 (event_of M K R e t) w.1 a)
   origin_in (Closed R s t C e) o b d a =
-      elim (handed_known (L.out s o) (λ c. and_then (and_then (origin M K L C c) (L.into s)) (origin M K L R)) (origin M K L R o) b d) [
+      elim (handed_known (L.out s o) (λ c. option_and_then (origin M K L R) (option_and_then (L.into s) (origin M K L C c))) (origin M K L R o) b d) [
         | inl w ↦
-            let v = then_known (and_then (origin M K L C w.0) (L.into s)) (origin M K L R) b w.2 in
+            let v = then_known (option_and_then (L.into s) (origin M K L C w.0)) (origin M K L R) b w.2 in
             let u = then_known (origin M K L C w.0) (L.into s) v.0 v.1 in
             let call = call_of M K R s t in
             origin_in R v.0 b v.2 (Q.into u.0 v.0 call u.2 (origin_in C w.0 u.0 u.1 (Q.out o w.0 call w.1 a)))
@@ -80,7 +80,7 @@ module _ (M : Model) (K : Supergraph M) (L : Origins M) (I : IsLocal M L) (A : O
         | inr i ↦ known_run R k g m h o x i
       ]
 
-  -- an object that takes a rule is followed
+  -- an object that gives a report is followed
   pub taken : {f : M.Fn} {p q : K.Place} (R : Run M K f p) (e : M.Event) (t : K.Goes f p e q) (k : Bool)
       (g : M.Global) (m : Map M)
       → Known f m → (o : M.Obj) (y : Option M.State) → M.moved e m o ≡ y → (r : M.Report) → M.Fires e f k g o y r

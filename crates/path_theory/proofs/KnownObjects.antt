@@ -1,5 +1,4 @@
--- On every path each object with a known state is followed, and so is each that takes a rule with a report at its next
--- event.
+-- On every path each object with a known state is followed, and so is each that gives a report at its next event.
 -- So nothing is lost by leaving out the objects that aren't followed.
 use Rattle.std.proofs.Common.{◌≡◌, Bool, Some, refl, sym, ◌∙◌, ap}
 use Rattle.path_theory.specs.Model.{Model}

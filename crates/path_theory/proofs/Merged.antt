@@ -22,7 +22,7 @@ abbrev pub InSome : (M : Model) (L : Origins M) (G : FlowGraphs M) → M.Fn → 
     → Fact M → Type 0
 InSome M L G f g₀ t₀ b g t = (k : Bool) × Realised M (supergraph M G) L f k g₀ t₀ (Head b) g t
 
-module _ (M : Model) (L : Origins M) (A : Objects M) (G : FlowGraphs M) (C : Kinds M G) (E : Exits M L) (N : ExitsApart M L E G) (I : IsLocal M L) (Q : IsClosed M (supergraph M G) L A)
+module _ (M : Model) (L : Origins M) (A : Objects M) (G : FlowGraphs M) (C : Kinds M G) (E : Exits M) (N : ExitsApart M L E G) (I : IsLocal M L) (Q : IsClosed M (supergraph M G) L A)
     (X : M.Fn → M.Global → Fact M → G.Block → M.Global → Fact M → Type 0) (S : IsSaturatedMerged M L A G C X)
     (V : (f : M.Fn) (g₀ : M.Global) (t₀ : Fact M) (b : G.Block) (g : M.Global) (t : Fact M) → X f g₀ t₀ b g t → MergedEdge M L A G C f g₀ t₀ b g t) where
   -- the entries are what is realised in a frame of some kind

@@ -32,7 +32,7 @@ head_is d = cc
 two_one : {A : Type 0} {a b c : A} {l : List A} → a ∷ b ∷ l ≡ c ∷ [] → ⊥
 two_one d = cc
 
-module _ (M : Model) (L : Origins M) (A : Objects M) (G : FlowGraphs M) (C : Kinds M G) (E : Exits M L)
+module _ (M : Model) (L : Origins M) (A : Objects M) (G : FlowGraphs M) (C : Kinds M G) (E : Exits M)
     (N : ExitsApart M L E G) where
   abbrev D : M.Fn → Bool → M.Global → Fact M → Point G.Block M.Event → M.Global → Fact M → Type 0
   D = PathEdge M (supergraph M G) L A
@@ -68,7 +68,7 @@ module _ (M : Model) (L : Origins M) (A : Objects M) (G : FlowGraphs M) (C : Kin
       → ReturnFlow M L A s f t v
   hands_before j i EventNone ReturnNone = ReturnNone
   hands_before {f = f} {h = h} {e = e} {g = g} {t = t} {s = s} j i (EventObject c x a v) (ReturnObject o _ y l d) =
-      subst (λ y. ReturnFlow M L A s f t (HasObject o y)) (sym (N.kept j e i g o c d x)) (subst (λ y. ReturnFlow M L A s f y (HasObject o x)) (sym (same_gives v (E.quiet.source e i c))) (ReturnObject o c x l d))
+      subst (λ y. ReturnFlow M L A s f t (HasObject o y)) (sym (N.kept j e i g o c d x)) (subst (λ y. ReturnFlow M L A s f y (HasObject o x)) (sym (same_gives v (N.unmoved j e i o c d))) (ReturnObject o c x l d))
 
   bare_before : {h : M.Fn} {e : M.Event} {g : M.Global} {t u : Fact M} → EventFlow M L A h false e g t u
       → u ≡ NoObject → t ≡ NoObject

@@ -42,7 +42,7 @@ module _ (M : Model) (L : Origins M) (A : Objects M) (G : FlowGraphs M) (C : Kin
       → Crosses M L A f (C.kind f g₀ t₀) (G.events f b) g t i u → G.Next f b c → MergedEdge f g₀ t₀ c i u
   sound_next d c n = AlongSkip (to_end M L A G d c) (LeavesBlock n)
 
-  module _ (E : Exits M L) (N : ExitsApart M L E G) (I : IsLocal M L) (Q : IsClosed M (supergraph M G) L A) where
+  module _ (E : Exits M) (N : ExitsApart M L E G) (I : IsLocal M L) (Q : IsClosed M (supergraph M G) L A) where
     begins : {h : M.Fn} {g : M.Global} {t : Fact M} (k : Bool) → C.kind h g t ≡ k
         → D h false g t (Head (G.first h)) g t → D h k g t (Head (G.first h)) g t
     begins false q d = d
@@ -68,7 +68,7 @@ module _ (M : Model) (L : Origins M) (A : Objects M) (G : FlowGraphs M) (C : Kin
     exit_moves j e g n ReturnNone a = EventNone
     exit_moves {h = h} {s = s} j e g n (ReturnObject o c x l d) a =
         subst (λ y. EventFlow M L A h false e g (HasObject c x) (HasObject c y)) (N.kept j e n g o c d x)
-        (EventObject c x tt (subst (λ z. Gives z (HasObject c x) x) (sym (E.quiet.source e n c)) GivesState))
+        (EventObject c x tt (subst (λ z. Gives z (HasObject c x) x) (sym (N.unmoved j e n o c d)) GivesState))
 
     -- over the end of a called frame
     to_last : {h : M.Fn} {g₀ g : M.Global} {t₀ t : Fact M} {b : G.Block} → D h false g₀ t₀ (Head b) g t → G.Ends h b

@@ -1,10 +1,10 @@
 -- The reports of path edges with lengths are those of paths of these lengths: so a shortest path is a least sum of
 -- lengths.
-use Rattle.std.proofs.Common.{◌≡◌, ℕ, suc, ◌+◌, arith, Some, refl, sym, ◌∙◌, ap, subst, ◌↔◌}
+use Rattle.std.proofs.Common.{◌≡◌, ℕ, suc, ◌+◌, arith, Some, refl, sym, ◌∙◌, ap, subst, ◌↔◌, option_and_then}
 use Rattle.path_theory.specs.Model.{Model}
 use Rattle.path_theory.specs.Supergraph.{Supergraph}
 use Rattle.path_theory.specs.Paths.{Map, Now}
-use Rattle.path_theory.specs.Origins.{Origins, IsLocal, and_then}
+use Rattle.path_theory.specs.Origins.{Origins, IsLocal}
 use Rattle.path_theory.specs.Runs.{run_global, run_map, origin}
 use Rattle.path_theory.specs.OpenFrames.{at_entry}
 use Rattle.path_theory.specs.Facts.{Objects, fact_of}
@@ -56,7 +56,7 @@ module _ (M : Model) (K : Supergraph M) (L : Origins M) (I : IsLocal M L) (A : O
         let a : A f o = taken M K L I A Q w.run e t k _ m (known_run M K L I A Q w.run k n.global n.here b.known) o (M.moved e m o) refl r j in
         let source = λ (x : M.Obj) (d : L.source e o ≡ Some x). Q.source o x (event_of M K w.run e t) d a in
         subst (FoundIn M K L A r) (ap suc (sym w.length))
-        (FoundObjectIn (begins_fact M K L I A Q w.opened b (and_then (L.source e o) (origin M K L w.run)) (leads_in M K L I A Q w.run (L.source e o) source)) (covers M K L I A Q w.run k n.global n.here c (L.source e o) source) e t o (and_then (L.source e o) m) (if_no_object (fact_of (L.source e o) m) a) (gives_fact_of (L.source e o) m)
+        (FoundObjectIn (begins_fact M K L I A Q w.opened b (option_and_then (origin M K L w.run) (L.source e o)) (leads_in M K L I A Q w.run (L.source e o) source)) (covers M K L I A Q w.run k n.global n.here c (L.source e o) source) e t o (option_and_then m (L.source e o)) (if_no_object (fact_of (L.source e o) m) a) (gives_fact_of (L.source e o) m)
         (subst (λ y. M.Fires e f k (run_global M K w.run k n.global) o y r) (I.moved e m o) j))
     found_in r _ (ReportOfGlobalIn {f = f} {k = k} P e t i) =
         let w = split M K P in

@@ -1,7 +1,7 @@
 -- Small facts on options, facts and trails, which hold by their constructors alone.
-use Rattle.std.proofs.Common.{◌≡◌, Option, Some, None, ◌⊎◌, inl, inr, refl, sym, ◌∙◌, ap}
+use Rattle.std.proofs.Common.{◌≡◌, Option, Some, None, ◌⊎◌, inl, inr, refl, sym, ◌∙◌, ap, option_and_then}
 use Rattle.path_theory.specs.Trails.{Trail, Start, More}
-use Rattle.path_theory.specs.Origins.{and_then, handed}
+use Rattle.path_theory.specs.Origins.{handed}
 use Rattle.path_theory.specs.Facts.{FactOf, NoObject, HasObject, Gives, GivesNone, GivesState, fact_of, IfNoObject}
 
 pub some_is : {O : Type 0} (a b : O) → Some a ≡ Some b → a ≡ b
@@ -18,7 +18,7 @@ none_known x e = cc
 
 -- two maps that agree at an object, where there is one
 pub then_same : {A B : Type 0} (z : Option A) (m n : A → Option B) → ((a : A) → z ≡ Some a → m a ≡ n a)
-    → and_then z m ≡ and_then z n
+    → option_and_then m z ≡ option_and_then n z
 then_same None m n h = refl
 then_same (Some a) m n h = h a refl
 
@@ -28,7 +28,7 @@ handed_same None m n a b h i = i refl
 handed_same (Some c) m n a b h i = h c refl
 
 -- a known state behind a choice of object
-pub then_known : {O S : Type 0} (z : Option O) (m : O → Option S) (x : S) → and_then z m ≡ Some x
+pub then_known : {O S : Type 0} (z : Option O) (m : O → Option S) (x : S) → option_and_then m z ≡ Some x
     → (o : O) × (z ≡ Some o) × (m o ≡ Some x)
 then_known None m x e = cc
 then_known (Some o) m x e = (o, refl, e)
@@ -60,7 +60,7 @@ pub if_no_object : {O S : Type 0} (t : FactOf O S) {P : Type 0} → P → IfNoOb
 if_no_object NoObject p = p
 if_no_object (HasObject o x) p = tt
 
-pub gives_fact_of : {O S : Type 0} (z : Option O) (m : O → Option S) → Gives z (fact_of z m) (and_then z m)
+pub gives_fact_of : {O S : Type 0} (z : Option O) (m : O → Option S) → Gives z (fact_of z m) (option_and_then m z)
 gives_fact_of None m = GivesNone
 gives_fact_of (Some o) m = GivesState
 

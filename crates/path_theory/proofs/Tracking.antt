@@ -1,11 +1,11 @@
 -- What a run does to a fact, step by step: over an event, into a callee, back from it and around it the fact stays
 -- tracked.
 -- The callee's run may come from another path than the caller's; independence makes it fit.
-use Rattle.std.proofs.Common.{◌≡◌, Bool, false, Option, Some, None, refl, sym, ◌∙◌, ap}
+use Rattle.std.proofs.Common.{◌≡◌, Bool, false, Option, Some, None, refl, sym, ◌∙◌, ap, option_and_then}
 use Rattle.path_theory.specs.Model.{Model}
 use Rattle.path_theory.specs.Supergraph.{Supergraph}
 use Rattle.path_theory.specs.Paths.{Map}
-use Rattle.path_theory.specs.Origins.{Origins, IsLocal, and_then, handed}
+use Rattle.path_theory.specs.Origins.{Origins, IsLocal, handed}
 use Rattle.path_theory.specs.Runs.{Run, Here, Skipped, Gone, Closed, run_global, run_map, origin}
 use Rattle.path_theory.specs.Facts.{NoObject, HasObject, Fact, Gives, GivesNone, GivesState, fact_of, Objects}
 use Rattle.path_theory.specs.Flows.{EventFlow, EventNone, EventObject, CallFlow, CallNone, CallObject, ReturnFlow, ReturnNone, ReturnObject}
@@ -17,14 +17,14 @@ module _ (M : Model) (K : Supergraph M) (L : Origins M) (I : IsLocal M L) (A : O
   -- the state that a fact gives is that of the map
   pub gives_state : {f : M.Fn} {p : K.Place} (R : Run M K f p) (k : Bool) (g : M.Global) (m : Map M) (t₀ : Fact M)
       {z : Option M.Obj} {t : Fact M} {x : Option M.State}
-      → Gives z t x → IsTracked M K L R k g m t₀ t → and_then z (run_map M K R k g m) ≡ x
+      → Gives z t x → IsTracked M K L R k g m t₀ t → option_and_then (run_map M K R k g m) z ≡ x
   gives_state R k g m t₀ GivesNone w = refl
   gives_state R k g m t₀ GivesState w = w.0
 
   -- and it goes back to the same fact at the entry
   gives_entry : {f : M.Fn} {p : K.Place} (R : Run M K f p) (k : Bool) (g : M.Global) (m : Map M) (t₀ : Fact M)
       {z : Option M.Obj} {t : Fact M} {x : Option M.State}
-      → Gives z t x → IsTracked M K L R k g m t₀ t → t₀ ≡ fact_of (and_then z (origin M K L R)) m
+      → Gives z t x → IsTracked M K L R k g m t₀ t → t₀ ≡ fact_of (option_and_then (origin M K L R) z) m
   gives_entry R k g m t₀ GivesNone w = w
   gives_entry R k g m t₀ GivesState w = w.1
 
@@ -57,7 +57,7 @@ module _ (M : Model) (K : Supergraph M) (L : Origins M) (I : IsLocal M L) (A : O
   handed_state : {f h : M.Fn} {p q r : K.Place} (R : Run M K f p) (s : M.Site) (j : K.Calls f p s h q)
       (C : Run M K h r) (e : K.Ends h r) (k : Bool) (g i : M.Global) (m n : Map M) (o c : M.Obj) (x : Option M.State)
       → run_global M K R k g ≡ i → L.out s o ≡ Some c → run_map M K C false i n c ≡ x
-      → ((b : M.Obj) → origin M K L C c ≡ Some b → and_then (L.into s b) (run_map M K R k g m) ≡ n b)
+      → ((b : M.Obj) → origin M K L C c ≡ Some b → option_and_then (run_map M K R k g m) (L.into s b) ≡ n b)
       → run_map M K (Closed R s j C e) k g m o ≡ x
   handed_state R s j C e k g i m n o c x q d y h =
       I.returned s (run_map M K C false (run_global M K R k g) (M.entered s (run_map M K R k g m))) (run_map M K R k g m) o
@@ -69,10 +69,10 @@ module _ (M : Model) (K : Supergraph M) (L : Origins M) (I : IsLocal M L) (A : O
   handed_origin : {f h : M.Fn} {p q r : K.Place} (R : Run M K f p) (s : M.Site) (j : K.Calls f p s h q)
       (C : Run M K h r) (e : K.Ends h r) (o c : M.Obj) (z : Option M.Obj)
       → L.out s o ≡ Some c → origin M K L C c ≡ z
-      → origin M K L (Closed R s j C e) o ≡ and_then (and_then z (L.into s)) (origin M K L R)
+      → origin M K L (Closed R s j C e) o ≡ option_and_then (origin M K L R) (option_and_then (L.into s) z)
   handed_origin R s j C e o c z d l =
-      ap (λ y. handed y (λ b. and_then (and_then (origin M K L C b) (L.into s)) (origin M K L R)) (origin M K L R o)) d
-      ∙ ap (λ y. and_then (and_then y (L.into s)) (origin M K L R)) l
+      ap (λ y. handed y (λ b. option_and_then (origin M K L R) (option_and_then (L.into s) (origin M K L C b))) (origin M K L R o)) d
+      ∙ ap (λ y. option_and_then (origin M K L R) (option_and_then (L.into s) y)) l
 
   pub tracked_return : {f h : M.Fn} {p q r : K.Place} (R : Run M K f p) (s : M.Site) (j : K.Calls f p s h q)
       (C : Run M K h r) (e : K.Ends h r) (k : Bool) (g i : M.Global) (m n : Map M) (t₀ : Fact M) {t u v w : Fact M}
@@ -89,7 +89,7 @@ module _ (M : Model) (K : Supergraph M) (L : Origins M) (I : IsLocal M L) (A : O
       let z = fact_of_some (origin M K L C c) n c₀ y b.1 in (
         handed_state R s j C e k g i m n o c x q d b.0
             (λ y2 d2. let same : y2 ≡ c₀ = some_some (origin M K L C c) c₀ y2 z.0 d2 in
-            ap (λ o2. and_then (L.into s o2) (run_map M K R k g m)) same ∙ gives_state R k g m t₀ v a ∙ z.1 ∙ ap n (sym same)),
+            ap (λ o2. option_and_then (run_map M K R k g m) (L.into s o2)) same ∙ gives_state R k g m t₀ v a ∙ z.1 ∙ ap n (sym same)),
         gives_entry R k g m t₀ v a ∙ ap (λ o2. fact_of o2 m) (sym (handed_origin R s j C e o c (Some c₀) d z.0)),
       )
 
@@ -102,5 +102,5 @@ module _ (M : Model) (K : Supergraph M) (L : Origins M) (I : IsLocal M L) (A : O
     I.returned s (run_map M K C false (run_global M K R k g) (M.entered s (run_map M K R k g m))) (run_map M K R k g m) o
         ∙ ap (λ z. handed z (run_map M K C false (run_global M K R k g) (M.entered s (run_map M K R k g m))) (run_map M K R k g m o)) d
         ∙ w.0,
-    w.1 ∙ ap (λ o2. fact_of o2 m) (sym (ap (λ y. handed y (λ b. and_then (and_then (origin M K L C b) (L.into s)) (origin M K L R)) (origin M K L R o)) d)),
+    w.1 ∙ ap (λ o2. fact_of o2 m) (sym (ap (λ y. handed y (λ b. option_and_then (origin M K L R) (option_and_then (L.into s) (origin M K L C b))) (origin M K L R o)) d)),
   )

@@ -1,13 +1,13 @@
 -- The run of a frame on a second supergraph that has the traces of the first: the same run for each walk with its
 -- trace.
 -- Closed calls are found again by the whole traces of their callees.
-use Rattle.std.proofs.Common.{◌≡◌, Bool, false, refl, sym, ◌∙◌, ap, subst}
+use Rattle.std.proofs.Common.{◌≡◌, Bool, false, refl, sym, ◌∙◌, ap, subst, option_and_then}
 use Rattle.path_theory.specs.Model.{Model}
 use Rattle.path_theory.specs.Supergraph.{Supergraph}
 use Rattle.path_theory.specs.Trails.{Trail, Start, More}
 use Rattle.path_theory.specs.Walks.{Label, AtEvent, AtCall, Labels, Walk, WalkStart, WalkSkip, WalkGo, WalkCall, HasTraces}
 use Rattle.path_theory.specs.Paths.{Map, stepped}
-use Rattle.path_theory.specs.Origins.{Origins, and_then}
+use Rattle.path_theory.specs.Origins.{Origins}
 use Rattle.path_theory.specs.Runs.{Run, Here, Skipped, Gone, Closed, run_global, run_map, origin, labels_of}
 use Rattle.path_theory.proofs.Known.{walk_of}
 use Rattle.path_theory.proofs.SmallFacts.{start_more, more_init, then_same, handed_same}
@@ -84,7 +84,7 @@ module _ (M : Model) (K₁ K₂ : Supergraph M) (H : HasTraces M K₁ K₂) wher
             ∙ ap (λ y. M.returned s (run_map M K₂ c.twin.run false (run_global M K₁ R k g) (M.entered s y)) y) (w.map k g m)
             ∙ ap (λ y. M.returned s y (run_map M K₁ R k g m)) (c.twin.map false (run_global M K₁ R k g) (M.entered s (run_map M K₁ R k g m)));
         origins = λ L o. handed_same (L.out s o) _ _ _ _
-            (λ b d2. ap (λ z. and_then (and_then z (L.into s)) (origin M K₂ L w.run)) (c.twin.origins L b) ∙ then_same (and_then (origin M K₁ L C b) (L.into s)) _ _ (λ a d3. w.origins L a))
+            (λ b d2. ap (λ z. option_and_then (origin M K₂ L w.run) (option_and_then (L.into s) z)) (c.twin.origins L b) ∙ then_same (option_and_then (L.into s) (origin M K₁ L C b)) _ _ (λ a d3. w.origins L a))
             (λ d2. w.origins L o);
         labels = ap (λ l. More l (AtCall s h)) w.labels;
       }

@@ -5,7 +5,7 @@ use Rattle.path_theory.specs.Model.{Model}
 use Rattle.path_theory.specs.Supergraph.{Supergraph}
 use Rattle.path_theory.specs.Trails.{Start, More}
 use Rattle.path_theory.specs.Paths.{Callers, Path, Begin, Skip, Go, Call, Return}
-use Rattle.path_theory.specs.Actions.{Did, Called, Returned, Actions, fold, TakenAt, Errors}
+use Rattle.path_theory.specs.Actions.{Did, Called, Returned, Actions, Errors}
 
 module _ (M : Model) (K : Supergraph M) where
   abbrev pub root_of : {f : M.Fn} {k : Bool} {p : K.Place} {b : Callers M K} → Path M K f k p b → M.Fn
@@ -31,14 +31,6 @@ module _ (M : Model) (K : Supergraph M) where
     pub path : Path M K fn kind place below
     pub root_is : root_of path ≡ root
     pub actions_are : actions_of path ≡ l
-
-  -- some path takes the report at its last event
-  pub record Taken (r : M.Report) : Type 0 where
-    pub root : M.Fn
-    pub actions : Actions M
-    pub event : M.Event
-    pub path : IsPath root (More actions (Did event))
-    pub takes : TakenAt M event (fold M root actions) r
 
   -- some path takes the report at one of its events
   pub record InErrors (r : M.Report) : Type 0 where

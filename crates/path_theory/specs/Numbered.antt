@@ -2,10 +2,10 @@
 -- over plain values.
 -- A contract can speak of all of its members, so the theorems that are stated of these in the contracts hold of any
 -- tables.
-use Rattle.std.specs.Prelude.{◌≡◌, ℕ, Bool, false, IsTrue, Option, List}
+use Rattle.std.specs.Prelude.{◌≡◌, ℕ, Bool, false, IsTrue, Option, List, option_and_then}
 use Rattle.path_theory.specs.Model.{Model}
 use Rattle.path_theory.specs.Supergraph.{Supergraph}
-use Rattle.path_theory.specs.Origins.{Origins, and_then, handed}
+use Rattle.path_theory.specs.Origins.{Origins, handed}
 use Rattle.path_theory.specs.Facts.{Objects}
 use Rattle.path_theory.specs.FlowGraphs.{FlowGraphs, supergraph}
 use Rattle.path_theory.specs.Marks.{Bodies}
@@ -57,8 +57,8 @@ model c = record {
   State = ℕ;
   Report = ℕ;
   start = c.start;
-  moved = λ e m o. and_then (c.source e o) m;
-  entered = λ s m o. and_then (c.into s o) m;
+  moved = λ e m o. option_and_then m (c.source e o);
+  entered = λ s m o. option_and_then m (c.into s o);
   returned = λ s n m o. handed (c.out s o) n (m o);
   next_global = c.next_global;
   choose = c.choose;
@@ -116,5 +116,5 @@ abbrev pub IsUnmarked : (ℕ → Bool) → ℕ → Type 0
 IsUnmarked x e = x e ≡ false
 
 abbrev pub exits_of : (c : Checker) (x : ℕ → Bool) → IgnoresKind (model c) (IsUnmarked x)
-    → EndsQuietly (model c) (origins_of c) (IsMarked x) → Exits (model c) (origins_of c)
+    → EndsQuietly (model c) (IsMarked x) → Exits (model c)
 exits_of c x same quiet = record { IsExit = IsMarked x; Stays = IsUnmarked x; same = same; quiet = quiet }

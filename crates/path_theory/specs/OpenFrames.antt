@@ -3,7 +3,7 @@
 use Rattle.std.specs.Prelude.{Bool, true, false, None}
 use Rattle.path_theory.specs.Model.{Model}
 use Rattle.path_theory.specs.Supergraph.{Supergraph}
-use Rattle.path_theory.specs.Paths.{Callers, NoCaller, Waiting, Now}
+use Rattle.path_theory.specs.Paths.{Callers, NoCaller, Waiting, Now, after_call}
 use Rattle.path_theory.specs.Runs.{Run, run_global, run_map}
 
 module _ (M : Model) (K : Supergraph M) where
@@ -17,11 +17,7 @@ module _ (M : Model) (K : Supergraph M) where
   abbrev pub now_after : {f : M.Fn} {p : K.Place} {b : Callers M K} → Run M K f p → Bool → Now M K b → Now M K b
   now_after R k n = record { global = run_global M K R k n.global; here = run_map M K R k n.global n.here; below = n.below }
 
-  abbrev pub at_call : {b : Callers M K} (f : M.Fn) (k : Bool) (q : K.Place) (s : M.Site) → Now M K b
-      → Now M K (Waiting f k s q b)
-  at_call f k q s n = record { global = n.global; here = M.entered s n.here; below = (n.here, n.below) }
-
   -- the state at the entry of the last frame
   abbrev pub at_entry : {f : M.Fn} {k : Bool} {b : Callers M K} → OpenFrames f k b → Now M K b
   at_entry (RootFrame r) = record { global = M.start; here = λ o. None; below = tt }
-  at_entry (CalledFrame {f = f} {k = k} {q = q} O R s h t) = at_call f k q s (now_after R k (at_entry O))
+  at_entry (CalledFrame {f = f} {k = k} {q = q} O R s h t) = after_call M K f k q s (now_after R k (at_entry O))

@@ -1,12 +1,7 @@
 -- The moves of a checker said of one object: from which object's state before it has its state after.
 -- That moves can be said so is the law of locality, on which all work with single objects rests.
-use Rattle.std.specs.Prelude.{◌≡◌, Option, Some, None}
+use Rattle.std.specs.Prelude.{◌≡◌, Option, Some, None, option_and_then}
 use Rattle.path_theory.specs.Model.{Model}
-
--- none where there is none, and else what the function gives
-abbrev pub and_then : {A B : Type 0} → Option A → (A → Option B) → Option B
-and_then None f = None
-and_then (Some a) f = f a
 
 -- by the first where there is one, and else the second
 abbrev pub handed : {A B : Type 0} → Option A → (A → Option B) → Option B → Option B
@@ -23,7 +18,7 @@ pub record Origins (M : Model) : Type 0 where
 
 -- the laws of locality: of moves, calls and returns
 pub record IsLocal (M : Model) (L : Origins M) : Type 0 where
-  pub moved : (e : M.Event) (m : M.Obj → Option M.State) (o : M.Obj) → M.moved e m o ≡ and_then (L.source e o) m
-  pub entered : (s : M.Site) (m : M.Obj → Option M.State) (o : M.Obj) → M.entered s m o ≡ and_then (L.into s o) m
+  pub moved : (e : M.Event) (m : M.Obj → Option M.State) (o : M.Obj) → M.moved e m o ≡ option_and_then m (L.source e o)
+  pub entered : (s : M.Site) (m : M.Obj → Option M.State) (o : M.Obj) → M.entered s m o ≡ option_and_then m (L.into s o)
   pub returned : (s : M.Site) (c m : M.Obj → Option M.State) (o : M.Obj)
       → M.returned s c m o ≡ handed (L.out s o) c (m o)

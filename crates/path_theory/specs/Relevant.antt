@@ -25,8 +25,10 @@ module _ (M : Model) (K : Supergraph M) where
     pub walk : Walk M K f labels from
     pub calls : K.Calls f from s h to
 
--- With an object there is each that takes its state from it, or from which it takes its state; and each that takes a
--- rule while it is unknown.
+-- With an object there is each that takes its state from it, or from which it takes its state; and each that becomes
+-- known by a choice while it is unknown, or gives a report then. A set may have more: an object that takes a rule without
+-- a report and stays unknown needs not be there. Whoever states entries exactly has to say which set is meant, since each
+-- object more has its entries.
 pub record IsClosed (M : Model) (K : Supergraph M) (L : Origins M) (A : Objects M) : Type 0 where
   pub source : {f : M.Fn} {e : M.Event} (o b : M.Obj) → EventOf M K f e → L.source e o ≡ Some b → A f o → A f b
   pub source_on : {f : M.Fn} {e : M.Event} (o b : M.Obj) → EventOf M K f e → L.source e o ≡ Some b → A f b → A f o

@@ -1,13 +1,13 @@
 -- The run of one frame, in which a call that has returned is one step: a same-level path, as the literature says.
 -- It says what a run does to the global state and to a map, and from which object at the frame's entry an object has
 -- its state.
-use Rattle.std.specs.Prelude.{Bool, false, Option, Some}
+use Rattle.std.specs.Prelude.{Bool, false, Option, Some, option_and_then}
 use Rattle.path_theory.specs.Model.{Model}
 use Rattle.path_theory.specs.Supergraph.{Supergraph}
 use Rattle.path_theory.specs.Trails.{Start, More}
 use Rattle.path_theory.specs.Walks.{AtEvent, AtCall, Labels}
 use Rattle.path_theory.specs.Paths.{Map, stepped}
-use Rattle.path_theory.specs.Origins.{Origins, and_then, handed}
+use Rattle.path_theory.specs.Origins.{Origins, handed}
 
 module _ (M : Model) (K : Supergraph M) where
   pub data Run : M.Fn → K.Place → Type 0 where
@@ -36,8 +36,8 @@ module _ (M : Model) (K : Supergraph M) where
   abbrev pub origin : Origins M → {f : M.Fn} {p : K.Place} → Run f p → M.Obj → Option M.Obj
   origin L Here o = Some o
   origin L (Skipped R t) o = origin L R o
-  origin L (Gone R e t) o = and_then (L.source e o) (origin L R)
-  origin L (Closed R s t C e) o = handed (L.out s o) (λ c. and_then (and_then (origin L C c) (L.into s)) (origin L R)) (origin L R o)
+  origin L (Gone R e t) o = option_and_then (origin L R) (L.source e o)
+  origin L (Closed R s t C e) o = handed (L.out s o) (λ c. option_and_then (origin L R) (option_and_then (L.into s) (origin L C c))) (origin L R o)
 
   -- its trace
   abbrev pub labels_of : {f : M.Fn} {p : K.Place} → Run f p → Labels M

@@ -110,7 +110,7 @@ pub record Blocks : Type 0 where
   pub objects : ℕ → ℕ → Bool
   pub exits : ℕ → Bool
   pub same : IgnoresKind (model checker) (IsUnmarked exits)
-  pub quiet : EndsQuietly (model checker) (origins_of checker) (IsMarked exits)
+  pub quiet : EndsQuietly (model checker) (IsMarked exits)
   pub kinds : Kinds (model checker) (graphs_of checker program)
   pub apart : ExitsApart (model checker) (origins_of checker) (exits_of checker exits same quiet) (graphs_of checker program)
   pub closed : IsClosedInBlocks checker program objects

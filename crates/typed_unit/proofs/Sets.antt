@@ -77,3 +77,6 @@ maybe-type-set = Coded-set (coded_option type-coded)
 
 pub maybe-variable-set : (x y : Option CVar) → IsProp (x ≡ y)
 maybe-variable-set = Coded-set (coded_option variable-coded)
+
+pub type-set : (x y : CType) → IsProp (x ≡ y)
+type-set = Coded-set type-coded

@@ -7,6 +7,7 @@ use Rattle.typed_unit.specs.declared.table.Cell.{Cell}
 use Rattle.typed_unit.specs.declared.table.Table as code
 use Rattle.c_unit.specs.Types.{ctype_of}
 use Rattle.c_unit.specs.Vars.{cvar_of}
+use Rattle.c_typing.specs.Types.{CType, Void}
 use Rattle.c_typing.specs.Vars.{CVar}
 
 abbrev pub cell_of : Cell → kept.Cell
@@ -19,3 +20,8 @@ table_of t = map (option_map cell_of) t.cells.items
 abbrev pub var_in : Option kept.Cell → Option CVar
 var_in None = None
 var_in (Some c) = c.var
+
+-- the type in a cell, and `Void` where there is none
+abbrev pub type_in : Option kept.Cell → CType
+type_in None = Void
+type_in (Some c) = c.ty

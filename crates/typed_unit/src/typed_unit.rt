@@ -2,16 +2,18 @@
 
 ghost use Rattle.std.specs.Prelude.{◌≡◌, None, Some, cond, get_or, map};
 ghost use Rattle.std.specs.Option.{option_map};
+ghost use Rattle.c_tree.specs.TokenPlaces.{StandInFile};
 ghost use Rattle.c_tree.specs.Views.{node_of, nodes_of};
-ghost use Rattle.c_typing.specs.Definition.{type_of, var_at};
+ghost use Rattle.c_typing.specs.Definition.{at, number_of, type_of, var_at};
 ghost use Rattle.c_typing.specs.Functions.{functions_of, structs_of, tag_of};
 ghost use Rattle.c_typing.specs.Parts.{flat};
 ghost use Rattle.c_typing.specs.Roles.{Role};
 ghost use Rattle.c_typing.specs.Scopes.{Scopes};
+ghost use Rattle.c_typing.specs.Types.{Void};
 ghost use Rattle.c_typing.specs.Unit.{IsTyping};
 ghost use Rattle.typed_unit.specs.Functions.{function_of};
 ghost use Rattle.typed_unit.specs.Places.{StandOver, StandsAt, IsTypedAt, is_identifier};
-ghost use Rattle.typed_unit.specs.Tables.{table_of};
+ghost use Rattle.typed_unit.specs.Tables.{table_of, type_in, var_in};
 ghost use Rattle.c_unit.specs.Types.{ctype_of};
 ghost use Rattle.c_unit.specs.Vars.{cvar_of};
 
@@ -30,7 +32,8 @@ pub struct TypedUnit<'a> {
     /// The functions that it defines, in the order of the text.
     pub functions: Vec<TypedFunction<'a>>,
 
-    table: Table<'a>,
+    /// What is kept of its nodes, by their numbers.
+    pub table: Table<'a>,
 
     // The tag of each structure and union, if it has one, by its number.
     tags: Vec<Option<u32>>,
@@ -38,6 +41,8 @@ pub struct TypedUnit<'a> {
     // What stands for the type of a node that has none.
     no_type: Ty<'a>,
 
+    ghost typeless: { ∥ ctype_of no_type ≡ Void ∥₁ },
+    ghost placed: { ∥ StandInFile unit.file unit.tokens.now ∥₁ },
     ghost standing: { ∥ StandOver (nodes_of unit.chunks) unit.tokens.now ∥₁ },
     ghost typing: { ∥ IsTyping (nodes_of unit.chunks) (table_of table) ∥₁ },
     ghost tagged: { tags.items ≡ structs_of (nodes_of unit.chunks) },
@@ -73,12 +78,14 @@ impl<'a> TypedUnit<'a> {
         table: Table<'a>,
         tags: Vec<Option<u32>>,
     ) -> Self
+        requires placed { StandInFile unit.file unit.tokens.now }
         requires standing { StandOver (nodes_of unit.chunks) unit.tokens.now }
         requires typing { IsTyping (nodes_of unit.chunks) (table_of table) }
         requires tagged { tags.items ≡ structs_of (nodes_of unit.chunks) }
         requires defined { map function_of functions.items ≡ functions_of (nodes_of unit.chunks) }
         ensures unit { result.unit ≡ unit.entry }
         ensures functions { result.functions ≡ functions.entry }
+        ensures table { result.table ≡ table.entry }
     {
         TypedUnit {
             unit,
@@ -89,10 +96,11 @@ impl<'a> TypedUnit<'a> {
         }
     }
 
-    /// The type of an expression, of a type name or of a declared name of the unit. What it answers for anything else isn't
-    /// promised.
+    /// The type of an expression, of a type name or of a declared name of the unit, and `Void` for anything of which nothing is
+    /// kept.
     pub fn ty(&self, tree: &Tree) -> &Ty<'a>
-        ensures { (v : Scopes) (r : Role) → IsTypedAt (nodes_of self.now.unit.chunks) v r (node_of tree.now) → type_of v r (flat (node_of tree.now)) ≡ Some (ctype_of result.now) }
+        ensures kept { ctype_of result.now ≡ type_in (at (number_of (flat (node_of tree.now))) (table_of self.now.table)) }
+        ensures placed { (v : Scopes) (r : Role) → IsTypedAt (nodes_of self.now.unit.chunks) v r (node_of tree.now) → type_of v r (flat (node_of tree.now)) ≡ Some (ctype_of result.now) }
     {
         cells_are_right();
         places_are_typed();
@@ -104,7 +112,8 @@ impl<'a> TypedUnit<'a> {
 
     /// The variable that an identifier of the unit stands for. A function is none, and any other tree stands for none.
     pub fn var(&self, tree: &Tree) -> Option<Var>
-        ensures { (v : Scopes) (r : Role) → StandsAt (nodes_of self.now.unit.chunks) v r (node_of tree.now) → option_map cvar_of result ≡ cond (is_identifier (node_of tree.now)) (var_at v r (flat (node_of tree.now))) None }
+        ensures kept { option_map cvar_of result ≡ cond (is_identifier (node_of tree.now)) (var_in (at (number_of (flat (node_of tree.now))) (table_of self.now.table))) None }
+        ensures placed { (v : Scopes) (r : Role) → StandsAt (nodes_of self.now.unit.chunks) v r (node_of tree.now) → option_map cvar_of result ≡ cond (is_identifier (node_of tree.now)) (var_at v r (flat (node_of tree.now))) None }
     {
         cells_are_right();
         places_are_typed();
@@ -117,7 +126,8 @@ impl<'a> TypedUnit<'a> {
 
     /// The variable that a declarator of the unit declares, which declares a name. A function is none.
     pub fn declared(&self, tree: &Tree) -> Option<Var>
-        ensures { (v : Scopes) (r : Role) → IsTypedAt (nodes_of self.now.unit.chunks) v r (node_of tree.now) → option_map cvar_of result ≡ var_at v r (flat (node_of tree.now)) }
+        ensures kept { option_map cvar_of result ≡ var_in (at (number_of (flat (node_of tree.now))) (table_of self.now.table)) }
+        ensures placed { (v : Scopes) (r : Role) → IsTypedAt (nodes_of self.now.unit.chunks) v r (node_of tree.now) → option_map cvar_of result ≡ var_at v r (flat (node_of tree.now)) }
     {
         cells_are_right();
         places_are_typed();

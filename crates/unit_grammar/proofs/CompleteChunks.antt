@@ -7,7 +7,7 @@ use Rattle.c_tree.specs.Height.{height_of}
 use Rattle.c_tree.specs.Phrase.{phrase_then}
 use Rattle.c_tree.specs.Tokens.{more_phrase, tokens_then}
 use Rattle.c_grammar.specs.Symbols.{is_sign, begins}
-use Rattle.c_grammar.specs.Names.{Names, name_of, with_name, declared_all, params_of}
+use Rattle.c_grammar.specs.Names.{Names, name_of, with_name, with_params, params_of}
 use Rattle.c_grammar.specs.Specifiers.{InDeclaration, goes_on}
 use Rattle.c_grammar.specs.Nonterminal.{WithName, DeclaratorIn}
 use Rattle.c_grammar.specs.Found.{◌>>=◌, Found, Reader, made}
@@ -48,18 +48,18 @@ body_begins names within (Some params) (Statement (Block items)) r w = (refl, re
 body_begins names within (Some params) _ r w = absurd w.0
 
 -- the rest of a function whose parameters these are
-abbrev with_params : ConstructReader → ℕ → Names → Syntax → Syntax → List Symbol → Syntaxes → Option Found
-with_params inner m names specs d ts params =
-    inner FunctionBody (declared_all params names) ts >>= λ body. cond (is_controlled body.0) (made m (Outer (Function specs d body.0)) body.1) None
+abbrev rest_with : ConstructReader → ℕ → Names → Syntax → Syntax → List Symbol → Syntaxes → Option Found
+rest_with inner m names specs d ts params =
+    inner FunctionBody (with_params params names) ts >>= λ body. cond (is_controlled body.0) (made m (Outer (Function specs d body.0)) body.1) None
 
 body-complete : (inner : ConstructReader) (n : ℕ) (names : Names) (specs d body : Syntax) (o : Option Syntaxes) (r : List Symbol) → Knows inner n → IsBody names o body → height_of (Outer (Function specs d body)) ≤ suc n
-    → (o >>= with_params inner (suc n) names specs d (tokens_then body r)) ≡ Some (Outer (Function specs d body), r)
+    → (o >>= rest_with inner (suc n) names specs d (tokens_then body r)) ≡ Some (Outer (Function specs d body), r)
 body-complete inner n names specs d body None r i w h = absurd w
 body-complete inner n names specs d body (Some params) r i w h =
-    rw (i FunctionBody (declared_all params names) body r w.0 (omega arith) tt, w.1) (made_low (suc n) (Outer (Function specs d body)) r h)
+    rw (i FunctionBody (with_params params names) body r w.0 (omega arith) tt, w.1) (made_low (suc n) (Outer (Function specs d body)) r h)
 
 function-complete : (inner : ConstructReader) (n : ℕ) (names : Names) (specs d body : Syntax) (r : List Symbol) → Knows inner n → may_define specs ≡ true → IsBody (with_name (name_of d) false (declared specs names)) (params_of d) body → height_of (Outer (Function specs d body)) ≤ suc n
-    → read_function inner (suc n) names specs d (tokens_then body r) ≡ Some (Outer (Function specs d body), r)
+    → read_function inner (suc n) (declared specs names) specs d (tokens_then body r) ≡ Some (Outer (Function specs d body), r)
 function-complete inner n names specs d body r i m w h = rw m (body-complete inner n (with_name (name_of d) false (declared specs names)) specs d body (params_of d) r i w h)
 
 read_chunk-complete : (reader : Reader) (inner : ConstructReader) (n : ℕ) (names : Names) (e : Syntax) (r : List Symbol) → KnowsBelow reader n → Knows inner n → IsChunk names e → height_of e ≤ suc n

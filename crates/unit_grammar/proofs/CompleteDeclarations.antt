@@ -149,7 +149,7 @@ init_declarators-complete reader inner n type names (suc f) e (more e2 es) r k i
 
 -- the rest of a declaration whose first declarator has been read
 pub declaration_rest-complete : (reader : Reader) (inner : ConstructReader) (n : ℕ) (names : Names) (specs e : Syntax) (es : Syntaxes) (r : List Symbol) → KnowsBelow reader n → Knows inner n → AreInitDeclarators (makes_types specs) (declared specs names) (more e es) → height_of (Outer (Declaration specs (more e es))) ≤ suc n
-    → read_declaration_rest reader inner (suc n) names specs (declarator_of e) (behind_declarator e (phrase_then (more_phrase es) (Sign marks.Semicolon ∷ r))) ≡ Some (Outer (Declaration specs (more e es)), r)
+    → read_declaration_rest reader inner (suc n) (declared specs names) specs (declarator_of e) (behind_declarator e (phrase_then (more_phrase es) (Sign marks.Semicolon ∷ r))) ≡ Some (Outer (Declaration specs (more e es)), r)
 declaration_rest-complete reader inner n names specs e es r k i w h =
     let X = phrase_then (more_phrase es) (Sign marks.Semicolon ∷ r) in
     let b = longer_more es (Sign marks.Semicolon ∷ r) in

@@ -154,7 +154,7 @@ member_declarators-complete reader n names (suc f) e (more e2 es) r k w h ws hs 
     ) refl
 
 declared_members-complete : (reader : Reader) (n : ℕ) (names : Names) (specs : Syntax) (es : Syntaxes) (r : List Symbol) → KnowsBelow reader n → AreMemberDeclarators (declared specs names) es → (has_any es || makes_members specs) ≡ true → height_of (Specifier (StructDeclaration specs es)) ≤ suc n
-    → read_declared_members reader (suc n) names specs (phrase_then (list_phrase es) (Sign marks.Semicolon ∷ r)) ≡ Some (Specifier (StructDeclaration specs es), r)
+    → read_declared_members reader (suc n) (declared specs names) specs (phrase_then (list_phrase es) (Sign marks.Semicolon ∷ r)) ≡ Some (Specifier (StructDeclaration specs es), r)
 declared_members-complete reader n names specs no_more r k w a h = let b : makes_members specs ≡ true = a in rw b (made_low (suc n) (Specifier (StructDeclaration specs no_more)) r h)
 declared_members-complete reader n names specs (more e es) r k w a h =
     let Y = Sign marks.Semicolon ∷ r in

@@ -6,7 +6,7 @@ use Rattle.c_tree.specs.Syntax.{Syntax, Outer, Declaration, Function, Empty, Syn
 use Rattle.c_tree.specs.Height.{height_of}
 use Rattle.c_tree.specs.Tokens.{tokens_then}
 use Rattle.c_grammar.specs.Symbols.{after_sign, begins, is_sign}
-use Rattle.c_grammar.specs.Names.{Names, name_of, with_name, declared_all, params_of}
+use Rattle.c_grammar.specs.Names.{Names, name_of, with_name, with_params, params_of}
 use Rattle.c_grammar.specs.Specifiers.{InDeclaration}
 use Rattle.c_grammar.specs.Nonterminal.{WithName, DeclaratorIn}
 use Rattle.c_grammar.specs.Grammar.{IsDeclarator}
@@ -44,18 +44,18 @@ is_chunk names (Outer (Declaration specs declarators)) w = w
 is_chunk names _ w = absurd w
 
 is_body : (names : Names) (o : Option Syntaxes) (params : Syntaxes) (body : Syntax)
-    → o ≡ Some params → IsBlock (declared_all params names) body → is_controlled body ≡ true → IsBody names o body
+    → o ≡ Some params → IsBlock (with_params params names) body → is_controlled body ≡ true → IsBody names o body
 is_body names o params body h w c = subst (λ x. IsBody names x body) (sym h) (w, c)
 
 function-sound : (inner : ConstructReader) (n m : ℕ) (names : Names) (specs d : Syntax) (all ts : List Symbol) (e : Syntax) (r : List Symbol)
     → IsSound inner n → AreFullSpecifiers InDeclaration names specs → IsDeclarator WithName (declared specs names) d → all ≡ tokens_then specs (tokens_then d ts)
-    → read_function inner m names specs d ts ≡ Some (e, r) → Outside m names all e r
+    → read_function inner m (declared specs names) specs d ts ≡ Some (e, r) → Outside m names all e r
 function-sound inner n m names specs d all ts e r i w v k h =
     let outer : Names = with_name (name_of d) false (declared specs names) in
     let c = when (may_define specs) _ _ h in
     let a = bound (params_of d) _ _ c.1 in
-    let b = bound (inner FunctionBody (declared_all a.0 outer) ts) _ _ a.2 in
-    let j = i FunctionBody (declared_all a.0 outer) ts b.0.0 b.0.1 b.1 in
+    let b = bound (inner FunctionBody (with_params a.0 outer) ts) _ _ a.2 in
+    let j = i FunctionBody (with_params a.0 outer) ts b.0.0 b.0.1 b.1 in
     let q = when (is_controlled b.0.0) _ _ b.2 in
     outside m names all (Outer (Function specs d b.0.0)) b.0.1 e r q.1
     (k ∙ ap (λ x. tokens_then specs (tokens_then d x)) j.tokens)
@@ -63,7 +63,7 @@ function-sound inner n m names specs d all ts e r i w v k h =
 
 definition-sound : (reader : Reader) (inner : ConstructReader) (n m : ℕ) (names : Names) (specs d : Syntax) (all ts : List Symbol) (e : Syntax) (r : List Symbol)
     → IsSoundBelow reader n → IsSound inner n → AreFullSpecifiers InDeclaration names specs → IsDeclarator WithName (declared specs names) d → all ≡ tokens_then specs (tokens_then d ts)
-    → read_definition reader inner m names specs d ts ≡ Some (e, r) → Outside m names all e r
+    → read_definition reader inner m (declared specs names) specs d ts ≡ Some (e, r) → Outside m names all e r
 definition-sound reader inner n m names specs d all ts e r s i w v k h =
     elim (which (begins (is_sign marks.OpenBrace) ts) _ _ _ h) as (λ _. Outside m names all e r) [
       | inl o ↦ function-sound inner n m names specs d all ts e r i w v k o.1

@@ -136,7 +136,7 @@ init_declarators-sound reader inner n type names (suc f) d ts es r s i w h =
 
 pub declaration_rest-sound : (reader : Reader) (inner : ConstructReader) (n m : ℕ) (names : Names) (specs d : Syntax) (all ts : List Symbol) (e : Syntax) (r : List Symbol)
     → IsSoundBelow reader n → IsSound inner n → AreFullSpecifiers InDeclaration names specs → IsDeclarator WithName (declared specs names) d → all ≡ tokens_then specs (tokens_then d ts)
-    → read_declaration_rest reader inner m names specs d ts ≡ Some (e, r) → Stands m BlockDeclaration names all e r
+    → read_declaration_rest reader inner m (declared specs names) specs d ts ≡ Some (e, r) → Stands m BlockDeclaration names all e r
 declaration_rest-sound reader inner n m names specs d all ts e r s i w v k h =
     let a = bound (read_init_declarators reader inner (makes_types specs) (declared specs names) (length ts) d ts) _ _ h in
     let j = init_declarators-sound reader inner n (makes_types specs) (declared specs names) (length ts) d ts a.0.0 a.0.1 s i v a.1 in

@@ -203,7 +203,7 @@ member_declarators-sound reader n names (suc f) ts es r s h =
     ]
 
 declared_members-sound : (reader : Reader) (n m : ℕ) (names : Names) (specs : Syntax) (all ts : List Symbol) (e : Syntax) (r : List Symbol)
-    → IsSoundBelow reader n → AreFullSpecifiers InTypeName names specs → all ≡ tokens_then specs ts → read_declared_members reader m names specs ts ≡ Some (e, r) → Stands m StructMember names all e r
+    → IsSoundBelow reader n → AreFullSpecifiers InTypeName names specs → all ≡ tokens_then specs ts → read_declared_members reader m (declared specs names) specs ts ≡ Some (e, r) → Stands m StructMember names all e r
 declared_members-sound reader n m names specs all ts e r s w k h =
     elim (chosen (after_sign marks.Semicolon ts) _ _ _ h) as (λ _. Stands m StructMember names all e r) [
       | inl o ↦

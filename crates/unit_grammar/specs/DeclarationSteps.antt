@@ -49,14 +49,14 @@ read_init_declarators reader inner type names (suc f) d ts =
     (λ others. reader (DeclaratorIn WithName) (with_name (declared_name e.0) type names) others >>= λ next.
     read_init_declarators reader inner type (with_name (declared_name e.0) type names) f next.0 next.1 >>= λ es. Some (more e.0 es.0, es.1))
 
--- a declaration behind its specifiers and the first declarator
+-- a declaration behind its specifiers and the first declarator, under the names that the specifiers leave
 abbrev pub read_declaration_rest : Reader → ConstructReader → ℕ → Names → Syntax → Syntax → List Symbol → Option Found
 read_declaration_rest reader inner m names specs d ts =
-    read_init_declarators reader inner (makes_types specs) (declared specs names) (length ts) d ts >>= λ es. made m (Outer (Declaration specs es.0)) es.1
+    read_init_declarators reader inner (makes_types specs) names (length ts) d ts >>= λ es. made m (Outer (Declaration specs es.0)) es.1
 
 -- specs (initdecl,+)? ";"
 abbrev pub read_declaration : Reader → ConstructReader → ℕ → Names → List Symbol → Option Found
 read_declaration reader inner m names ts =
     inner (SpecifiersIn InDeclaration) names ts >>= λ specs. if_there (after_sign marks.Semicolon specs.1)
-    (reader (DeclaratorIn WithName) (declared specs.0 names) specs.1 >>= λ d. read_declaration_rest reader inner m names specs.0 d.0 d.1)
+    (reader (DeclaratorIn WithName) (declared specs.0 names) specs.1 >>= λ d. read_declaration_rest reader inner m (declared specs.0 names) specs.0 d.0 d.1)
     (λ rest. made m (Outer (Declaration specs.0 no_more)) rest)

@@ -5,7 +5,7 @@ use Rattle.c_tree.specs.Symbol.{Symbol}
 use Rattle.c_tree.specs.Syntax.{Syntax, Initializer, Specifier, Outer, Statement, StructBody, EnumBody, Specs, Declaration, Function, Empty, Block, Syntaxes, no_more, more}
 use Rattle.c_tree.specs.Height.{height_of}
 use Rattle.c_tree.specs.Tokens.{tokens_of}
-use Rattle.c_grammar.specs.Names.{Names, name_of, with_name, declared_all, params_of}
+use Rattle.c_grammar.specs.Names.{Names, name_of, with_name, with_params, params_of}
 use Rattle.c_grammar.specs.Specifiers.{InDeclaration}
 use Rattle.c_grammar.specs.Nonterminal.{WithName}
 use Rattle.c_grammar.specs.Grammar.{IsDeclarator}
@@ -37,7 +37,7 @@ IsBlock names _ = ⊥
 -- force through the body (6.7.1, 6.1.2.1).
 abbrev pub IsBody : Names → Option Syntaxes → Syntax → Type 0
 IsBody names None body = ⊥
-IsBody names (Some params) body = IsBlock (declared_all params names) body × (is_controlled body ≡ true)
+IsBody names (Some params) body = IsBlock (with_params params names) body × (is_controlled body ≡ true)
 
 abbrev pub IsFunction : Names → Syntax → Syntax → Syntax → Type 0
 IsFunction names specs declarator body =

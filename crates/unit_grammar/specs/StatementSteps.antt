@@ -110,6 +110,14 @@ read_for reader inner m names ts =
 abbrev pub read_goto : ℕ → List Symbol → Option Found
 read_goto m ts = take_symbol is_word ts >>= λ label. after_sign marks.Semicolon label.1 >>= λ rest. made m (Jump (Goto label.0)) rest
 
+-- the rest of "continue" ";"
+abbrev pub read_continue : ℕ → List Symbol → Option Found
+read_continue m ts = after_sign marks.Semicolon ts >>= λ rest. made m (Jump Continue) rest
+
+-- the rest of "break" ";"
+abbrev pub read_break : ℕ → List Symbol → Option Found
+read_break m ts = after_sign marks.Semicolon ts >>= λ rest. made m (Jump Break) rest
+
 -- the rest of "return" expr? ";"
 abbrev pub read_return : Reader → ℕ → Names → List Symbol → Option Found
 read_return reader m names ts = read_maybe_expr reader names marks.Semicolon ts >>= λ value. made m (Jump (Return value.0)) value.1
@@ -124,13 +132,17 @@ read_by_keyword reader inner m names words.While ts = read_while reader inner m 
 read_by_keyword reader inner m names words.Do ts = read_do reader inner m names ts
 read_by_keyword reader inner m names words.For ts = read_for reader inner m names ts
 read_by_keyword reader inner m names words.Goto ts = read_goto m ts
-read_by_keyword reader inner m names words.Continue ts = after_sign marks.Semicolon ts >>= λ rest. made m (Jump Continue) rest
-read_by_keyword reader inner m names words.Break ts = after_sign marks.Semicolon ts >>= λ rest. made m (Jump Break) rest
+read_by_keyword reader inner m names words.Continue ts = read_continue m ts
+read_by_keyword reader inner m names words.Break ts = read_break m ts
 read_by_keyword reader inner m names words.Return ts = read_return reader m names ts
 read_by_keyword reader inner m names k ts = read_expression_statement reader m names (Reserved k ∷ ts)
+
+-- a block, or an expression as a statement
+abbrev pub read_block_or_expression : Reader → ConstructReader → ℕ → Names → List Symbol → Option Found
+read_block_or_expression reader inner m names ts = if_there (after_sign marks.OpenBrace ts) (read_expression_statement reader m names ts) (λ inside. read_block_rest inner m names inside)
 
 abbrev pub read_statement : Reader → ConstructReader → ℕ → Names → List Symbol → Option Found
 read_statement reader inner m names [] = None
 read_statement reader inner m names (Word name ∷ ts) = if_there (after_sign marks.Colon ts) (read_expression_statement reader m names (Word name ∷ ts)) (λ rest. read_label inner m names (Word name) rest)
 read_statement reader inner m names (Reserved k ∷ ts) = read_by_keyword reader inner m names k ts
-read_statement reader inner m names (t ∷ ts) = if_there (after_sign marks.OpenBrace (t ∷ ts)) (read_expression_statement reader m names (t ∷ ts)) (λ inside. read_block_rest inner m names inside)
+read_statement reader inner m names (t ∷ ts) = read_block_or_expression reader inner m names (t ∷ ts)

@@ -89,16 +89,16 @@ read_member_declarators reader names (suc f) ts =
     (after_sign marks.Semicolon e.1 >>= λ rest. Some (more e.0 no_more, rest))
     (λ others. read_member_declarators reader names f others >>= λ es. Some (more e.0 es.0, es.1))
 
--- the declarators of members with these specifiers
+-- the declarators of members with these specifiers, under the names that the specifiers leave
 abbrev pub read_declared_members : Reader → ℕ → Names → Syntax → List Symbol → Option Found
 read_declared_members reader m names specs ts =
     if_there (after_sign marks.Semicolon ts)
-    (read_member_declarators reader (declared specs names) (length ts) ts >>= λ es. made m (Specifier (StructDeclaration specs es.0)) es.1)
+    (read_member_declarators reader names (length ts) ts >>= λ es. made m (Specifier (StructDeclaration specs es.0)) es.1)
     (λ rest. cond (makes_members specs) (made m (Specifier (StructDeclaration specs no_more)) rest) None)
 
 -- specs (mdecl,+)? ";" | ";"
 abbrev pub read_member : Reader → ConstructReader → ℕ → Names → List Symbol → Option Found
 read_member reader inner m names ts =
     if_there (after_sign marks.Semicolon ts)
-    (inner (SpecifiersIn InTypeName) names ts >>= λ specs. read_declared_members reader m names specs.0 specs.1)
+    (inner (SpecifiersIn InTypeName) names ts >>= λ specs. read_declared_members reader m (declared specs.0 names) specs.0 specs.1)
     (λ rest. made m (Outer Empty) rest)

@@ -1,8 +1,8 @@
 use Rattle.std.proofs.Common.{◌≡◌, ◌++◌, sym, ap, ◌∙◌, arith}
 use Rattle.c_reading.specs.Strip.{stripped}
 use Rattle.c_reading.proofs.TokenGroups.{strip_dropped, strip_kept, strip_end}
-use Rattle.c_lexer.specs.Tokens.{Rises}
-use Rattle.c_lexer.proofs.Kept.{rises_stripped}
+use Rattle.c_tree.specs.TokenPlaces.{AreOfFile, Rises}
+use Rattle.c_lexer.proofs.Kept.{rises_stripped, file_stripped}
 use Rattle.c_lexer.proofs.stripping.strip.Goals as goal
 
 pub going-preserved-in-Some : goal.going-preserved-in-Some
@@ -23,8 +23,15 @@ going-preserved c =
       found = rw (c.in_ok-push-in-None.ensures.items, c.renamed.ensures) (step ∙ c.going.invariant.found);
     }
 
-pub new-requires : goal.new-requires
-new-requires c =
+pub new-requires-clause-of_file : goal.new-requires-clause-of_file
+new-requires-clause-of_file c =
+    let all = c.all-all.result.now in
+    let kept : c.going.kept.items ≡ stripped all = sym (strip_end all c.going.kept.items c.going.index c.going-test.false) ∙ c.going.invariant.found in
+    let f : AreOfFile c.args.tokens.now.end.place.file (stripped all) = file_stripped 0 c.args.tokens.now.end.place.file all c.all-all.ensures.of_file in
+    rw (kept, c.end.ensures) f
+
+pub new-requires-clause-rising : goal.new-requires-clause-rising
+new-requires-clause-rising c =
     let all = c.all-all.result.now in
     let kept : c.going.kept.items ≡ stripped all = sym (strip_end all c.going.kept.items c.going.index c.going-test.false) ∙ c.going.invariant.found in
     let high = c.args.tokens.now.end.place.token in

@@ -55,20 +55,28 @@ returns-in_err-tree-clause-refused c =
     let ours : AreChunks ts bounds = rw c.all-all.ensures.all c.in_ok-bounds.ensures in
     let bad = subst (λ x. BadGoesOn ts bounds index names x) cut v.bad in
     let refused = c.in_err-tree.ensures.refused in
-    handed-on _ _ (λ place. (chunks : List (ℕ × ℕ)) → AreChunks c.args.tokens.now.all chunks → IsFirstBadAt c.args.tokens.now.all chunks place)
-    (λ place n chunks h.
-    let theirs : AreChunks ts chunks = rw c.all-all.ensures.all h in
+    handed-on _ _ (λ place. (chunks : List (ℕ × ℕ)) × AreChunks c.args.tokens.now.all chunks × IsFirstBadAt c.args.tokens.now.all chunks place)
+    (λ place n.
     let begins = subst (λ k. IsFirst place (drop k ts)) (sym follow.0) (refused place n).0 in
-    rw (← c.all-all.ensures.all) (bad-there ts chunks bounds (drop (index + 1) bounds) names index chunk place theirs ours there begins (λ e p. (refused place n).1 e (parse-here ts names e c.reading.start chunk follow.0 p)) bad))
+    let first = bad-there ts bounds bounds (drop (index + 1) bounds) names index chunk place ours ours there begins (λ e p. (refused place n).1 e (parse-here ts names e c.reading.start chunk follow.0 p)) bad in
+    (bounds, rw (← c.all-all.ensures.all) ours, rw (← c.all-all.ensures.all) first))
     c.from_residual-in_err-tree.ensures.1
 
 pub returns-in_err-push-clause-refused : goal.returns-in_err-push-clause-refused
 returns-in_err-push-clause-refused c = without_memory _ _ c.from_residual-in_err-push.ensures.1
 
 pub returns-clause-parsed : goal.returns-clause-parsed
-returns-clause-parsed c bounds chunks =
+returns-clause-parsed c =
     let v = c.reading.invariant in
-    let past : length c.in_ok-bounds.bounds.items ≤ c.reading.index = let h = c.reading-test.false in omega arith in
-    let ours : AreChunks c.all-all.result.now c.in_ok-bounds.bounds.items = rw c.all-all.ensures.all c.in_ok-bounds.ensures in
-    let theirs : AreChunks c.all-all.result.now bounds = rw c.all-all.ensures.all chunks in
-    rw (← c.all-all.ensures.all) (all-parses c.parses_are_unique.ensures c.all-all.result.now bounds c.in_ok-bounds.bounds.items c.reading.trees.items c.reading.names.now c.reading.index _ theirs ours past v.parses c.list_of.ensures.views)
+    let bounds = c.in_ok-bounds.bounds.items in
+    let past : length bounds ≤ c.reading.index = let h = c.reading-test.false in omega arith in
+    let ours : AreChunks c.all-all.result.now bounds = rw c.all-all.ensures.all c.in_ok-bounds.ensures in
+    let trees = all-parses c.parses_are_unique.ensures c.all-all.result.now bounds bounds c.reading.trees.items c.reading.names.now c.reading.index _ ours ours past v.parses c.list_of.ensures.views in
+    (bounds, rw (← c.all-all.ensures.all) ours, rw (← c.all-all.ensures.all) trees)
+
+pub returns-clause-places : goal.returns-clause-places
+returns-clause-places c = record {
+  high = c.args.tokens.now.end.place.token;
+  rises = c.all-all.ensures.rising;
+  of_file = rw c.end.ensures c.all-all.ensures.of_file;
+}

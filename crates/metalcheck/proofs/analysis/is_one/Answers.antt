@@ -1,7 +1,7 @@
 use Rattle.std.proofs.Common.{is_some, ap, sym, ◌∙◌}
 use Rattle.c_tree.proofs.Rows.{nodes_out}
 use Rattle.path_model.specs.States.{only}
-use Rattle.metalcheck.proofs.SmallTrees.{length-only}
+use Rattle.small_form.proofs.SmallTrees.{length-only}
 use Rattle.metalcheck.proofs.analysis.is_one.Goals as goal
 
 pub returns : goal.returns

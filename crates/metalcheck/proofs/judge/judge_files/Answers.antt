@@ -1,8 +1,9 @@
 use Rattle.std.proofs.Common.{◌-◌, ◌∙◌, ap, subst, refl, [], ◌∷◌, ◌++◌}
 use Rattle.mx_io.specs.Reads.{Stands}
+use Rattle.metalcheck.specs.Located.{located_of}
 use Rattle.metalcheck.specs.Stages.{IsChecked}
 use Rattle.metalcheck.proofs.Judging.{first_failed, first_faulty, second_failed, second_faulty, both_sound, judged}
-use Rattle.metalcheck.proofs.SmallGrowth.{named_still}
+use Rattle.small_form.proofs.SmallGrowth.{named_still}
 use Rattle.metalcheck.proofs.judge.judge_files.Goals as goal
 
 pub returns-in-Err-NotRead-clause-ok : goal.returns-in-Err-NotRead-clause-ok
@@ -12,8 +13,8 @@ returns-in-Err-NotRead-clause-ok g c =
 pub returns-in-Err-Faulty-clause-ok : goal.returns-in-Err-Faulty-clause-ok
 returns-in-Err-Faulty-clause-ok g c =
     let a = rw c.in-Err-Faulty.field-0-is at c.in-Err-Faulty.ensures.stopped in
-    rw c.in-Err-Faulty.fault-is (
-      first_faulty (g.F.Files.contents c.args.files.now) c.args.checker.now c.args.source.now [] [] c.in-Err-Faulty.fault a.0 a.1 a.2,
+    rw c.in-Err-Faulty.located-is (
+      first_faulty (g.F.Files.contents c.args.files.now) c.args.checker.now c.args.source.now [] [] (located_of c.in-Err-Faulty.located) a.0 a.1 a.2,
       rw c.in-Err-Faulty.field-0-is at c.in-Err-Faulty.ensures.failed,
     )
 
@@ -26,7 +27,7 @@ pub returns-in-Err-Faulty-check_source-clause-ok : goal.returns-in-Err-Faulty-ch
 returns-in-Err-Faulty-check_source-clause-ok g c =
     let a = rw c.in-Err-Faulty-check_source.field-0-is at c.in-Err-Faulty-check_source.ensures.stopped in (
       second_faulty (g.F.Files.contents c.args.files.now) c.args.checker.now c.args.source.now [] [] c.load_checker.new.names c.in-Ok.loaded.size c.in-Ok.loaded.machine c.in-Ok.ensures.ok
-          c.in-Err-Faulty-check_source.fault _ a.0 refl (subst (λ t. Stands (t c.args.source.now) a.0) c.load_checker.ensures.same a.1) a.2,
+          (located_of c.in-Err-Faulty-check_source.located) _ a.0 refl (subst (λ t. Stands (t c.args.source.now) a.0) c.load_checker.ensures.same a.1) a.2,
       (rw c.in-Err-Faulty-check_source.field-0-is at c.in-Err-Faulty-check_source.ensures.failed) ∙ c.in-Ok.ensures.none_failed,
     )
 

@@ -1,4 +1,5 @@
-use Rattle.std.proofs.Common.{◌∙◌, sym, string_bytes}
+use Rattle.std.proofs.Common.{◌∙◌, map, sym, string_bytes}
+use Rattle.metalcheck.specs.Located.{located_of}
 use Rattle.metalcheck.proofs.Plans.{lacks, refuses}
 use Rattle.metalcheck.proofs.plan.decide.Goals as goal
 
@@ -11,6 +12,6 @@ returns-in_ok-line-in-NotRead-clause-ok g c =
 pub returns-in_ok-line-in-Faulty-clause-ok : goal.returns-in_ok-line-in-Faulty-clause-ok
 returns-in_ok-line-in-Faulty-clause-ok g c =
     let faulty = rw c.in-Faulty.is at c.in_ok-position.ensures.ok in
-    refuses string_bytes c.args.words.now (g.F.Files.contents c.args.files.now) c.in-Faulty.position (g.F.Files.failed c.args.files.now) (g.F.Files.failed c.judge.new.files) c.index-words-position-in-Faulty.result
-    c.new-text.result.items c.in_ok-line-in-Faulty.line.items c.as_str-in-Faulty.result.now (sym c.is_request.ensures.request ∙ c.if-not-is_request.false) c.index-words-position-in-Faulty.is c.as_str-in-Faulty.ensures.value c.new-text.ensures.items
-    c.in-Faulty.fault faulty.0 faulty.1 c.in_ok-line-in-Faulty.ensures
+    refuses (g.F.Files.contents c.args.files.now) (map string_bytes c.args.words.now) (g.F.Files.failed c.args.files.now) (g.F.Files.failed c.judge.new.files)
+    c.new-text.result.items c.in_ok-line-in-Faulty.line.items c.in-Faulty.field-0 (located_of c.in-Faulty.located)
+    (sym c.is_request.ensures.request ∙ c.if-not-is_request.false) faulty.0 faulty.1 c.new-text.ensures.items c.in_ok-line-in-Faulty.ensures

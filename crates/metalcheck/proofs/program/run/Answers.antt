@@ -31,5 +31,5 @@ returns-clause-complete g c texts request tells sound same no-out no-errs ne =
     complete _ _ _ _ texts _ _ _ request tells same sound c.decide_and_write.ensures no-out no-errs ne
 
 pub returns-clause-faulty : goal.returns-clause-faulty
-returns-clause-faulty g c texts position fault request tells first same =
-    faulty _ _ _ _ texts _ _ _ request tells same position fault first c.decide_and_write.ensures
+returns-clause-faulty g c texts position request tells unsound same =
+    faulty _ _ _ _ texts _ _ _ request tells same position unsound c.decide_and_write.ensures

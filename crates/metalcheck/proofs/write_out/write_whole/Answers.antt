@@ -1,4 +1,4 @@
-use Rattle.std.proofs.Common.{length, ◌≤◌, ◌-◌, length-drop, arith}
+use Rattle.std.proofs.Common.{◌∙◌, length, ◌≤◌, ◌-◌, length-drop, arith}
 use Rattle.metalcheck.proofs.Writing.{append_cut}
 use Rattle.metalcheck.proofs.write_out.write_whole.Goals as goal
 
@@ -8,5 +8,5 @@ loop-at-preserved g c =
     record {
       within = omega (arith, c.in_ok-at.ensures.most, length-drop c.loop-at.at c.args.text.now);
       taken = append_cut _ _ _ c.loop-at.at c.in_ok-at.field-0 _ c.args.text.now fits c.loop-at.invariant.taken c.in_ok-at.ensures.bytes;
-      later = omega (arith, c.loop-at.invariant.later, c.write.ensures.cause.later);
+      still = c.in_ok-at.ensures.cause.still ∙ c.loop-at.invariant.still;
     }

@@ -1,5 +1,5 @@
 -- so far the sink took what stands before `at`
-use Rattle.std.proofs.Common.{◌≤◌, ◌-◌, length, take}
+use Rattle.std.proofs.Common.{◌≡◌, ◌≤◌, ◌-◌, length, take}
 use Rattle.std.specs.Io.KnownBytes.{Appends}
 use Rattle.metalcheck.proofs.write_out.write_whole.Given as goal
 
@@ -9,7 +9,7 @@ invariant-loop-at g l =
     record {
       within : l.at ≤ length l.text;
       taken : Appends (sink.received l.fn.sink) (sink.received l.sink) (take l.at l.text);
-      later : sink.faults l.fn.sink ≤ sink.faults l.sink;
+      still : sink.faults l.sink ≡ sink.faults l.fn.sink;
     }
 
 abbrev pub decreases-loop-at : goal.decreases-loop-at

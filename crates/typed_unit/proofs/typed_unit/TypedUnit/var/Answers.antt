@@ -9,8 +9,8 @@ use Rattle.typed_unit.specs.Tables.{table_of}
 use Rattle.typed_unit.proofs.Placed.{chosen, identifier-kept, var-placed}
 use Rattle.typed_unit.proofs.typed_unit.TypedUnit.var.Goals as goal
 
-pub returns-then-is_identifier : goal.returns-then-is_identifier
-returns-then-is_identifier c v r m =
+pub returns-then-is_identifier-clause-placed : goal.returns-then-is_identifier-clause-placed
+returns-then-is_identifier-clause-placed c v r m =
     let e = node_of c.args.tree.now in
     let named : is_identifier e ≡ true = sym c.is_identifier.ensures ∙ c.if-is_identifier.true in
     chosen (is_identifier e) (option_map cvar_of c.var.result) (var_at v r (flat e)) named

@@ -1,0 +1,13 @@
+mod Steps
+mod Backwards
+mod SameDefaults
+mod Yielding
+mod Placing
+mod Whole
+mod JoinedGraphs
+mod LabelLists
+mod BlockLists
+mod Arms
+mod Loops
+mod TakenOver
+mod Turns

@@ -1,0 +1,4 @@
+-- How lists of nodes are gone through, from their ends.
+use Rattle.c_tree.proofs.Rows.{nodes_out, nodes_drop}
+
+pub ruleset steps = (nodes_out, nodes_drop)

@@ -1,0 +1,34 @@
+use Rattle.std.proofs.Common.{◌≡◌, ℕ, List, [], ap, subst}
+use Rattle.c_tree.specs.Views.{node_of}
+use Rattle.c_paths.specs.Traces.{Definition}
+use Rattle.c_paths.specs.TreeFlow.{flow_of}
+use Rattle.c_paths.specs.Building.{graph_of, flow_blocks}
+use Rattle.flow_graph.specs.declared.statements.BodyBuilder.{BodyBuilder}
+use Rattle.flow_graph.specs.Values.{blocks_of, drafts_of}
+use Rattle.flow_graph.specs.Seen.{graph_in}
+use Rattle.flow_graph.specs.Statements.{IsPlaced}
+use Rattle.flow_graph.proofs.Whole.{graph_is, dead_is, is_graph_of, has_traces, is_sound, stands_in_text}
+use Rattle.flow_graph.proofs.bodies.build_body.Goals as goal
+
+pub returns : goal.returns
+returns g c =
+    let F = g.F.Facts.known c.args.facts.now in
+    let body = node_of c.args.body.now in
+    let d : Definition = record { place = c.args.function; body = body; close = c.args.close } in
+    let entry = c.in_ok-entry.entry in
+    let bs = blocks_of c.in_ok-blocks.blocks.items in
+    let cs = blocks_of c.join_all.new.blocks.items in
+    let first : BodyBuilder = record { blocks = c.exit.new.self; labels = c.new-builder.result.labels } in
+    let at_dead = dead_is _ (drafts_of c.new-builder.result.blocks.drafts.items) c.new.result.items (ap drafts_of c.new-builder.ensures.blocks) c.new.ensures.items c.in_ok-dead.ensures in
+    let placed =
+    subst (λ (xs : List ℕ). IsPlaced first c.statement.new.self xs c.statement.new.cases.items entry (flow_blocks (flow_of F c.args.function body) c.in_ok-last.last c.in_ok-dead.dead c.in_ok-dead.dead (drafts_of c.exit.new.self.drafts.items)))
+    c.new-cases.ensures.items c.in_ok-entry.ensures in
+    let built : graph_is bs entry ≡ graph_of F d =
+    is_graph_of F c.args.function c.args.close body first c.statement.new.self c.silent.new.self.drafts.items c.in_ok-dead.dead c.in_ok-last.last entry c.statement.new.cases.items bs
+    at_dead c.in_ok-last.ensures c.new-builder.ensures.labels placed c.in_ok-blocks.ensures in
+    let joined = c.in_ok-join_all.ensures in
+    let graph = graph_in c.new-2.result in record {
+      traces = has_traces F d graph bs cs entry built joined c.new-2.ensures.blocks c.new-2.ensures.begins;
+      sound = is_sound F d graph bs cs entry built joined c.new-2.ensures.blocks c.new-2.ensures.begins;
+      text = stands_in_text F d graph bs cs entry built joined c.new-2.ensures.blocks c.new-2.ensures.begins;
+    }

@@ -1,0 +1,11 @@
+-- The blocks of a choice whose last two operands lead on this way.
+use Rattle.std.specs.Prelude.{List}
+use Rattle.c_paths.specs.Forms.{Form}
+use Rattle.c_paths.specs.Fragments.{Way, ToEither}
+use Rattle.c_paths.specs.Building.{Draft, Made, form_blocks}
+
+abbrev pub chosen_blocks : Form → Form → Form → Way → List Draft → Made
+chosen_blocks x y z way ds =
+    let d = form_blocks y way ds in
+    let e = form_blocks z way d.drafts in
+    form_blocks x (ToEither d.block e.block) e.drafts

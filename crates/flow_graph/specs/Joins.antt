@@ -1,0 +1,23 @@
+-- What stays where blocks are joined.
+use Rattle.std.specs.Prelude.{◌≡◌, ◌≢◌, ◌↔◌, ℕ, List, [], ◌∷◌, length}
+use Rattle.c_paths.specs.Events.{Event, Item}
+use Rattle.c_paths.specs.Graphs.{Block, Ending, ToAny, Stops, GraphTrace}
+use Rattle.c_paths.specs.Fragments.{Has}
+use Rattle.c_paths.specs.Occurrences.{InGraph}
+use Rattle.c_paths.specs.SoundGraphs.{IsSoundGraph}
+
+-- the new blocks have the traces of the old ones, and nothing new stands in them
+pub record IsJoined (old new : List Block) : Type 0 where
+  pub same_length : length new ≡ length old
+  pub traces : (entry : ℕ) (l : List Item) → GraphTrace old entry l ↔ GraphTrace new entry l
+  pub sound : (entry : ℕ) → IsSoundGraph old entry → IsSoundGraph new entry
+  pub text : (i : Item) → InGraph i new → InGraph i old
+
+-- the block b leads to the block c alone, and that doesn't stop
+pub record IsNext (g : List Block) (b c : ℕ) : Type 0 where
+  pub events : List Event
+  pub others : List Event
+  pub ending : Ending
+  pub leads : Has g b events (ToAny (c ∷ []))
+  pub there : Has g c others ending
+  pub goes_on : ending ≢ Stops

@@ -1,0 +1,282 @@
+-- What the rule of a machine names, against what the rule of the text does.
+use Rattle.std.proofs.Common.{◌≡◌, ℕ, Bool, true, false, cond, not, nat_eq, nat_lt, nat_le, ◌&&◌, is_some, is_none, List, [], ◌∷◌, ◌++◌, map, filter, flat_map, option_map, unwrap_or, codes, Option, None, Some, ap, refl, ◌∙◌, sym}
+use Rattle.std.proofs.lemmas.List.{map-append}
+use Rattle.c_tree.specs.Symbol.{Integer, Word, Reserved, Sign, IntLiteral, FloatLiteral, CharLiteral, StringLiteral}
+use Rattle.metal_machines.specs.Machine.{Piece, Bytes, HoleText, Holds, ToUnknown, ToObject}
+use Rattle.metal_machines.specs.Kept.{all_of, targets, holes_of_item, asked_of_item, bound_in, asked_in, hole_of_piece, named_in, variable_of_source, variable_of_target, is_condition}
+use Rattle.metal_grammar.specs.Words.{Spelling, is_spelled, contents_of}
+use Rattle.metal_grammar.specs.Written.{members, StateName, OfMachine, OfVariable, Name, Text, WrittenCallout, Digit, Asked, WrittenItem, Pattern, Callout, Dollars, Destination, To, Split, WrittenAction}
+use Rattle.metal_grammar.specs.Grammar.{is_callout}
+use Rattle.metal_grammar.specs.Patterns.{has_plain_types, names_in}
+use Rattle.metal_grammar.specs.Callouts.{row_of_hole, row_of_both, row_of_text, row_of_digit, row_of}
+use Rattle.metal_grammar.specs.Meaning.{number_among, number_in, Numbering, state_number, source_of, target_of, dest_of, condition_of, item_of, action_of}
+use Rattle.metal_grammar.specs.Message.{unescaped, literal_byte, next_argument, later_arguments, directive, are_none_left, pieces_from, pieces_of, message_with}
+use Rattle.metal_grammar.specs.Rules.{is_among, targets_of, variable_of, pattern_names_of, callout_names_of}
+use Rattle.metal_grammar.specs.Faults.{is_stop, unknown_callout_of}
+use Rattle.metal_grammar.proofs.HolesNumbered.{both, holes_numbered}
+use Rattle.metal_grammar.proofs.Numbered.{numbers_of}
+
+-- what is known of an item of a text: its holes are still names, and its callout is one of the language
+abbrev pub is_sound : Spelling → WrittenItem → Bool
+is_sound spelling (Pattern e semicolon) = has_plain_types e
+is_sound spelling (Callout negated callout) = is_callout spelling callout
+is_sound spelling (Dollars name) = true
+
+-- the variables of states
+pub source_variables : (n : Numbering) (s : StateName) → variable_of_source (source_of n s) ≡ map (number_in n.holes) (variable_of s)
+source_variables n (OfMachine name) = refl
+source_variables n (OfVariable variable name) = refl
+
+pub target_variables : (n : Numbering) (s : StateName) → variable_of_target (target_of n s) ≡ map (number_in n.holes) (variable_of s)
+target_variables n (OfMachine name) = refl
+target_variables n (OfVariable variable name) = by (is_stop n.spelling (OfVariable variable name))
+  where
+    by : (b : Bool) → variable_of_target (cond b (ToUnknown (number_in n.holes variable)) (ToObject (number_in n.holes variable) (state_number n variable name))) ≡ (number_in n.holes variable ∷ [])
+    by true = refl
+    by false = refl
+
+pub dest_variables : (n : Numbering) (d : Destination) → flat_map variable_of_target (targets (dest_of n d)) ≡ map (number_in n.holes) (flat_map variable_of (targets_of d))
+dest_variables n (To t) = ap (λ l. l ++ []) (target_variables n t) ∙ sym (map-append (number_in n.holes) (variable_of t) [])
+dest_variables n (Split a on_true b on_false) =
+    ap (λ l. l ++ (variable_of_target (target_of n on_false) ++ [])) (target_variables n on_true)
+    ∙ ap (λ l. map (number_in n.holes) (variable_of on_true) ++ (l ++ [])) (target_variables n on_false)
+    ∙ ap (λ l. map (number_in n.holes) (variable_of on_true) ++ l) (sym (map-append (number_in n.holes) (variable_of on_false) []))
+    ∙ sym (map-append (number_in n.holes) (variable_of on_true) (variable_of on_false ++ []))
+
+pub filter-append : (is : ℕ → Bool) (xs ys : List ℕ) → filter is (xs ++ ys) ≡ filter is xs ++ filter is ys
+filter-append is [] ys = refl
+filter-append is (x ∷ xs) ys = by (is x) (filter-append is xs ys)
+  where
+    by : (b : Bool) → filter is (xs ++ ys) ≡ filter is xs ++ filter is ys → cond b (x ∷ filter is (xs ++ ys)) (filter is (xs ++ ys)) ≡ cond b (x ∷ filter is xs) (filter is xs) ++ filter is ys
+    by true e = ap (λ l. x ∷ l) e
+    by false e = e
+
+-- the names of patterns that are holes
+abbrev pub held : List ℕ → List ℕ → List ℕ
+held ns xs = filter (is_among ns) xs
+
+item_bound : (n : Numbering) (i : WrittenItem) → is_sound n.spelling i ≡ true → holes_of_item (item_of n i) ≡ map (number_in n.holes) (held n.holes (pattern_names_of i))
+item_bound n (Pattern e semicolon) h = holes_numbered (number_among n.holes) e h ∙ numbers_of n.holes (names_in e)
+item_bound n (Callout negated callout) h = refl
+item_bound n (Dollars name) h = refl
+
+pub items_bound : (n : Numbering) (is : List WrittenItem) → all_of (is_sound n.spelling) is ≡ true → bound_in (map (item_of n) is) ≡ map (number_in n.holes) (held n.holes (flat_map pattern_names_of is))
+items_bound n [] h = refl
+items_bound n (i ∷ is) h =
+    let b = both (is_sound n.spelling i) (all_of (is_sound n.spelling) is) h in
+    let f = number_in n.holes in
+    ap (λ l. l ++ bound_in (map (item_of n) is)) (item_bound n i b.0)
+    ∙ ap (λ l. map f (held n.holes (pattern_names_of i)) ++ l) (items_bound n is b.1)
+    ∙ sym (map-append f (held n.holes (pattern_names_of i)) (held n.holes (flat_map pattern_names_of is)))
+    ∙ ap (map f) (sym (filter-append (is_among n.holes) (pattern_names_of i) (flat_map pattern_names_of is)))
+
+-- the rows of the table
+hole_row : (spelling : Spelling) (name : ℕ) → nat_lt (unwrap_or (row_of_hole spelling name) 0) 5 ≡ true
+hole_row spelling name =
+    by (is_spelled spelling (codes "mc_is_const") name) (is_spelled spelling (codes "mc_is_global") name) (is_spelled spelling (codes "mc_is_param") name) (is_spelled spelling (codes "mc_is_local") name)
+  where
+    by : (a b c d : Bool) → nat_lt (unwrap_or (cond a (Some 0) (cond b (Some 1) (cond c (Some 2) (cond d (Some 3) None)))) 0) 5 ≡ true
+    by true b c d = refl
+    by false true c d = refl
+    by false false true d = refl
+    by false false false true = refl
+    by false false false false = refl
+
+both_row : (spelling : Spelling) (name : ℕ) → nat_lt (unwrap_or (row_of_both spelling name) 0) 5 ≡ true
+both_row spelling name = by (is_spelled spelling (codes "mc_name_is") name)
+  where
+    by : (a : Bool) → nat_lt (unwrap_or (cond a (Some 4) None) 0) 5 ≡ true
+    by true = refl
+    by false = refl
+
+text_row : (spelling : Spelling) (name : ℕ) → is_none (row_of_text spelling name) ≡ false → nat_lt (unwrap_or (row_of_text spelling name) 0) 5 ≡ false
+text_row spelling name = by (is_spelled spelling (codes "mc_in_function") name)
+  where
+    by : (a : Bool) → is_none {T = ℕ} (cond a (Some 5) None) ≡ false → nat_lt (unwrap_or (cond a (Some 5) None) 0) 5 ≡ false
+    by true h = refl
+    by false h = cc
+
+digit_row : (spelling : Spelling) (value : Integer) (name : ℕ) → nat_lt (unwrap_or (row_of_digit spelling (IntLiteral value name)) 0) 5 ≡ false
+digit_row spelling value name = by (is_spelled spelling (codes "0") name)
+  where
+    by : (a : Bool) → nat_lt (unwrap_or (cond a (Some 6) (Some 7)) 0) 5 ≡ false
+    by true = refl
+    by false = refl
+
+known : (b : Bool) (name : ℕ) → cond b (name ∷ []) [] ≡ [] → b ≡ false
+known true name h = cc
+known false name h = refl
+
+callout_asked : (n : Numbering) (negated : Bool) (c : WrittenCallout) → is_callout n.spelling c ≡ true → unknown_callout_of n.spelling (Callout negated c) ≡ []
+    → asked_of_item (Holds (condition_of n negated c)) ≡ map (number_in n.holes) (callout_names_of (Callout negated c))
+callout_asked n negated (Digit (IntLiteral value name)) h u = ap (λ b. cond b (0 ∷ []) []) (digit_row n.spelling value name)
+callout_asked n negated (Digit (Word name)) h u = cc
+callout_asked n negated (Digit (Reserved k)) h u = cc
+callout_asked n negated (Digit (Sign p)) h u = cc
+callout_asked n negated (Digit (FloatLiteral a b)) h u = cc
+callout_asked n negated (Digit (CharLiteral a b)) h u = cc
+callout_asked n negated (Digit (StringLiteral a b)) h u = cc
+callout_asked n negated (Asked name (Name hole) None) h u = ap (λ b. cond b (number_in n.holes hole ∷ []) []) (hole_row n.spelling name)
+callout_asked n negated (Asked name (Name hole) (Some text)) h u = ap (λ b. cond b (number_in n.holes hole ∷ []) []) (both_row n.spelling name)
+callout_asked n negated (Asked name (Text text) None) h u = ap (λ b. cond b (0 ∷ []) []) (text_row n.spelling name (known (is_none (row_of_text n.spelling name)) name u))
+callout_asked n negated (Asked name (Text text) (Some other)) h u = cc
+
+item_asked : (n : Numbering) (i : WrittenItem) → is_sound n.spelling i ≡ true → unknown_callout_of n.spelling i ≡ [] → asked_of_item (item_of n i) ≡ map (number_in n.holes) (callout_names_of i)
+item_asked n (Pattern e semicolon) h u = refl
+item_asked n (Callout negated callout) h u = callout_asked n negated callout h u
+item_asked n (Dollars name) h u = refl
+
+pub neither : {A : Type 0} (xs ys : List A) → (xs ++ ys) ≡ [] → (xs ≡ []) × (ys ≡ [])
+neither [] ys h = (refl, h)
+neither (x ∷ xs) ys h = cc
+
+pub items_asked : (n : Numbering) (is : List WrittenItem) → all_of (is_sound n.spelling) is ≡ true → flat_map (unknown_callout_of n.spelling) is ≡ []
+    → asked_in (map (item_of n) is) ≡ map (number_in n.holes) (flat_map callout_names_of is)
+items_asked n [] h u = refl
+items_asked n (i ∷ is) h u =
+    let b = both (is_sound n.spelling i) (all_of (is_sound n.spelling) is) h in
+    let v = neither (unknown_callout_of n.spelling i) (flat_map (unknown_callout_of n.spelling) is) u in
+    ap (λ l. l ++ asked_in (map (item_of n) is)) (item_asked n i b.0 v.0)
+    ∙ ap (λ l. map (number_in n.holes) (callout_names_of i) ++ l) (items_asked n is b.1 v.1)
+    ∙ sym (map-append (number_in n.holes) (callout_names_of i) (flat_map callout_names_of is))
+
+-- every row is one of the table
+row_within : (o : Option ℕ) (negated : Bool) (hole text : ℕ) → nat_le (unwrap_or o 0) 7 ≡ true → is_condition (Holds (record { negated = negated; row = unwrap_or o 0; hole = hole; text = text })) ≡ true
+row_within o negated hole text h = h
+
+callout_row : (spelling : Spelling) (c : WrittenCallout) → nat_le (unwrap_or (row_of spelling c) 0) 7 ≡ true
+callout_row spelling (Digit (IntLiteral value name)) = by (is_spelled spelling (codes "0") name)
+  where
+    by : (a : Bool) → nat_le (unwrap_or (cond a (Some 6) (Some 7)) 0) 7 ≡ true
+    by true = refl
+    by false = refl
+callout_row spelling (Digit (Word name)) = refl
+callout_row spelling (Digit (Reserved k)) = refl
+callout_row spelling (Digit (Sign p)) = refl
+callout_row spelling (Digit (FloatLiteral a b)) = refl
+callout_row spelling (Digit (CharLiteral a b)) = refl
+callout_row spelling (Digit (StringLiteral a b)) = refl
+callout_row spelling (Asked name (Name hole) None) =
+    by (is_spelled spelling (codes "mc_is_const") name) (is_spelled spelling (codes "mc_is_global") name) (is_spelled spelling (codes "mc_is_param") name) (is_spelled spelling (codes "mc_is_local") name)
+  where
+    by : (a b c d : Bool) → nat_le (unwrap_or (cond a (Some 0) (cond b (Some 1) (cond c (Some 2) (cond d (Some 3) None)))) 0) 7 ≡ true
+    by true b c d = refl
+    by false true c d = refl
+    by false false true d = refl
+    by false false false true = refl
+    by false false false false = refl
+callout_row spelling (Asked name (Name hole) (Some text)) = by (is_spelled spelling (codes "mc_name_is") name)
+  where
+    by : (a : Bool) → nat_le (unwrap_or (cond a (Some 4) None) 0) 7 ≡ true
+    by true = refl
+    by false = refl
+callout_row spelling (Asked name (Text text) None) = by (is_spelled spelling (codes "mc_in_function") name)
+  where
+    by : (a : Bool) → nat_le (unwrap_or (cond a (Some 5) None) 0) 7 ≡ true
+    by true = refl
+    by false = refl
+callout_row spelling (Asked name (Text text) (Some other)) = refl
+
+pub items_rows : (n : Numbering) (is : List WrittenItem) → all_of is_condition (map (item_of n) is) ≡ true
+items_rows n [] = refl
+items_rows n (Pattern e semicolon ∷ is) = items_rows n is
+items_rows n (Callout negated callout ∷ is) = ap (λ b. b && all_of is_condition (map (item_of n) is)) (callout_row n.spelling callout) ∙ items_rows n is
+items_rows n (Dollars name ∷ is) = items_rows n is
+
+-- Messages take their arguments in order.
+none_left : (f : ℕ → ℕ) (xs : List ℕ) → are_none_left (map f xs) ≡ are_none_left xs
+none_left f [] = refl
+none_left f (x ∷ xs) = refl
+
+later : (f : ℕ → ℕ) (b : Bool) (xs : List ℕ) → cond b (later_arguments (map f xs)) (map f xs) ≡ map f (cond b (later_arguments xs) xs)
+later f true [] = refl
+later f true (x ∷ xs) = refl
+later f false xs = refl
+
+mapped_some : {A B : Type 0} (g : A → B) (o : Option A) → is_some (option_map g o) ≡ is_some o
+mapped_some g None = refl
+mapped_some g (Some x) = refl
+
+argument_some : (f : ℕ → ℕ) (xs : List ℕ) (p q : Option (List Piece)) → is_some p ≡ is_some q → is_some (next_argument (map f xs) p) ≡ is_some (next_argument xs q)
+argument_some f [] p q e = refl
+argument_some f (x ∷ xs) p q e = mapped_some _ p ∙ e ∙ sym (mapped_some _ q)
+
+directive_some : (f : ℕ → ℕ) (percent : Bool) (b : ℕ) (xs : List ℕ) (p q : Option (List Piece)) → is_some p ≡ is_some q → is_some (directive percent b (map f xs) p) ≡ is_some (directive percent b xs q)
+directive_some f true b xs p q e = by (nat_eq b 115) (nat_eq b 37)
+  where
+    by : (s t : Bool) → is_some (cond s (next_argument (map f xs) p) (cond t (option_map (literal_byte b) p) None)) ≡ is_some (cond s (next_argument xs q) (cond t (option_map (literal_byte b) q) None))
+    by true t = argument_some f xs p q e
+    by false true = mapped_some (literal_byte b) p ∙ e ∙ sym (mapped_some (literal_byte b) q)
+    by false false = refl
+directive_some f false b xs p q e = by (nat_eq b 37)
+  where
+    by : (t : Bool) → is_some (cond t p (option_map (literal_byte b) p)) ≡ is_some (cond t q (option_map (literal_byte b) q))
+    by true = e
+    by false = mapped_some (literal_byte b) p ∙ e ∙ sym (mapped_some (literal_byte b) q)
+
+pieces_some : (f : ℕ → ℕ) (percent : Bool) (bs xs : List ℕ) → is_some (pieces_from percent bs (map f xs)) ≡ is_some (pieces_from percent bs xs)
+pieces_some f percent [] xs = ap (λ b. is_some {T = List Piece} (cond (not percent && b) (Some []) None)) (none_left f xs)
+pieces_some f percent (b ∷ bs) xs =
+    directive_some f percent b xs _ _
+    (ap (λ l. is_some (pieces_from (not percent && nat_eq b 37) bs l)) (later f (percent && nat_eq b 115) xs)
+    ∙ pieces_some f (not percent && nat_eq b 37) bs (cond (percent && nat_eq b 115) (later_arguments xs) xs))
+
+abbrev pub names_of_pieces : List Piece → List ℕ
+names_of_pieces ps = flat_map hole_of_piece ps
+
+literal_names : (b : ℕ) (ps : List Piece) → names_of_pieces (literal_byte b ps) ≡ names_of_pieces ps
+literal_names b [] = refl
+literal_names b (Bytes bs ∷ ps) = refl
+literal_names b (HoleText h ∷ ps) = refl
+
+-- whatever pieces there are name these
+abbrev pub Names : Option (List Piece) → List ℕ → Type 0
+Names o xs = (ps : List Piece) → o ≡ Some ps → names_of_pieces ps ≡ xs
+
+literal_named : (b : ℕ) (o : Option (List Piece)) (xs : List ℕ) → Names o xs → Names (option_map (literal_byte b) o) xs
+literal_named b None xs w ps e = cc
+literal_named b (Some qs) xs w ps e = let q : literal_byte b qs ≡ ps = cc in ap names_of_pieces (sym q) ∙ literal_names b qs ∙ w qs refl
+
+argument_named : (xs : List ℕ) (o : Option (List Piece)) → Names o (later_arguments xs) → Names (next_argument xs o) xs
+argument_named [] o w ps e = cc
+argument_named (x ∷ xs) None w ps e = cc
+argument_named (x ∷ xs) (Some qs) w ps e = let q : (HoleText x ∷ qs) ≡ ps = cc in ap names_of_pieces (sym q) ∙ ap (λ l. x ∷ l) (w qs refl)
+
+pieces_named : (percent : Bool) (bs xs : List ℕ) → Names (pieces_from percent bs xs) xs
+pieces_named percent [] xs ps e = by percent xs e
+  where
+    by : (b : Bool) (ys : List ℕ) → cond (not b && are_none_left ys) (Some []) None ≡ Some ps → names_of_pieces ps ≡ ys
+    by true ys q = cc
+    by false [] q = let z : [] ≡ ps = cc in ap names_of_pieces (sym z)
+    by false (y ∷ ys) q = cc
+pieces_named true (b ∷ bs) xs ps e = by (nat_eq b 115) (nat_eq b 37) (pieces_named false bs (cond (nat_eq b 115) (later_arguments xs) xs)) ps e
+  where
+    by : (s t : Bool) → Names (pieces_from false bs (cond s (later_arguments xs) xs)) (cond s (later_arguments xs) xs)
+        → Names (cond s (next_argument xs (pieces_from false bs (cond s (later_arguments xs) xs))) (cond t (option_map (literal_byte b) (pieces_from false bs (cond s (later_arguments xs) xs))) None)) xs
+    by true t w = argument_named xs _ w
+    by false true w = literal_named b _ xs w
+    by false false w = λ ps e. cc
+pieces_named false (b ∷ bs) xs ps e = by (nat_eq b 37) (pieces_named (nat_eq b 37) bs xs) ps e
+  where
+    by : (t : Bool) → Names (pieces_from t bs xs) xs → Names (cond t (pieces_from t bs xs) (option_map (literal_byte b) (pieces_from t bs xs))) xs
+    by true w = w
+    by false w = literal_named b _ xs w
+
+some_pieces : (f : ℕ → ℕ) (o : Option (List ℕ)) (xs : List ℕ) → is_none (pieces_of o xs) ≡ false → named_in (pieces_of o (map f xs)) ≡ map f xs
+some_pieces f None xs h = cc
+some_pieces f (Some bs) xs h = by (pieces_from false bs xs) (pieces_from false bs (map f xs)) (pieces_some f false bs xs) (pieces_named false bs (map f xs)) h
+  where
+    by : (p q : Option (List Piece)) → is_some q ≡ is_some p → Names q (map f xs) → is_none p ≡ false → named_in q ≡ map f xs
+    by None q e w n = cc
+    by (Some ps) None e w n = cc
+    by (Some ps) (Some qs) e w n = w qs refl
+
+map-map : {A : Type 0} (f : ℕ → ℕ) (g : A → ℕ) (xs : List A) → map f (map g xs) ≡ map (λ x. f (g x)) xs
+map-map f g [] = refl
+map-map f g (x ∷ xs) = ap (λ l. f (g x) ∷ l) (map-map f g xs)
+
+pub action_named : (n : Numbering) (a : WrittenAction) → is_none (message_with n.spelling a (map (λ argument. argument.1) a.arguments)) ≡ false
+    → named_in (action_of n (Some a)) ≡ map (number_in n.holes) (map (λ argument. argument.1) a.arguments)
+action_named n a h =
+    ap (λ l. named_in (message_with n.spelling a l)) (sym (map-map (number_in n.holes) (λ argument. argument.1) a.arguments))
+    ∙ some_pieces (number_in n.holes) (unescaped false (flat_map (contents_of n.spelling) (members a.literals))) (map (λ argument. argument.1) a.arguments) h

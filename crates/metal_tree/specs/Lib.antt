@@ -1,0 +1,4 @@
+pub mod Views
+pub mod Parts
+pub mod Facts
+pub mod Whole

@@ -1,0 +1,5 @@
+pub mod Selectors
+pub mod Units
+pub mod Equality
+pub mod Pieces
+pub mod Addresses

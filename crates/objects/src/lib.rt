@@ -1,0 +1,18 @@
+//! Access paths: the objects that expressions of C name, as values of the program.
+#![tactic(auto)]
+
+mod keys;
+mod object;
+mod paths;
+mod pieces;
+mod selector;
+mod steps;
+mod text;
+mod trees;
+mod variables;
+
+pub use object::{Object, copy, is_static, mentions, variable};
+pub use paths::{append, begins_with, rebase};
+pub use selector::Selector;
+pub use text::write_text;
+pub use trees::object_of;

@@ -1,0 +1,11 @@
+pub mod Extension
+pub mod SmallBody
+pub mod SmallChecker
+pub mod SmallFront
+pub mod SmallNames
+pub mod SmallReading
+pub mod SmallSource
+pub mod SmallStatements
+pub mod SmallText
+pub mod SmallTokens
+pub mod SmallViews
