@@ -24,6 +24,3 @@ pub use fault::{LexFault, Spot};
 pub use lexer::lex;
 pub use stripping::strip;
 pub use tokens::Tokens;
-
-#[cfg(test)]
-mod tests;

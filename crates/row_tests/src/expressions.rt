@@ -1,5 +1,6 @@
 //! Expressions, specifiers and declarators of C that are known, with what the standard says of them (ISO 9899:1990, 6.3, 6.5).
 
+use crate::expected::expect;
 use bumpalo::Bump;
 use c_expr::{ExprFault, Form, TypeNames, read_declarator, read_expr, read_specs};
 use c_lexer::{LexFault, Mode, Tokens, lex};
@@ -257,7 +258,7 @@ static OF_PARAMETERS: [&str; 11] = [
 static NOT_OF_PARAMETERS: [&str; 5] = ["", "(x", "3", "x y", "(T, x"];
 
 /// Whether each of these texts is read as this phrase, or none is.
-fn expect(
+fn expect_read(
     rt: &impl Abort,
     alloc: Global,
     phrase: Phrase,
@@ -266,61 +267,61 @@ fn expect(
 ) -> Result<(), Fail> {
     for text in texts {
         let seen = is_read(alloc, phrase, text.as_bytes())?;
-        assert_eq!(rt; seen, wanted, "{text}");
+        expect(rt, seen == wanted, text);
     }
     Ok(())
 }
 
 #[test]
 fn expressions_are_read(rt: HostRuntime) -> Result<(), Fail> {
-    expect(&rt, rt.alloc(), Phrase::Expression, &EXPRESSIONS, true)?;
-    expect(&rt, rt.alloc(), Phrase::Expression, &NO_EXPRESSIONS, false)
+    expect_read(&rt, rt.alloc(), Phrase::Expression, &EXPRESSIONS, true)?;
+    expect_read(&rt, rt.alloc(), Phrase::Expression, &NO_EXPRESSIONS, false)
 }
 
 #[test]
 fn specifiers_are_read(rt: HostRuntime) -> Result<(), Fail> {
-    expect(&rt, rt.alloc(), Phrase::Specifiers, &SPECIFIERS, true)?;
-    expect(&rt, rt.alloc(), Phrase::Specifiers, &NO_SPECIFIERS, false)
+    expect_read(&rt, rt.alloc(), Phrase::Specifiers, &SPECIFIERS, true)?;
+    expect_read(&rt, rt.alloc(), Phrase::Specifiers, &NO_SPECIFIERS, false)
 }
 
 #[test]
 fn declarators_are_read(rt: HostRuntime) -> Result<(), Fail> {
-    expect(
+    expect_read(
         &rt,
         rt.alloc(),
         Phrase::Declarator(Form::Named),
         &NAMED,
         true,
     )?;
-    expect(
+    expect_read(
         &rt,
         rt.alloc(),
         Phrase::Declarator(Form::Named),
         &NOT_NAMED,
         false,
     )?;
-    expect(
+    expect_read(
         &rt,
         rt.alloc(),
         Phrase::Declarator(Form::Abstract),
         &ABSTRACT,
         true,
     )?;
-    expect(
+    expect_read(
         &rt,
         rt.alloc(),
         Phrase::Declarator(Form::Abstract),
         &NOT_ABSTRACT,
         false,
     )?;
-    expect(
+    expect_read(
         &rt,
         rt.alloc(),
         Phrase::Declarator(Form::Either),
         &OF_PARAMETERS,
         true,
     )?;
-    expect(
+    expect_read(
         &rt,
         rt.alloc(),
         Phrase::Declarator(Form::Either),
@@ -344,12 +345,12 @@ fn long_expressions_are_read(rt: HostRuntime) -> Result<(), Fail> {
         append(&mut text, b"x", 1)?;
         append(&mut text, b" + x", operators)?;
         let seen = is_read(rt.alloc(), Phrase::Expression, &text)?;
-        assert!(rt; seen, "{operators} operators");
+        expect(&rt, seen, "many operators");
     }
     let mut text = Vec::new(rt.alloc());
     append(&mut text, b"x", 1)?;
     append(&mut text, b" + x", 1000)?;
     let seen = is_read(rt.alloc(), Phrase::Expression, &text)?;
-    assert!(rt; !seen, "a tree higher than 1000");
+    expect(&rt, !seen, "a tree higher than 1000");
     Ok(())
 }

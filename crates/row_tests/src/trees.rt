@@ -1,5 +1,6 @@
 //! What the contracts mean on trees of C that are known.
 
+use crate::expected::expect;
 use bumpalo::Bump;
 use bumpalo::collections::into_bump_slice;
 use c_tree::{
@@ -57,13 +58,13 @@ fn node(id: u32, kind: Kind) -> Tree {
 }
 
 fn expect_same(rt: &impl Abort, a: &Tree, b: &Tree) {
-    assert!(rt; same_tree(a, b), "{} and {}", a.id, b.id);
-    assert!(rt; same_tree(b, a), "{} and {}", b.id, a.id);
+    expect(rt, same_tree(a, b), "the same");
+    expect(rt, same_tree(b, a), "the same, turned round");
 }
 
 fn expect_other(rt: &impl Abort, a: &Tree, b: &Tree) {
-    assert!(rt; !same_tree(a, b), "{} and {}", a.id, b.id);
-    assert!(rt; !same_tree(b, a), "{} and {}", b.id, a.id);
+    expect(rt, !same_tree(a, b), "another");
+    expect(rt, !same_tree(b, a), "another, turned round");
 }
 
 #[test]
@@ -248,16 +249,15 @@ fn tokens_are_yielded(rt: HostRuntime) -> Result<(), Fail> {
         sign(Punctuator::CloseParen),
     );
     let tokens = [f, open, a, comma, b, close];
-    assert!(rt; yields(call, &tokens));
-    assert!(rt; !yields(call, &tokens[..5]), "one fewer");
-    assert!(rt;
-        !yields(call, &[f, open, a, comma, b, close, close]),
-        "one more"
-    );
-    assert!(rt; !yields(call, &[f, open, a, comma, a, close]), "one other");
+    let more = [f, open, a, comma, b, close, close];
+    let other = [f, open, a, comma, a, close];
+    expect(&rt, yields(call, &tokens), "the tokens of the call");
+    expect(&rt, !yields(call, &tokens[..5]), "one fewer");
+    expect(&rt, !yields(call, &more), "one more");
+    expect(&rt, !yields(call, &other), "one other");
     let hole = put(&arena, 5, Kind::Primary(Primary::Hole { number: 0 }))?;
-    assert!(rt; yields(hole, &[]), "a hole");
-    assert!(rt; !yields(hole, &tokens), "a hole");
+    expect(&rt, yields(hole, &[]), "a hole");
+    expect(&rt, !yields(hole, &tokens), "a hole with tokens");
     Ok(())
 }
 
@@ -268,7 +268,7 @@ fn expect_leaf(rt: &impl Abort, name: &Token) {
         first: PLACE,
         kind: Kind::Primary(Primary::Ident { name }),
     };
-    assert_eq!(rt; height(&leaf), 1);
+    expect(rt, height(&leaf) == 1, "the height of a leaf");
 }
 
 #[test]
@@ -291,8 +291,8 @@ fn trees_are_copied(rt: HostRuntime) -> Result<(), Fail> {
     let block = put(&arena, 5, Kind::Statement(Statement::Block { items }))?;
     let second = Bump::new(rt.alloc());
     let copy = copy_tree(&second, block)?;
-    assert!(rt; equal_tree(copy, block));
-    assert_eq!(rt; copy.id, 5);
-    assert!(rt; !equal_tree(copy, chosen));
+    expect(&rt, equal_tree(copy, block), "the copy");
+    expect(&rt, copy.id == 5, "the number of the copy");
+    expect(&rt, !equal_tree(copy, chosen), "a part of the tree");
     Ok(())
 }

@@ -2,6 +2,7 @@
 
 ghost use Rattle.std.specs.Prelude.{◌≡◌};
 
+use crate::expected::expect;
 use c_expr::TypeNames;
 use std::alloc::AllocError;
 use std::test::Fail;
@@ -47,7 +48,7 @@ fn the_declaration_in_force_counts(rt: HostRuntime) -> Result<(), Fail> {
         ("changed", changed, [false, false, false]),
     ];
     for (place, seen, wanted) in rows {
-        assert_eq!(rt; seen, wanted, "{place}");
+        expect(&rt, seen == wanted, place);
     }
     Ok(())
 }
@@ -75,10 +76,10 @@ fn many_names_come_and_go(rt: HostRuntime) -> Result<(), Fail> {
     names.declare(1, true)?;
     names.open()?;
     declare_many(&mut names)?;
-    assert_eq!(rt; count_types(&names), 5000);
-    assert!(rt; names.is_type(9998));
+    expect(&rt, count_types(&names) == 5000, "every other name");
+    expect(&rt, names.is_type(9998), "a late name");
     names.close();
-    assert_eq!(rt; count_types(&names), 1);
-    assert!(rt; names.is_type(1));
+    expect(&rt, count_types(&names) == 1, "the name before");
+    expect(&rt, names.is_type(1), "that name");
     Ok(())
 }

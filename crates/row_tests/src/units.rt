@@ -1,5 +1,6 @@
 //! Translation units of C that are known, and where they are refused (ISO 9899:1990, 6.5 to 6.7).
 
+use crate::expected::expect;
 use bumpalo::Bump;
 use c_lexer::{LexFault, Mode, Tokens, lex, strip};
 use c_parser::{ParseFault, read_unit};
@@ -7,7 +8,6 @@ use c_tree::{Arena, BinaryOp, Kind, Operation, Outer, Statement, Tree};
 use c_unit::Unit;
 use mx_base::Names;
 use std::alloc::Global;
-use std::process::Abort;
 use std::test::Fail;
 
 /// Where a unit is refused, by line and column, or what is done with it instead.
@@ -192,7 +192,7 @@ fn units_are_read_or_refused(rt: HostRuntime) -> Result<(), Fail> {
         } else {
             Answer::Refused(*line, *column)
         };
-        assert_eq!(rt; seen, wanted, "{text}");
+        expect(&rt, seen == wanted, text);
     }
     Ok(())
 }
@@ -299,7 +299,7 @@ static BODIES: [(&str, First); 10] = [
 fn names_in_force_decide(rt: HostRuntime) -> Result<(), Fail> {
     for (text, wanted) in &BODIES {
         let seen = first_in_last(rt.alloc(), text.as_bytes())?;
-        assert_eq!(rt; seen, *wanted, "{text}");
+        expect(&rt, seen == *wanted, text);
     }
     Ok(())
 }

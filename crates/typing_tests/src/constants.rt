@@ -1,7 +1,7 @@
 //! Types of constants and strings (ISO 9899:1990, 6.1.3, 6.1.4), at the limits of each.
 
-use crate::expressions::type_of;
-use std::process::Abort;
+use crate::expected::expect_said_of;
+use crate::texts::Question;
 use std::test::Fail;
 
 /// Constants and strings.
@@ -75,9 +75,5 @@ static CONSTANTS: [(&str, &str); 65] = [
 
 #[test]
 fn constants_have_types(rt: HostRuntime) -> Result<(), Fail> {
-    for (expression, wanted) in &CONSTANTS {
-        let seen = type_of(rt.alloc(), expression)?;
-        assert_eq!(rt; seen.as_str(), *wanted, "{expression}");
-    }
-    Ok(())
+    expect_said_of(&rt, &CONSTANTS, Question::Type)
 }

@@ -1,7 +1,7 @@
 //! Types and variables of declarators (ISO 9899:1990, 6.5.4).
 
-use crate::texts::{Question, said};
-use std::process::Abort;
+use crate::expected::expect_said;
+use crate::texts::Question;
 use std::test::Fail;
 
 /// Declarations at file scope.
@@ -77,11 +77,7 @@ static AT_FILE_SCOPE: [(&str, &str); 37] = [
 
 #[test]
 fn names_are_declared_at_file_scope(rt: HostRuntime) -> Result<(), Fail> {
-    for (text, wanted) in &AT_FILE_SCOPE {
-        let seen = said(rt.alloc(), text, Question::Declarator)?;
-        assert_eq!(rt; seen.as_str(), *wanted, "{text}");
-    }
-    Ok(())
+    expect_said(&rt, &AT_FILE_SCOPE, Question::Declarator)
 }
 
 /// Declarations in blocks.
@@ -126,11 +122,7 @@ static IN_BLOCKS: [(&str, &str); 15] = [
 
 #[test]
 fn names_are_declared_in_blocks(rt: HostRuntime) -> Result<(), Fail> {
-    for (text, wanted) in &IN_BLOCKS {
-        let seen = said(rt.alloc(), text, Question::Declarator)?;
-        assert_eq!(rt; seen.as_str(), *wanted, "{text}");
-    }
-    Ok(())
+    expect_said(&rt, &IN_BLOCKS, Question::Declarator)
 }
 
 /// Declarations with an initializer: its type, and the type and variable of its name.
@@ -185,9 +177,5 @@ static INITIALIZED: [(&str, &str); 16] = [
 
 #[test]
 fn initialized_names_are_those_declared(rt: HostRuntime) -> Result<(), Fail> {
-    for (text, wanted) in &INITIALIZED {
-        let seen = said(rt.alloc(), text, Question::Initializer)?;
-        assert_eq!(rt; seen.as_str(), *wanted, "{text}");
-    }
-    Ok(())
+    expect_said(&rt, &INITIALIZED, Question::Initializer)
 }

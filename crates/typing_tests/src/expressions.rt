@@ -30,8 +30,3 @@ pub fn said_of(alloc: Global, expression: &str, question: Question) -> Result<St
     text.push_str("; }")?;
     said(alloc, text.as_str(), question)
 }
-
-/// The type of an expression that stands there.
-pub fn type_of(alloc: Global, expression: &str) -> Result<String, LexFault> {
-    said_of(alloc, expression, Question::Type)
-}

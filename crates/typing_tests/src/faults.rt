@@ -1,7 +1,7 @@
 //! Each fault of typing, at its place.
 
-use crate::texts::{Question, said};
-use std::process::Abort;
+use crate::expected::expect_said;
+use crate::texts::Question;
 use std::test::Fail;
 
 /// Names that are not in scope (ISO 9899:1990, 6.3.1). The callee of a call may be undeclared, but not one in parentheses.
@@ -82,11 +82,7 @@ static UNDECLARED: [(&str, &str); 51] = [
 
 #[test]
 fn names_are_declared(rt: HostRuntime) -> Result<(), Fail> {
-    for (text, wanted) in &UNDECLARED {
-        let seen = said(rt.alloc(), text, Question::Fault)?;
-        assert_eq!(rt; seen.as_str(), *wanted, "{text}");
-    }
-    Ok(())
+    expect_said(&rt, &UNDECLARED, Question::Fault)
 }
 
 /// Members that a structure or union has not (6.3.2.3).
@@ -149,11 +145,7 @@ static NO_FIELDS: [(&str, &str); 15] = [
 
 #[test]
 fn members_are_there(rt: HostRuntime) -> Result<(), Fail> {
-    for (text, wanted) in &NO_FIELDS {
-        let seen = said(rt.alloc(), text, Question::Fault)?;
-        assert_eq!(rt; seen.as_str(), *wanted, "{text}");
-    }
-    Ok(())
+    expect_said(&rt, &NO_FIELDS, Question::Fault)
 }
 
 /// Names, tags and members that are declared again where they may not be (6.1.2.3, 6.5, 6.5.2.3).
@@ -228,11 +220,7 @@ static REDECLARED: [(&str, &str); 45] = [
 
 #[test]
 fn names_are_declared_once(rt: HostRuntime) -> Result<(), Fail> {
-    for (text, wanted) in &REDECLARED {
-        let seen = said(rt.alloc(), text, Question::Fault)?;
-        assert_eq!(rt; seen.as_str(), *wanted, "{text}");
-    }
-    Ok(())
+    expect_said(&rt, &REDECLARED, Question::Fault)
 }
 
 /// Operands that have to be pointers or arrays (6.3.2.1, 6.3.2.3, 6.3.3.2).
@@ -270,11 +258,7 @@ static NOT_POINTERS: [(&str, &str); 23] = [
 
 #[test]
 fn operands_are_pointers(rt: HostRuntime) -> Result<(), Fail> {
-    for (text, wanted) in &NOT_POINTERS {
-        let seen = said(rt.alloc(), text, Question::Fault)?;
-        assert_eq!(rt; seen.as_str(), *wanted, "{text}");
-    }
-    Ok(())
+    expect_said(&rt, &NOT_POINTERS, Question::Fault)
 }
 
 /// Operands that have to be complete structures or unions (6.3.2.3).
@@ -343,11 +327,7 @@ static NOT_STRUCTS: [(&str, &str); 21] = [
 
 #[test]
 fn operands_are_structures(rt: HostRuntime) -> Result<(), Fail> {
-    for (text, wanted) in &NOT_STRUCTS {
-        let seen = said(rt.alloc(), text, Question::Fault)?;
-        assert_eq!(rt; seen.as_str(), *wanted, "{text}");
-    }
-    Ok(())
+    expect_said(&rt, &NOT_STRUCTS, Question::Fault)
 }
 
 /// What is called is a function or a pointer to one (6.3.2.2).
@@ -386,11 +366,7 @@ static NOT_FUNCTIONS: [(&str, &str); 18] = [
 
 #[test]
 fn what_is_called_is_a_function(rt: HostRuntime) -> Result<(), Fail> {
-    for (text, wanted) in &NOT_FUNCTIONS {
-        let seen = said(rt.alloc(), text, Question::Fault)?;
-        assert_eq!(rt; seen.as_str(), *wanted, "{text}");
-    }
-    Ok(())
+    expect_said(&rt, &NOT_FUNCTIONS, Question::Fault)
 }
 
 /// Operands that have to be lvalues (6.3.2.4, 6.3.3.1, 6.3.3.2, 6.3.16).
@@ -451,9 +427,5 @@ static NOT_LVALUES: [(&str, &str); 34] = [
 
 #[test]
 fn operands_are_lvalues(rt: HostRuntime) -> Result<(), Fail> {
-    for (text, wanted) in &NOT_LVALUES {
-        let seen = said(rt.alloc(), text, Question::Fault)?;
-        assert_eq!(rt; seen.as_str(), *wanted, "{text}");
-    }
-    Ok(())
+    expect_said(&rt, &NOT_LVALUES, Question::Fault)
 }

@@ -1,7 +1,7 @@
 //! Which of several faults comes first: operands before their operators, and all in the order of the text.
 
-use crate::texts::{Question, said};
-use std::process::Abort;
+use crate::expected::expect_said;
+use crate::texts::Question;
 use std::test::Fail;
 
 /// Texts with more than one fault.
@@ -65,9 +65,5 @@ static SEVERAL: [(&str, &str); 40] = [
 
 #[test]
 fn the_first_fault_comes(rt: HostRuntime) -> Result<(), Fail> {
-    for (text, wanted) in &SEVERAL {
-        let seen = said(rt.alloc(), text, Question::Fault)?;
-        assert_eq!(rt; seen.as_str(), *wanted, "{text}");
-    }
-    Ok(())
+    expect_said(&rt, &SEVERAL, Question::Fault)
 }

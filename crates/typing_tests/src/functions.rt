@@ -1,7 +1,7 @@
 //! The functions that units define (ISO 9899:1990, 6.7.1), and which belong to their file alone (6.1.2.2).
 
-use crate::texts::{Question, said};
-use std::process::Abort;
+use crate::expected::expect_said;
+use crate::texts::Question;
 use std::test::Fail;
 
 /// Units with their functions, one a line.
@@ -135,9 +135,5 @@ static FUNCTIONS: [(&str, &str); 35] = [
 
 #[test]
 fn functions_are_listed(rt: HostRuntime) -> Result<(), Fail> {
-    for (text, wanted) in &FUNCTIONS {
-        let seen = said(rt.alloc(), text, Question::Functions)?;
-        assert_eq!(rt; seen.as_str(), *wanted, "{text}");
-    }
-    Ok(())
+    expect_said(&rt, &FUNCTIONS, Question::Functions)
 }

@@ -10,6 +10,8 @@ mod conversions;
 #[cfg(test)]
 mod declarators;
 #[cfg(test)]
+mod expected;
+#[cfg(test)]
 mod expressions;
 #[cfg(test)]
 mod faults;

@@ -1,7 +1,7 @@
 //! Types of names, members, calls, and of what is pointed to (ISO 9899:1990, 6.3.1, 6.3.2, 6.3.3.2).
 
-use crate::expressions::type_of;
-use std::process::Abort;
+use crate::expected::expect_said_of;
+use crate::texts::Question;
 use std::test::Fail;
 
 /// Names by themselves and in parentheses.
@@ -55,11 +55,7 @@ static NAMES: [(&str, &str); 42] = [
 
 #[test]
 fn names_have_types(rt: HostRuntime) -> Result<(), Fail> {
-    for (expression, wanted) in &NAMES {
-        let seen = type_of(rt.alloc(), expression)?;
-        assert_eq!(rt; seen.as_str(), *wanted, "{expression}");
-    }
-    Ok(())
+    expect_said_of(&rt, &NAMES, Question::Type)
 }
 
 /// What pointers and arrays lead to, and addresses.
@@ -129,11 +125,7 @@ static POINTED: [(&str, &str); 61] = [
 
 #[test]
 fn pointers_lead_to_types(rt: HostRuntime) -> Result<(), Fail> {
-    for (expression, wanted) in &POINTED {
-        let seen = type_of(rt.alloc(), expression)?;
-        assert_eq!(rt; seen.as_str(), *wanted, "{expression}");
-    }
-    Ok(())
+    expect_said_of(&rt, &POINTED, Question::Type)
 }
 
 /// Members, also those of members without a name.
@@ -172,11 +164,7 @@ static MEMBERS: [(&str, &str); 30] = [
 
 #[test]
 fn members_have_types(rt: HostRuntime) -> Result<(), Fail> {
-    for (expression, wanted) in &MEMBERS {
-        let seen = type_of(rt.alloc(), expression)?;
-        assert_eq!(rt; seen.as_str(), *wanted, "{expression}");
-    }
-    Ok(())
+    expect_said_of(&rt, &MEMBERS, Question::Type)
 }
 
 /// Calls. What is called undeclared gives int.
@@ -214,9 +202,5 @@ static CALLS: [(&str, &str); 29] = [
 
 #[test]
 fn calls_have_types(rt: HostRuntime) -> Result<(), Fail> {
-    for (expression, wanted) in &CALLS {
-        let seen = type_of(rt.alloc(), expression)?;
-        assert_eq!(rt; seen.as_str(), *wanted, "{expression}");
-    }
-    Ok(())
+    expect_said_of(&rt, &CALLS, Question::Type)
 }

@@ -1,7 +1,7 @@
 //! Types of operators (ISO 9899:1990, 6.3.3 to 6.3.17).
 
-use crate::expressions::type_of;
-use std::process::Abort;
+use crate::expected::expect_said_of;
+use crate::texts::Question;
 use std::test::Fail;
 
 /// Operators with one operand.
@@ -60,11 +60,7 @@ static UNARY: [(&str, &str); 50] = [
 
 #[test]
 fn operators_with_one_operand_have_types(rt: HostRuntime) -> Result<(), Fail> {
-    for (expression, wanted) in &UNARY {
-        let seen = type_of(rt.alloc(), expression)?;
-        assert_eq!(rt; seen.as_str(), *wanted, "{expression}");
-    }
-    Ok(())
+    expect_said_of(&rt, &UNARY, Question::Type)
 }
 
 /// Operators with two operands.
@@ -134,11 +130,7 @@ static BINARY: [(&str, &str); 61] = [
 
 #[test]
 fn operators_with_two_operands_have_types(rt: HostRuntime) -> Result<(), Fail> {
-    for (expression, wanted) in &BINARY {
-        let seen = type_of(rt.alloc(), expression)?;
-        assert_eq!(rt; seen.as_str(), *wanted, "{expression}");
-    }
-    Ok(())
+    expect_said_of(&rt, &BINARY, Question::Type)
 }
 
 /// Floating operands of types that the standard of 1990 has not.
@@ -163,11 +155,7 @@ static FLOATING: [(&str, &str); 16] = [
 
 #[test]
 fn floating_operands_convert(rt: HostRuntime) -> Result<(), Fail> {
-    for (expression, wanted) in &FLOATING {
-        let seen = type_of(rt.alloc(), expression)?;
-        assert_eq!(rt; seen.as_str(), *wanted, "{expression}");
-    }
-    Ok(())
+    expect_said_of(&rt, &FLOATING, Question::Type)
 }
 
 /// Choices. Of two pointers the first decides.
@@ -215,11 +203,7 @@ static CHOICES: [(&str, &str); 39] = [
 
 #[test]
 fn choices_have_types(rt: HostRuntime) -> Result<(), Fail> {
-    for (expression, wanted) in &CHOICES {
-        let seen = type_of(rt.alloc(), expression)?;
-        assert_eq!(rt; seen.as_str(), *wanted, "{expression}");
-    }
-    Ok(())
+    expect_said_of(&rt, &CHOICES, Question::Type)
 }
 
 /// Assignments and commas.
@@ -255,11 +239,7 @@ static ASSIGNMENTS: [(&str, &str); 27] = [
 
 #[test]
 fn assignments_and_commas_have_types(rt: HostRuntime) -> Result<(), Fail> {
-    for (expression, wanted) in &ASSIGNMENTS {
-        let seen = type_of(rt.alloc(), expression)?;
-        assert_eq!(rt; seen.as_str(), *wanted, "{expression}");
-    }
-    Ok(())
+    expect_said_of(&rt, &ASSIGNMENTS, Question::Type)
 }
 
 /// Operands that the standard refuses, which is no matter of typing.
@@ -301,9 +281,5 @@ static ANY: [(&str, &str); 33] = [
 
 #[test]
 fn other_operands_count_as_int(rt: HostRuntime) -> Result<(), Fail> {
-    for (expression, wanted) in &ANY {
-        let seen = type_of(rt.alloc(), expression)?;
-        assert_eq!(rt; seen.as_str(), *wanted, "{expression}");
-    }
-    Ok(())
+    expect_said_of(&rt, &ANY, Question::Type)
 }

@@ -1,7 +1,7 @@
 //! What is in force where (ISO 9899:1990, 6.1.2.1, 6.1.2.3), seen by the types of names and members.
 
-use crate::texts::{Question, said};
-use std::process::Abort;
+use crate::expected::expect_said;
+use crate::texts::Question;
 use std::test::Fail;
 
 /// Parameters of array and function type are pointers in the body (6.7.1).
@@ -48,11 +48,7 @@ static PARAMETERS: [(&str, &str); 17] = [
 
 #[test]
 fn parameters_are_adjusted(rt: HostRuntime) -> Result<(), Fail> {
-    for (text, wanted) in &PARAMETERS {
-        let seen = said(rt.alloc(), text, Question::Type)?;
-        assert_eq!(rt; seen.as_str(), *wanted, "{text}");
-    }
-    Ok(())
+    expect_said(&rt, &PARAMETERS, Question::Type)
 }
 
 /// The latest declaration in the innermost scope decides.
@@ -90,11 +86,7 @@ static LATEST: [(&str, &str); 20] = [
 
 #[test]
 fn the_latest_declaration_decides(rt: HostRuntime) -> Result<(), Fail> {
-    for (text, wanted) in &LATEST {
-        let seen = said(rt.alloc(), text, Question::Type)?;
-        assert_eq!(rt; seen.as_str(), *wanted, "{text}");
-    }
-    Ok(())
+    expect_said(&rt, &LATEST, Question::Type)
 }
 
 /// Tags in inner scopes, and structures and unions that are completed later (6.5.2.3).
@@ -210,9 +202,5 @@ static TAGS: [(&str, &str); 29] = [
 
 #[test]
 fn tags_are_those_in_force(rt: HostRuntime) -> Result<(), Fail> {
-    for (text, wanted) in &TAGS {
-        let seen = said(rt.alloc(), text, Question::Type)?;
-        assert_eq!(rt; seen.as_str(), *wanted, "{text}");
-    }
-    Ok(())
+    expect_said(&rt, &TAGS, Question::Type)
 }

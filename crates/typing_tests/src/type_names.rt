@@ -1,8 +1,7 @@
 //! The types that type names and specifiers name (ISO 9899:1990, 6.3.4, 6.5.2, 6.5.5).
 
-use crate::expressions::said_of;
-use crate::texts::{Question, said};
-use std::process::Abort;
+use crate::expected::{expect_said, expect_said_of};
+use crate::texts::Question;
 use std::test::Fail;
 
 /// Expressions that have the type that they name.
@@ -53,13 +52,8 @@ static CASTS: [(&str, &str); 36] = [
 
 #[test]
 fn casts_have_the_named_type(rt: HostRuntime) -> Result<(), Fail> {
-    for (expression, wanted) in &CASTS {
-        let seen = said_of(rt.alloc(), expression, Question::Type)?;
-        assert_eq!(rt; seen.as_str(), *wanted, "{expression}");
-        let named = said_of(rt.alloc(), expression, Question::TypeName)?;
-        assert_eq!(rt; named.as_str(), *wanted, "the type name in {expression}");
-    }
-    Ok(())
+    expect_said_of(&rt, &CASTS, Question::Type)?;
+    expect_said_of(&rt, &CASTS, Question::TypeName)
 }
 
 /// The basic types, in any order of their words.
@@ -134,9 +128,5 @@ static BASIC: [(&str, &str); 51] = [
 
 #[test]
 fn specifiers_name_types(rt: HostRuntime) -> Result<(), Fail> {
-    for (text, wanted) in &BASIC {
-        let seen = said(rt.alloc(), text, Question::Type)?;
-        assert_eq!(rt; seen.as_str(), *wanted, "{text}");
-    }
-    Ok(())
+    expect_said(&rt, &BASIC, Question::Type)
 }

@@ -1,6 +1,7 @@
 //! What a unit says besides: the number of its file, in places, variables and functions, and the tags of its types.
 
-use crate::texts::{Question, said, said_in};
+use crate::expected::expect_said;
+use crate::texts::{Question, said_in};
 use std::process::Abort;
 use std::test::Fail;
 
@@ -72,9 +73,5 @@ static TAGGED: [(&str, &str); 10] = [
 
 #[test]
 fn structures_and_unions_have_tags(rt: HostRuntime) -> Result<(), Fail> {
-    for (text, wanted) in &TAGGED {
-        let seen = said(rt.alloc(), text, Question::Tag)?;
-        assert_eq!(rt; seen.as_str(), *wanted, "{text}");
-    }
-    Ok(())
+    expect_said(&rt, &TAGGED, Question::Tag)
 }

@@ -1,7 +1,7 @@
 //! The variables that names stand for (ISO 9899:1990, 6.1.2.2, 6.1.2.4). The place is that of the declared name.
 
-use crate::texts::{Question, said};
-use std::process::Abort;
+use crate::expected::expect_said;
+use crate::texts::Question;
 use std::test::Fail;
 
 /// Variables by their linkage and storage.
@@ -48,11 +48,7 @@ static VARIABLES: [(&str, &str); 35] = [
 
 #[test]
 fn names_stand_for_variables(rt: HostRuntime) -> Result<(), Fail> {
-    for (text, wanted) in &VARIABLES {
-        let seen = said(rt.alloc(), text, Question::Variable)?;
-        assert_eq!(rt; seen.as_str(), *wanted, "{text}");
-    }
-    Ok(())
+    expect_said(&rt, &VARIABLES, Question::Variable)
 }
 
 /// Names that hide others, or that are in force again.
@@ -90,11 +86,7 @@ static HIDDEN: [(&str, &str); 11] = [
 
 #[test]
 fn names_hide_others(rt: HostRuntime) -> Result<(), Fail> {
-    for (text, wanted) in &HIDDEN {
-        let seen = said(rt.alloc(), text, Question::Variable)?;
-        assert_eq!(rt; seen.as_str(), *wanted, "{text}");
-    }
-    Ok(())
+    expect_said(&rt, &HIDDEN, Question::Variable)
 }
 
 /// `extern` and `static` in the body of a function.
@@ -121,11 +113,7 @@ static EXTERNS: [(&str, &str); 6] = [
 
 #[test]
 fn linkage_is_found_in_bodies(rt: HostRuntime) -> Result<(), Fail> {
-    for (text, wanted) in &EXTERNS {
-        let seen = said(rt.alloc(), text, Question::Variable)?;
-        assert_eq!(rt; seen.as_str(), *wanted, "{text}");
-    }
-    Ok(())
+    expect_said(&rt, &EXTERNS, Question::Variable)
 }
 
 /// Names in inner blocks.
@@ -183,11 +171,7 @@ static INNER: [(&str, &str); 16] = [
 
 #[test]
 fn names_in_inner_blocks_stand_for_variables(rt: HostRuntime) -> Result<(), Fail> {
-    for (text, wanted) in &INNER {
-        let seen = said(rt.alloc(), text, Question::Variable)?;
-        assert_eq!(rt; seen.as_str(), *wanted, "{text}");
-    }
-    Ok(())
+    expect_said(&rt, &INNER, Question::Variable)
 }
 
 /// Functions, enumerators and expressions, which are no variables.
@@ -210,9 +194,5 @@ static NO_VARIABLES: [(&str, &str); 14] = [
 
 #[test]
 fn other_expressions_stand_for_none(rt: HostRuntime) -> Result<(), Fail> {
-    for (text, wanted) in &NO_VARIABLES {
-        let seen = said(rt.alloc(), text, Question::Variable)?;
-        assert_eq!(rt; seen.as_str(), *wanted, "{text}");
-    }
-    Ok(())
+    expect_said(&rt, &NO_VARIABLES, Question::Variable)
 }

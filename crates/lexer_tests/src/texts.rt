@@ -1,8 +1,10 @@
 //! What the lexer reads of texts, against the C standard and what a preprocessor writes.
 
-use crate::{LexFault, Mode, Spot, Tokens, chunks, lex, strip};
-use c_tree::{FloatEnd, Keyword, Mark, Place, Punctuator, TokenKind};
+use crate::expected::expect;
+use c_lexer::{LexFault, Mode, Spot, Tokens, chunks, lex, strip};
+use c_tree::{FloatEnd, Keyword, Mark, Place, Punctuator, Token, TokenKind};
 use mx_base::Names;
+use std::alloc::{AllocError, Global};
 use std::process::Abort;
 use std::test::Fail;
 
@@ -17,6 +19,15 @@ fn read(
     lex(rt.alloc(), text, mode, 0, b"a.c", names)
 }
 
+/// Whether the tokens have these kinds.
+fn have_kinds(tokens: &[Token], kinds: &[TokenKind]) -> bool {
+    tokens.len() == kinds.len()
+        && tokens
+            .iter()
+            .zip(kinds)
+            .all(|(token, kind)| token.kind == *kind)
+}
+
 /// The kinds of the tokens of a text are these.
 fn expect_kinds(
     rt: &(impl Abort + AllocGlobal),
@@ -26,10 +37,7 @@ fn expect_kinds(
 ) -> Result<(), Fail> {
     let mut names = Names::new(rt.alloc());
     let tokens = read(rt, mode, text, &mut names)?;
-    assert_eq!(rt; tokens.all().len(), kinds.len());
-    for (token, kind) in tokens.all().iter().zip(kinds) {
-        assert!(rt; token.kind == *kind, "at byte {}", token.start);
-    }
+    expect(rt, have_kinds(tokens.all(), kinds), "the kinds of a text");
     Ok(())
 }
 
@@ -54,12 +62,16 @@ fn expect_fault(
 ) {
     let mut names = Names::new(rt.alloc());
     match read(rt, mode, text, &mut names) {
-        Ok(_) => assert!(rt; false, "no fault"),
+        Ok(_) => expect(rt, false, "a fault"),
         Err(fault) => match spot_of(fault) {
-            None => assert!(rt; false, "no memory"),
+            None => expect(rt, false, "memory"),
             Some((found, spot)) => {
-                assert_eq!(rt; found, kind);
-                assert_eq!(rt; (spot.place.token, spot.line, spot.col), place);
+                expect(rt, found == kind, "the kind of a fault");
+                expect(
+                    rt,
+                    (spot.place.token, spot.line, spot.col) == place,
+                    "the place of a fault",
+                );
             }
         },
     }
@@ -307,6 +319,33 @@ static SUM: [TokenKind; 4] = [
 
 static TWO_WORDS: [TokenKind; 2] = [TokenKind::Word(Mark::Plain), TokenKind::Word(Mark::Plain)];
 
+/// The kinds of keywords.
+fn keyword_kinds(alloc: Global) -> Result<Vec<TokenKind, Global>, AllocError> {
+    let mut kinds = Vec::new(alloc);
+    for keyword in &KEYWORDS {
+        kinds.push(TokenKind::Keyword(*keyword))?;
+    }
+    Ok(kinds)
+}
+
+/// The kinds of words with these marks.
+fn word_kinds(alloc: Global) -> Result<Vec<TokenKind, Global>, AllocError> {
+    let mut kinds = Vec::new(alloc);
+    for mark in &MARKS {
+        kinds.push(TokenKind::Word(*mark))?;
+    }
+    Ok(kinds)
+}
+
+/// The kinds of punctuators.
+fn punctuator_kinds(alloc: Global) -> Result<Vec<TokenKind, Global>, AllocError> {
+    let mut kinds = Vec::new(alloc);
+    for punctuator in &PUNCTUATORS {
+        kinds.push(TokenKind::Punct(*punctuator))?;
+    }
+    Ok(kinds)
+}
+
 #[test]
 fn words_are_read(rt: HostRuntime) -> Result<(), Fail> {
     let keywords =
@@ -314,45 +353,18 @@ fn words_are_read(rt: HostRuntime) -> Result<(), Fail> {
         register return short signed sizeof static struct switch typedef union unsigned void volatile while inline
         restrict _Bool __int128 _Float32 _Float32x _Float64 _Float64x _Float128 __float128 __builtin_va_list
         __builtin_va_arg __builtin_offsetof";
-    let mut names = Names::new(rt.alloc());
-    let tokens = read(&rt, Mode::C, keywords, &mut names)?;
-    assert_eq!(rt; tokens.all().len(), KEYWORDS.len());
-    for (token, keyword) in tokens.all().iter().zip(KEYWORDS.iter()) {
-        assert!(rt;
-            token.kind == TokenKind::Keyword(*keyword),
-            "at byte {}",
-            token.start
-        );
-    }
+    expect_kinds(&rt, Mode::C, keywords, &keyword_kinds(rt.alloc())?)?;
     let words =
         b"__func__ __FUNCTION__ __PRETTY_FUNCTION__ __extension__ __attribute __attribute__ asm __asm __asm__
         __inline __inline__ __restrict __restrict__ __const __const__ __volatile __volatile__ __signed __signed__
         Int ints _ L";
-    let tokens = read(&rt, Mode::C, words, &mut names)?;
-    assert_eq!(rt; tokens.all().len(), MARKS.len());
-    for (token, mark) in tokens.all().iter().zip(MARKS.iter()) {
-        assert!(rt;
-            token.kind == TokenKind::Word(*mark),
-            "at byte {}",
-            token.start
-        );
-    }
-    Ok(())
+    expect_kinds(&rt, Mode::C, words, &word_kinds(rt.alloc())?)
 }
 
 #[test]
 fn punctuators_are_read(rt: HostRuntime) -> Result<(), Fail> {
     let text = b"[](){}.->++ --& *+- ~!/ %<<>>< ><=>===!=^| &&||?:;... = *=/=%=+=-=<<=>>=&=^=|=,";
-    let mut names = Names::new(rt.alloc());
-    let tokens = read(&rt, Mode::C, text, &mut names)?;
-    assert_eq!(rt; tokens.all().len(), PUNCTUATORS.len());
-    for (token, punctuator) in tokens.all().iter().zip(PUNCTUATORS.iter()) {
-        assert!(rt;
-            token.kind == TokenKind::Punct(*punctuator),
-            "at byte {}",
-            token.start
-        );
-    }
+    expect_kinds(&rt, Mode::C, text, &punctuator_kinds(rt.alloc())?)?;
     expect_kinds(&rt, Mode::Metal, b"$==>", &OF_A_CHECKER)?;
     expect_kinds(&rt, Mode::C, b"==>", &OF_C)?;
     expect_kinds(&rt, Mode::C, b"a+++b", &SUM)?;
@@ -403,28 +415,51 @@ fn faults_have_their_places(rt: HostRuntime) {
     expect_fault(&rt, Mode::Metal, b"\n# 1", 0, (0, 2, 1));
 }
 
+/// What a preprocessor writes.
+static PREPROCESSED: &[u8] =
+    b"# 1 \"a.c\"\n# 1 \"/usr/include/x.h\" 1 3 4\n__extension__ typedef long long off64;\n\
+    extern int puts(const char *__restrict s) __attribute__((__nothrow__));\n# 2 \"a.c\" 2\n#pragma pack(1)\n\
+    void f(char *p) {\n  kfree(p);\n  kfree(p);\n}\n";
+
+/// A token has this presumed place in the file `a.c`.
+fn expect_line(rt: &impl Abort, names: &Names, found: (u32, u32, u32), place: (u32, u32)) {
+    let (source, line, col) = found;
+    expect(rt, (line, col) == place, "the line and column");
+    expect(
+        rt,
+        source < names.len() && names.text_of(source) == b"a.c".as_slice(),
+        "the presumed file",
+    );
+}
+
 #[test]
 fn preprocessed_file_is_read(rt: HostRuntime) -> Result<(), Fail> {
-    let text =
-        b"# 1 \"a.c\"\n# 1 \"/usr/include/x.h\" 1 3 4\n__extension__ typedef long long off64;\n\
-        extern int puts(const char *__restrict s) __attribute__((__nothrow__));\n# 2 \"a.c\" 2\n#pragma pack(1)\n\
-        void f(char *p) {\n  kfree(p);\n  kfree(p);\n}\n";
     let mut names = Names::new(rt.alloc());
-    let tokens = read(&rt, Mode::C, text, &mut names)?;
-    assert_eq!(rt; tokens.all().len(), 42);
-    let second = tokens.all()[36];
-    assert_eq!(rt; (second.line, second.col), (5, 3));
-    let (source, line, col) = tokens.line_of(Place { file: 0, token: 36 });
-    assert_eq!(rt; (line, col), (5, 3));
-    assert!(rt; source < names.len());
-    assert_eq!(rt; names.text_of(source), b"a.c".as_slice());
-    assert_eq!(rt; tokens.line_of(tokens.end().place), (source, 7, 1));
+    let tokens = read(&rt, Mode::C, PREPROCESSED, &mut names)?;
+    expect(&rt, tokens.all().len() == 42, "the number of tokens");
+    let second = Place { file: 0, token: 36 };
+    expect_line(&rt, &names, tokens.line_of(second), (5, 3));
+    expect_line(&rt, &names, tokens.line_of(tokens.end().place), (7, 1));
+    Ok(())
+}
+
+#[test]
+fn preprocessed_file_is_stripped_and_cut(rt: HostRuntime) -> Result<(), Fail> {
+    let mut names = Names::new(rt.alloc());
+    let tokens = read(&rt, Mode::C, PREPROCESSED, &mut names)?;
     let kept = strip(rt.alloc(), &tokens)?;
-    assert_eq!(rt; kept.all().len(), 35);
-    assert!(rt; kept.all()[12].kind == TokenKind::Keyword(Keyword::Restrict));
-    assert_eq!(rt; kept.line_of(second.place), (source, 5, 3));
+    expect(&rt, kept.all().len() == 35, "the number of tokens kept");
+    let twelfth = kept.all().get(12).map(|token| token.kind);
+    expect(
+        &rt,
+        twelfth == Some(TokenKind::Keyword(Keyword::Restrict)),
+        "a word of GNU C",
+    );
+    let second = Place { file: 0, token: 36 };
+    expect_line(&rt, &names, kept.line_of(second), (5, 3));
     let bounds = chunks(rt.alloc(), &kept)?;
-    assert_eq!(rt; bounds.as_slice(), [(0, 5), (5, 16), (16, 35)].as_slice());
+    let wanted = [(0, 5), (5, 16), (16, 35)];
+    expect(&rt, bounds.as_slice() == wanted.as_slice(), "the chunks");
     Ok(())
 }
 
@@ -433,7 +468,7 @@ fn blanks_have_no_tokens(rt: HostRuntime) -> Result<(), Fail> {
     let blanks = vec![in rt.alloc(); b' '; 16777216]?;
     let mut names = Names::new(rt.alloc());
     let tokens = read(&rt, Mode::C, blanks.as_slice(), &mut names)?;
-    assert_eq!(rt; tokens.all().len(), 0);
-    assert_eq!(rt; tokens.end().col, 16777217);
+    expect(&rt, tokens.all().is_empty(), "no tokens");
+    expect(&rt, tokens.end().col == 16777217, "the end of the file");
     Ok(())
 }
