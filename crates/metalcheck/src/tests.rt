@@ -4,6 +4,7 @@ use crate::program::run;
 use crate::status::Status;
 use mx_io::{MemFiles, MemSink};
 use std::alloc::{AllocError, Global};
+use std::process::Abort;
 use std::test::Fail;
 
 const FREE: &[u8] = b"sm free_checker {
@@ -77,41 +78,35 @@ fn run_over(alloc: Global, source: &[u8]) -> Result<Outcome, AllocError> {
     run_in(alloc, &["free.metal", "a.c"], Some(source), HONEST)
 }
 
+/// A run ended so, and wrote this.
+fn expect_end(rt: &impl Abort, it: &Outcome, status: Status, out: &[u8], errs: &[u8]) {
+    assert!(rt; it.status == status && it.out.as_slice() == out && it.errs.as_slice() == errs);
+}
+
 #[test]
 fn a_freed_pointer_is_used(rt: HostRuntime) -> Result<(), Fail> {
     let it = run_over(rt.alloc(), USE)?;
-    assert_eq!(rt; it.status, Status::Reports);
-    assert_eq!(rt;
-        it.out.as_slice(),
-        b"a.c:1:28: free_checker: using p after free!\n".as_slice()
-    );
-    assert_eq!(rt; it.errs.len(), 0);
+    let out = b"a.c:1:28: free_checker: using p after free!\n";
+    expect_end(&rt, &it, Status::Reports, out, b"");
     Ok(())
 }
 
 #[test]
 fn the_second_free_is_reported_alone(rt: HostRuntime) -> Result<(), Fail> {
     let it = run_over(rt.alloc(), b"void f(char *p){ kfree(p); kfree(p); *p; }")?;
-    assert_eq!(rt; it.status, Status::Reports);
-    assert_eq!(rt;
-        it.out.as_slice(),
-        b"a.c:1:28: free_checker: double free of p!\n".as_slice()
-    );
+    let out = b"a.c:1:28: free_checker: double free of p!\n";
+    expect_end(&rt, &it, Status::Reports, out, b"");
     Ok(())
 }
 
 #[test]
 fn refusals_name_their_file(rt: HostRuntime) -> Result<(), Fail> {
     let it = run_over(rt.alloc(), b"void f(int i){ }")?;
-    assert_eq!(rt; it.status, Status::Refused);
-    assert_eq!(rt; it.out.len(), 0);
-    assert_eq!(rt; it.errs.as_slice(), b"a.c:1: refused: NotYet\n".as_slice());
+    expect_end(&rt, &it, Status::Refused, b"", b"a.c:1: refused: NotYet\n");
     let it = run_in(rt.alloc(), &["a.c"], Some(USE), HONEST)?;
-    assert_eq!(rt; it.status, Status::Usage);
-    assert_eq!(rt; it.errs.as_slice(), USAGE);
+    expect_end(&rt, &it, Status::Usage, b"", USAGE);
     let it = run_in(rt.alloc(), &["free.metal", "a.c"], None, HONEST)?;
-    assert_eq!(rt; it.status, Status::ReadFault);
-    assert_eq!(rt; it.errs.as_slice(), b"a.c: not read\n".as_slice());
+    expect_end(&rt, &it, Status::ReadFault, b"", b"a.c: not read\n");
     Ok(())
 }
 
@@ -162,141 +157,138 @@ const REFUSED: &[(&[u8], &[u8])] = &[
 fn a_fault_of_a_text_is_named_at_its_line(rt: HostRuntime) -> Result<(), Fail> {
     for (source, line) in REFUSED {
         let it = run_over(rt.alloc(), source)?;
-        assert_eq!(rt; it.status, Status::Refused);
-        assert_eq!(rt; it.out.len(), 0);
-        assert_eq!(rt; it.errs.as_slice(), *line);
+        expect_end(&rt, &it, Status::Refused, b"", line);
     }
     Ok(())
 }
 
 #[test]
 fn blanks_comments_and_markers_may_stand_in_a_small_file(rt: HostRuntime) -> Result<(), Fail> {
-    let it = run_over(
-        rt.alloc(),
-        b"# 5 \"b.c\"\nvoid f(char *p){ /* gone */\n\tkfree(p);\n\t*p; }",
-    )?;
-    assert_eq!(rt; it.status, Status::Reports);
-    assert_eq!(rt;
-        it.out.as_slice(),
-        b"b.c:7:2: free_checker: using p after free!\n".as_slice()
-    );
+    let source = b"# 5 \"b.c\"\nvoid f(char *p){ /* gone */\n\tkfree(p);\n\t*p; }";
+    let it = run_over(rt.alloc(), source)?;
+    let out = b"b.c:7:2: free_checker: using p after free!\n";
+    expect_end(&rt, &it, Status::Reports, out, b"");
     Ok(())
+}
+
+/// What fails, the status, and how many bytes `out` and `errs` took.
+const FAILED: &[(Outside, Status, usize, usize)] = &[
+    (
+        Outside {
+            reads: &[0],
+            ..HONEST
+        },
+        Status::ReadFault,
+        0,
+        21,
+    ),
+    (
+        Outside {
+            reads: &[1],
+            ..HONEST
+        },
+        Status::ReadFault,
+        0,
+        14,
+    ),
+    (
+        Outside {
+            reads: &[2],
+            ..HONEST
+        },
+        Status::Reports,
+        44,
+        0,
+    ),
+    (
+        Outside {
+            out: &[0],
+            ..HONEST
+        },
+        Status::WriteFault,
+        0,
+        0,
+    ),
+    (
+        Outside {
+            out: &[1],
+            ..HONEST
+        },
+        Status::WriteFault,
+        10,
+        0,
+    ),
+    (
+        Outside {
+            out: &[2],
+            ..HONEST
+        },
+        Status::WriteFault,
+        20,
+        0,
+    ),
+    (
+        Outside {
+            out: &[3],
+            ..HONEST
+        },
+        Status::WriteFault,
+        30,
+        0,
+    ),
+    (
+        Outside {
+            out: &[4],
+            ..HONEST
+        },
+        Status::WriteFault,
+        40,
+        0,
+    ),
+    (
+        Outside {
+            out: &[5],
+            ..HONEST
+        },
+        Status::Reports,
+        44,
+        0,
+    ),
+    (Outside { room: 0, ..HONEST }, Status::WriteFault, 0, 0),
+    (Outside { room: 43, ..HONEST }, Status::WriteFault, 43, 0),
+    (Outside { room: 44, ..HONEST }, Status::Reports, 44, 0),
+    (
+        Outside {
+            reads: &[1],
+            errs: &[0],
+            ..HONEST
+        },
+        Status::WriteFault,
+        0,
+        0,
+    ),
+    (
+        Outside {
+            reads: &[1],
+            errs: &[1],
+            ..HONEST
+        },
+        Status::WriteFault,
+        0,
+        10,
+    ),
+];
+
+/// A run ended so, and wrote so many bytes.
+fn expect_lengths(rt: &impl Abort, it: &Outcome, status: Status, out: usize, errs: usize) {
+    assert!(rt; it.status == status && it.out.len() == out && it.errs.len() == errs);
 }
 
 #[test]
 fn failed_calls_end_the_run(rt: HostRuntime) -> Result<(), Fail> {
-    // what fails, the status, and how many bytes `out` and `errs` took
-    let cases = [
-        (
-            Outside {
-                reads: &[0],
-                ..HONEST
-            },
-            Status::ReadFault,
-            0,
-            21,
-        ),
-        (
-            Outside {
-                reads: &[1],
-                ..HONEST
-            },
-            Status::ReadFault,
-            0,
-            14,
-        ),
-        (
-            Outside {
-                reads: &[2],
-                ..HONEST
-            },
-            Status::Reports,
-            44,
-            0,
-        ),
-        (
-            Outside {
-                out: &[0],
-                ..HONEST
-            },
-            Status::WriteFault,
-            0,
-            0,
-        ),
-        (
-            Outside {
-                out: &[1],
-                ..HONEST
-            },
-            Status::WriteFault,
-            10,
-            0,
-        ),
-        (
-            Outside {
-                out: &[2],
-                ..HONEST
-            },
-            Status::WriteFault,
-            20,
-            0,
-        ),
-        (
-            Outside {
-                out: &[3],
-                ..HONEST
-            },
-            Status::WriteFault,
-            30,
-            0,
-        ),
-        (
-            Outside {
-                out: &[4],
-                ..HONEST
-            },
-            Status::WriteFault,
-            40,
-            0,
-        ),
-        (
-            Outside {
-                out: &[5],
-                ..HONEST
-            },
-            Status::Reports,
-            44,
-            0,
-        ),
-        (Outside { room: 0, ..HONEST }, Status::WriteFault, 0, 0),
-        (Outside { room: 43, ..HONEST }, Status::WriteFault, 43, 0),
-        (Outside { room: 44, ..HONEST }, Status::Reports, 44, 0),
-        (
-            Outside {
-                reads: &[1],
-                errs: &[0],
-                ..HONEST
-            },
-            Status::WriteFault,
-            0,
-            0,
-        ),
-        (
-            Outside {
-                reads: &[1],
-                errs: &[1],
-                ..HONEST
-            },
-            Status::WriteFault,
-            0,
-            10,
-        ),
-    ];
-    for (outside, status, out, errs) in &cases {
+    for (outside, status, out, errs) in FAILED {
         let it = run_in(rt.alloc(), &["free.metal", "a.c"], Some(USE), *outside)?;
-        assert_eq!(rt; it.status, *status);
-        assert_eq!(rt; it.out.len(), *out);
-        assert_eq!(rt; it.errs.len(), *errs);
+        expect_lengths(&rt, &it, *status, *out, *errs);
     }
     Ok(())
 }

@@ -2,6 +2,7 @@
 //! sinks give and take, and how the faults are worded.
 
 use crate::{FileFault, Files, MemFiles, MemSink, OsFiles, OsSink, Sink, SinkFailed};
+use std::process::Abort;
 use std::test::Fail;
 use std::{env, fs, process};
 
@@ -25,61 +26,63 @@ fn write_whole<S: Sink>(sink: &mut S, text: &[u8]) -> Result<(), SinkFailed> {
     Ok(())
 }
 
+/// This holds of what is named.
+fn expect(rt: &impl Abort, holds: bool, of: &str) {
+    assert!(rt; holds, "{of}");
+}
+
+/// Reads, and what they give: the name, the most bytes, and the contents or the fault.
+const READS: &[(&str, u64, Result<&[u8], FileFault>)] = &[
+    ("a.c", 5, Ok(b"first")),
+    ("b.c", 0, Ok(b"")),
+    ("a.c", 5, Err(FileFault::Failed)),
+    ("a.c", 5, Ok(b"first")),
+    ("a.c", 4, Err(FileFault::TooLarge(5))),
+    ("c.c", 9, Err(FileFault::Failed)),
+];
+
+/// Whether a read gave this.
+fn is_read(seen: Result<Vec<u8>, FileFault>, wanted: Result<&[u8], FileFault>) -> bool {
+    match (seen, wanted) {
+        (Ok(bytes), Ok(known)) => bytes.as_slice() == known,
+        (Err(fault), Err(cause)) => fault == cause,
+        _ => false,
+    }
+}
+
 #[test]
 fn files_in_memory_fail_by_number_and_by_name(rt: HostRuntime) -> Result<(), Fail> {
     let mut files = MemFiles::new(rt.alloc(), &[2])?;
     files.add("a.c", b"first")?;
     files.add("a.c", b"second")?;
     files.add("b.c", b"")?;
-    let reads = [
-        ("a.c", 5, Ok(b"first".as_slice())),
-        ("b.c", 0, Ok(b"".as_slice())),
-        ("a.c", 5, Err(FileFault::Failed)),
-        ("a.c", 5, Ok(b"first".as_slice())),
-        ("a.c", 4, Err(FileFault::TooLarge(5))),
-        ("c.c", 9, Err(FileFault::Failed)),
-    ];
-    for (number, (name, most, want)) in reads.into_iter().enumerate() {
-        match (files.read(name, most), want) {
-            (Ok(bytes), Ok(known)) => assert_eq!(rt; bytes.as_slice(), known, "read {number}"),
-            (Err(fault), Err(cause)) => assert_eq!(rt; fault, cause, "read {number}"),
-            _ => panic!(rt; "read {number}"),
-        }
+    for (name, most, wanted) in READS {
+        expect(&rt, is_read(files.read(name, *most), *wanted), name);
     }
-    assert_eq!(rt; files.faults(), 2);
+    expect(&rt, files.faults() == 2, "the faults");
     Ok(())
 }
+
+/// The write that fails, the room, and then how many bytes were taken of 44, 10 a write.
+const WRITES: &[(u64, usize, usize)] = &[
+    (0, 44, 0),
+    (1, 44, 10),
+    (4, 44, 40),
+    (5, 44, 44),
+    (9, 0, 0),
+    (9, 43, 43),
+];
 
 #[test]
 fn a_sink_in_memory_fails_by_number_and_for_room(rt: HostRuntime) -> Result<(), Fail> {
     let text = b"a.c:1:28: free_checker: using p after free!\n";
-    // The write that fails, the room, and then how many bytes were taken of 44, 10 a write.
-    let cases = [
-        (0, 44, 0),
-        (1, 44, 10),
-        (4, 44, 40),
-        (5, 44, 44),
-        (9, 0, 0),
-        (9, 43, 43),
-    ];
-    for (fails, room, taken) in cases {
-        let mut sink = MemSink::new(rt.alloc(), 10, &[fails], room)?;
-        let answer = write_whole(&mut sink, text);
-        assert_eq!(rt;
-            answer.is_ok(),
-            taken == text.len(),
-            "write {fails}, room {room}"
-        );
-        assert_eq!(rt;
-            sink.bytes(),
-            text.get(..taken).unwrap_or(text),
-            "write {fails}, room {room}"
-        );
-        assert_eq!(rt;
-            sink.faults(),
-            answer.is_err() as u64,
-            "write {fails}, room {room}"
-        );
+    for (fails, room, taken) in WRITES {
+        let mut sink = MemSink::new(rt.alloc(), 10, &[*fails], *room)?;
+        let is_whole = write_whole(&mut sink, text).is_ok();
+        expect(&rt, is_whole == (*taken == text.len()), "the answer");
+        let wanted = text.get(..*taken).unwrap_or(text);
+        expect(&rt, sink.bytes() == wanted, "the bytes taken");
+        expect(&rt, sink.faults() == !is_whole as u64, "the faults");
     }
     Ok(())
 }
@@ -96,9 +99,14 @@ fn a_file_of_the_system_is_read_whole(rt: HostRuntime) -> Result<(), Fail> {
     let whole = files.read(&path, most);
     let larger = files.read(&path, most - 1);
     fs::remove_file(&rt, &path)?;
-    assert_eq!(rt; whole?.as_slice(), text.as_slice());
-    assert_eq!(rt; larger.err(), Some(FileFault::TooLarge(most)));
-    assert_eq!(rt; files.read(&path, most).err(), Some(FileFault::Failed));
+    let gone = files.read(&path, most);
+    expect(&rt, is_read(whole, Ok(text.as_slice())), "the whole file");
+    expect(
+        &rt,
+        is_read(larger, Err(FileFault::TooLarge(most))),
+        "one byte more",
+    );
+    expect(&rt, is_read(gone, Err(FileFault::Failed)), "no file");
     Ok(())
 }
 
@@ -110,9 +118,11 @@ fn a_sink_of_the_system_writes_the_pieces_in_order(rt: HostRuntime) -> Result<()
     write_whole(&mut sink, b"free_checker: double free of p!\n")?;
     let written = fs::read(&rt, &path);
     fs::remove_file(&rt, &path)?;
-    assert_eq!(rt;
-        written?.as_slice(),
-        b"a.c:1:28: free_checker: double free of p!\n".as_slice()
+    let wanted = b"a.c:1:28: free_checker: double free of p!\n";
+    expect(
+        &rt,
+        written?.as_slice() == wanted.as_slice(),
+        "what was written",
     );
     Ok(())
 }
@@ -125,9 +135,8 @@ fn faults_are_worded(rt: HostRuntime) -> Result<(), Fail> {
         FileFault::TooLarge(9),
         FileFault::NoMemory
     )?;
-    assert_eq!(rt;
-        words.as_str(),
-        "the file was not read; the file has at least 9 bytes; no memory for the file; nothing was written"
-    );
+    let wanted =
+        "the file was not read; the file has at least 9 bytes; no memory for the file; nothing was written";
+    expect(&rt, words.as_str() == wanted, "the words");
     Ok(())
 }
