@@ -77,8 +77,8 @@ fn step(
         return close_walk(&walk, true, all);
     }
     let block = graph.block(walk.block);
-    take_events(block.events.as_slice(), names, limit, &mut walk)?;
     walk.blocks += 1;
+    take_events(block.events.as_slice(), names, limit, &mut walk)?;
     match &block.end {
         End::Exit => close_walk(&walk, false, all),
         _ if walk.events >= limit => close_walk(&walk, true, all),
