@@ -49,14 +49,6 @@ fn integer(value: u64, decimal: bool, name: u32) -> Token {
     )
 }
 
-fn node(id: u32, kind: Kind) -> Tree {
-    Tree {
-        id,
-        first: PLACE,
-        kind,
-    }
-}
-
 fn expect_same(rt: &impl Abort, a: &Tree, b: &Tree) {
     expect(rt, same_tree(a, b), "the same");
     expect(rt, same_tree(b, a), "the same, turned round");
@@ -65,58 +57,6 @@ fn expect_same(rt: &impl Abort, a: &Tree, b: &Tree) {
 fn expect_other(rt: &impl Abort, a: &Tree, b: &Tree) {
     expect(rt, !same_tree(a, b), "another");
     expect(rt, !same_tree(b, a), "another, turned round");
-}
-
-#[test]
-fn operands_are_compared(rt: HostRuntime) {
-    let (x, f) = (word(1), word(2));
-    let (hex, decimal, more) = (
-        integer(16, false, 3),
-        integer(16, true, 4),
-        integer(17, true, 5),
-    );
-    let name = node(1, Kind::Primary(Primary::Ident { name: &x }));
-    let paren = node(2, Kind::Primary(Primary::Paren { inner: &name }));
-    let other = node(3, Kind::Primary(Primary::Ident { name: &f }));
-    expect_same(&rt, &name, &paren);
-    expect_other(&rt, &paren, &other);
-    let hex = node(4, Kind::Primary(Primary::Constant { token: &hex }));
-    let decimal = node(5, Kind::Primary(Primary::Constant { token: &decimal }));
-    let more = node(6, Kind::Primary(Primary::Constant { token: &more }));
-    expect_same(&rt, &hex, &decimal);
-    expect_other(&rt, &decimal, &more);
-    let arrow = node(
-        7,
-        Kind::Operation(Operation::Arrow {
-            operand: &name,
-            member: &f,
-        }),
-    );
-    let pointed = node(
-        8,
-        Kind::Operation(Operation::Unary {
-            op: UnaryOp::Deref,
-            operand: &paren,
-        }),
-    );
-    let pointed = node(9, Kind::Primary(Primary::Paren { inner: &pointed }));
-    let dot = node(
-        10,
-        Kind::Operation(Operation::Member {
-            operand: &pointed,
-            member: &f,
-        }),
-    );
-    let plain = node(
-        11,
-        Kind::Operation(Operation::Member {
-            operand: &name,
-            member: &f,
-        }),
-    );
-    expect_same(&rt, &arrow, &dot);
-    expect_other(&rt, &arrow, &plain);
-    expect_other(&rt, &dot, &plain);
 }
 
 fn put<'a>(arena: &'a Arena, id: u32, kind: Kind<'a>) -> Result<&'a Tree<'a>, AllocError> {
@@ -191,24 +131,102 @@ fn braces(arena: &Arena, id: u32) -> Result<&Tree, AllocError> {
     )
 }
 
+fn paren<'a>(arena: &'a Arena, id: u32, inner: &'a Tree<'a>) -> Result<&'a Tree<'a>, AllocError> {
+    put(arena, id, Kind::Primary(Primary::Paren { inner }))
+}
+
+#[test]
+fn names_are_compared(rt: HostRuntime) -> Result<(), Fail> {
+    let arena = Bump::new(rt.alloc());
+    let x = name(&arena, 1)?;
+    let paren = paren(&arena, 2, x)?;
+    let other = name(&arena, 3)?;
+    expect_same(&rt, x, paren);
+    expect_other(&rt, paren, other);
+    Ok(())
+}
+
+fn constant(arena: &Arena, id: u32, token: Token) -> Result<&Tree, AllocError> {
+    let token = arena.try_alloc(token)?;
+    put(arena, id, Kind::Primary(Primary::Constant { token }))
+}
+
+#[test]
+fn constants_are_compared(rt: HostRuntime) -> Result<(), Fail> {
+    let arena = Bump::new(rt.alloc());
+    let hex = constant(&arena, 1, integer(16, false, 3))?;
+    let decimal = constant(&arena, 2, integer(16, true, 4))?;
+    let more = constant(&arena, 3, integer(17, true, 5))?;
+    expect_same(&rt, hex, decimal);
+    expect_other(&rt, decimal, more);
+    Ok(())
+}
+
+/// `operand->2`
+fn arrow<'a>(arena: &'a Arena, operand: &'a Tree<'a>) -> Result<&'a Tree<'a>, AllocError> {
+    let member = arena.try_alloc(word(2))?;
+    put(
+        arena,
+        7,
+        Kind::Operation(Operation::Arrow { operand, member }),
+    )
+}
+
+/// `operand.2`
+fn dot<'a>(arena: &'a Arena, operand: &'a Tree<'a>) -> Result<&'a Tree<'a>, AllocError> {
+    let member = arena.try_alloc(word(2))?;
+    put(
+        arena,
+        8,
+        Kind::Operation(Operation::Member { operand, member }),
+    )
+}
+
+/// `(*(operand))`
+fn pointed<'a>(arena: &'a Arena, operand: &'a Tree<'a>) -> Result<&'a Tree<'a>, AllocError> {
+    let operand = paren(arena, 9, operand)?;
+    let op = UnaryOp::Deref;
+    let read = put(arena, 10, Kind::Operation(Operation::Unary { op, operand }))?;
+    paren(arena, 11, read)
+}
+
+#[test]
+fn members_are_compared(rt: HostRuntime) -> Result<(), Fail> {
+    let arena = Bump::new(rt.alloc());
+    let x = name(&arena, 1)?;
+    let arrow = arrow(&arena, x)?;
+    let plain = dot(&arena, x)?;
+    let pointed = dot(&arena, pointed(&arena, x)?)?;
+    expect_same(&rt, arrow, pointed);
+    expect_other(&rt, arrow, plain);
+    expect_other(&rt, pointed, plain);
+    Ok(())
+}
+
 #[test]
 fn assignments_are_compared(rt: HostRuntime) -> Result<(), Fail> {
     let arena = Bump::new(rt.alloc());
     let x = name(&arena, 1)?;
     let value = name(&arena, 2)?;
-    let braces = braces(&arena, 3)?;
     let declared = init(&arena, 4, x, value)?;
-    let braced = init(&arena, 5, x, braces)?;
     let assigned = assign(&arena, 6, AssignOp::Plain, x, value)?;
     let added = assign(&arena, 7, AssignOp::Add, x, value)?;
-    let of_braces = assign(&arena, 8, AssignOp::Plain, x, braces)?;
     expect_same(&rt, declared, assigned);
     expect_other(&rt, declared, added);
     expect_other(&rt, assigned, added);
-    expect_other(&rt, braced, of_braces);
-    expect_other(&rt, braced, declared);
+    Ok(())
+}
+
+#[test]
+fn braces_are_compared(rt: HostRuntime) -> Result<(), Fail> {
+    let arena = Bump::new(rt.alloc());
+    let x = name(&arena, 1)?;
+    let braces = braces(&arena, 3)?;
+    let braced = init(&arena, 5, x, braces)?;
     let again = init(&arena, 9, name(&arena, 1)?, braces)?;
     expect_same(&rt, braced, again);
+    expect_other(&rt, braced, assign(&arena, 8, AssignOp::Plain, x, braces)?);
+    expect_other(&rt, braced, init(&arena, 4, x, name(&arena, 2)?)?);
     Ok(())
 }
 
@@ -232,32 +250,37 @@ fn call<'a>(
     )
 }
 
+/// `1(2, last)`
+fn tokens_of_call(last: u32) -> [Token; 6] {
+    [
+        word(1),
+        sign(Punctuator::OpenParen),
+        word(2),
+        sign(Punctuator::Comma),
+        word(last),
+        sign(Punctuator::CloseParen),
+    ]
+}
+
 #[test]
 fn tokens_are_yielded(rt: HostRuntime) -> Result<(), Fail> {
     let arena = Bump::new(rt.alloc());
-    let call = call(
-        &arena,
-        4,
-        name(&arena, 1)?,
-        name(&arena, 2)?,
-        name(&arena, 3)?,
-    )?;
-    let (f, a, b) = (word(1), word(2), word(3));
-    let (open, comma, close) = (
-        sign(Punctuator::OpenParen),
-        sign(Punctuator::Comma),
-        sign(Punctuator::CloseParen),
-    );
-    let tokens = [f, open, a, comma, b, close];
-    let more = [f, open, a, comma, b, close, close];
-    let other = [f, open, a, comma, a, close];
+    let (f, a, b) = (name(&arena, 1)?, name(&arena, 2)?, name(&arena, 3)?);
+    let call = call(&arena, 4, f, a, b)?;
+    let tokens = tokens_of_call(3);
     expect(&rt, yields(call, &tokens), "the tokens of the call");
     expect(&rt, !yields(call, &tokens[..5]), "one fewer");
-    expect(&rt, !yields(call, &more), "one more");
-    expect(&rt, !yields(call, &other), "one other");
+    expect(&rt, !yields(call, &tokens_of_call(2)), "one other");
+    expect(&rt, !yields(f, &tokens), "more than its own");
+    Ok(())
+}
+
+#[test]
+fn holes_yield_no_tokens(rt: HostRuntime) -> Result<(), Fail> {
+    let arena = Bump::new(rt.alloc());
     let hole = put(&arena, 5, Kind::Primary(Primary::Hole { number: 0 }))?;
     expect(&rt, yields(hole, &[]), "a hole");
-    expect(&rt, !yields(hole, &tokens), "a hole with tokens");
+    expect(&rt, !yields(hole, &tokens_of_call(3)), "a hole with tokens");
     Ok(())
 }
 
@@ -271,28 +294,41 @@ fn expect_leaf(rt: &impl Abort, name: &Token) {
     expect(rt, height(&leaf) == 1, "the height of a leaf");
 }
 
-#[test]
-fn trees_are_copied(rt: HostRuntime) -> Result<(), Fail> {
-    expect_leaf(&rt, &word(1));
-    let arena = Bump::new(rt.alloc());
-    let x = name(&arena, 1)?;
-    let call = call(&arena, 2, x, name(&arena, 6)?, name(&arena, 7)?)?;
-    let returned = put(&arena, 3, Kind::Jump(Jump::Return { value: Some(call) }))?;
-    let chosen = put(
-        &arena,
+/// `if (x) return call;`
+fn choice<'a>(
+    arena: &'a Arena,
+    x: &'a Tree<'a>,
+    returned: &'a Tree<'a>,
+) -> Result<&'a Tree<'a>, AllocError> {
+    put(
+        arena,
         4,
         Kind::Statement(Statement::If {
             condition: x,
             then: returned,
             otherwise: None,
         }),
-    )?;
-    let items = two(&arena, chosen, returned)?;
-    let block = put(&arena, 5, Kind::Statement(Statement::Block { items }))?;
+    )
+}
+
+/// `{ if (1) return 1(6, 7); return 1(6, 7); }`
+fn block(arena: &Arena) -> Result<&Tree, AllocError> {
+    let x = name(arena, 1)?;
+    let call = call(arena, 2, x, name(arena, 6)?, name(arena, 7)?)?;
+    let returned = put(arena, 3, Kind::Jump(Jump::Return { value: Some(call) }))?;
+    let items = two(arena, choice(arena, x, returned)?, returned)?;
+    put(arena, 5, Kind::Statement(Statement::Block { items }))
+}
+
+#[test]
+fn trees_are_copied(rt: HostRuntime) -> Result<(), Fail> {
+    expect_leaf(&rt, &word(1));
+    let arena = Bump::new(rt.alloc());
+    let block = block(&arena)?;
     let second = Bump::new(rt.alloc());
     let copy = copy_tree(&second, block)?;
     expect(&rt, equal_tree(copy, block), "the copy");
     expect(&rt, copy.id == 5, "the number of the copy");
-    expect(&rt, !equal_tree(copy, chosen), "a part of the tree");
+    expect(&rt, !equal_tree(copy, name(&arena, 1)?), "another tree");
     Ok(())
 }
