@@ -1,22 +1,10 @@
 //! Checks C files by a checker.
 #![tactic(auto)]
 
-mod analysis;
-mod fault;
-mod file;
-mod judge;
-mod lines;
-mod plan;
-mod program;
-mod refusal;
-mod status;
 #[cfg(test)]
 mod tests;
-mod words;
-mod write_out;
 
-use crate::program::run;
-use crate::status::Status;
+use command::{Status, run};
 use mx_io::{OsFiles, OsSink};
 use std::alloc::AllocError;
 use std::env;

@@ -1,7 +1,6 @@
 //! Whole runs over files and sinks in memory.
 
-use crate::program::run;
-use crate::status::Status;
+use command::{Status, run};
 use mx_io::{MemFiles, MemSink};
 use std::alloc::{AllocError, Global};
 use std::process::Abort;

@@ -1,7 +1,0 @@
--- the lines so far and those of the reports that are left are all
-use Rattle.std.proofs.Common.{◌≡◌, ◌++◌, drop}
-use Rattle.path_model.specs.Reports.{text_of}
-use Rattle.metalcheck.proofs.lines.write_lines.Given as goal
-
-abbrev pub invariant-loop-report : goal.invariant-loop-report
-invariant-loop-report l = l.text.items ++ text_of (drop l.report-index l.reports) ≡ text_of l.reports
