@@ -1,1 +1,2 @@
 pub mod Linked
+mod Examples
