@@ -1,0 +1,61 @@
+//! Linking: from typed units to a program.
+
+ghost use Rattle.std.specs.Prelude.{◌≡◌, ◌+◌, ◌<◌, ◌≤◌, ◌^◌, ◌++◌, [], ◌∷◌, length, map, List, None, IfOk, IfErr, OnOk};
+ghost use Rattle.c_typing.specs.Functions.{Defined};
+ghost use Rattle.call_graph.specs.Faults.{IsRepeat, IsLinkFault};
+ghost use Rattle.programs.specs.Definitions.{AreNumbered, defined_by, definitions, trees_in};
+ghost use Rattle.programs.specs.Repeats.{AreApart, first_repeat, link_fault};
+ghost use Rattle.typed_unit.specs.Functions.{function_of};
+
+use crate::fault::LinkFault;
+use programs::{Functions, Program, units_are_listed};
+use typed_unit::{TypedFunction, TypedUnit};
+
+// Adds a function, unless it repeats an earlier one.
+fn add<'a>(functions: &mut Functions<'a>, function: &'a TypedFunction<'a>) -> Result<(), LinkFault>
+    requires { length functions.old.all.items + 1 < 2 ^ 32 }
+    ensures kept { IfOk result (λ _. defined_by functions.new.all.items ≡ defined_by functions.old.all.items ++ (function_of function.now ∷ [])) }
+    ensures goes_on { IfOk result (λ _. (rest : List Defined) → first_repeat (defined_by functions.old.all.items) (function_of function.now ∷ rest) ≡ first_repeat (defined_by functions.new.all.items) rest) }
+    ensures repeated { IfErr result (λ e. (rest : List Defined) → IsRepeat e (first_repeat (defined_by functions.old.all.items) (function_of function.now ∷ rest))) }
+{
+    if functions.repeats(function) {
+        return Err(LinkFault::DuplicateFunction {
+            name: function.name,
+            place: function.place,
+        });
+    }
+    functions.push(function)?;
+    Ok(())
+}
+
+// Adds the functions of a unit.
+fn add_unit<'a>(functions: &mut Functions<'a>, unit: &'a TypedUnit<'a>) -> Result<(), LinkFault>
+    requires { length functions.old.all.items + length unit.now.functions.items < 2 ^ 32 }
+    ensures kept { IfOk result (λ _. defined_by functions.new.all.items ≡ defined_by functions.old.all.items ++ map function_of unit.now.functions.items) }
+    ensures goes_on { IfOk result (λ _. (rest : List Defined) → first_repeat (defined_by functions.old.all.items) (map function_of unit.now.functions.items ++ rest) ≡ first_repeat (defined_by functions.new.all.items) rest) }
+    ensures repeated { IfErr result (λ e. (rest : List Defined) → IsRepeat e (first_repeat (defined_by functions.old.all.items) (map function_of unit.now.functions.items ++ rest))) }
+{
+    for function in unit.functions.as_slice() {
+        add(functions, function)?;
+    }
+    Ok(())
+}
+
+/// Links typed units, each with the number of its file as its position: the program that they are, if no function has two bodies
+/// that stand in one file or that both have external linkage. The work is linear in the number of functions.
+pub fn link<'a>(units: Vec<&'a TypedUnit<'a>>) -> Result<Program<'a>, LinkFault>
+    requires few_units { length units.items ≤ 65535 }
+    requires numbered { AreNumbered units.items }
+    requires few_functions { length (definitions (trees_in units.items)) < 2 ^ 32 }
+    ensures units { IfOk result (λ program. program.units ≡ units.entry) }
+    ensures linked { OnOk result (link_fault (definitions (trees_in units.items)) ≡ None) }
+    ensures apart { OnOk result (AreApart (definitions (trees_in units.items))) }
+    ensures fault { IfErr result (λ e. IsLinkFault e (link_fault (definitions (trees_in units.items)))) }
+{
+    units_are_listed();
+    let mut functions = Functions::new(*units.allocator());
+    for unit in units.as_slice() {
+        add_unit(&mut functions, unit)?;
+    }
+    Ok(Program::new(units, functions))
+}
