@@ -1,10 +1,10 @@
 -- The tokens of a file from one of them on.
-use Rattle.std.proofs.Common.{◌≡◌, ◌≤◌, ◌<◌, ◌+◌, ◌-◌, ℕ, zero, suc, List, [], ◌∷◌, length, drop, take, get_or, true, false, leb, ltb, refl, ap, arith, ltb-true, ltb-false, le-leb}
+use Rattle.std.proofs.Common.{◌≡◌, ◌≤◌, ◌<◌, ◌+◌, ◌-◌, ℕ, zero, suc, List, [], ◌∷◌, length, drop, take, get_or, true, false, ltb, refl, ap, arith, ltb-true, ltb-false, le-leb}
 use Rattle.std.proofs.lemmas.List.{take_all, length-drop}
 use Rattle.std.proofs.Props.{props}
 use borrow.Author.Tests.{lt-leb}
 use Rattle.std.proofs.Math.Logic.{∥∥₁_elim}
-use Rattle.std.specs.List.{AllWithin, filter}
+use Rattle.std.specs.List.{AllWithin}
 use Rattle.std.specs.List.Sorted.{IsNonDecreasingBy}
 use Rattle.c_tree.specs.declared.token.Token.{Token}
 use Rattle.c_tree.specs.TokenPlaces.{Rises, StandInFile}
