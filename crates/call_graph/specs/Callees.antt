@@ -1,5 +1,5 @@
 -- That a name stands in callee position in a tree: it is called there, at any depth. Parentheses around it are seen through.
-use Rattle.std.specs.Prelude.{ℕ, Bool, false, ◌&&◌, ◌||◌, nat_eq}
+use Rattle.std.specs.Prelude.{ℕ, Bool, false, ◌||◌, nat_eq}
 use Rattle.c_tree.specs.Symbol.{Symbol, Word}
 use Rattle.c_tree.specs.Syntax.{Syntax, Primary, Operation, Initializer, Specifier, Declarator, Part, PrimarySyntax, OperationSyntax, InitializerSyntax, SpecifierSyntax, DeclaratorSyntax, PartSyntax, Ident, Paren, VaArg, Offsetof, Index, Call, Member, Arrow, CompoundLit, Unary, SizeofType, Cast, Binary, Cond, Assign, Init, Braces, Designated, TypeName, Specs, StructBody, EnumBody, StructDeclaration, BitField, Param, Named, Nested, Unnamed, ArrayBound, Params, Enumerator, IndexDesignator, MaybeSyntax, absent, present, Syntaxes, no_more, more}
 

@@ -3,7 +3,7 @@
 ghost use Rattle.std.specs.Prelude.{◌≡◌, ◌+◌, ◌<◌, ◌≤◌, ◌^◌, ◌++◌, [], ◌∷◌, length, map, List, None, IfOk, IfErr, OnOk};
 ghost use Rattle.c_typing.specs.Functions.{Defined};
 ghost use Rattle.call_graph.specs.Faults.{IsRepeat, IsLinkFault};
-ghost use Rattle.programs.specs.Definitions.{AreNumbered, defined_by, definitions, trees_in};
+ghost use Rattle.programs.specs.Definitions.{AreNumbered, defined_by, definitions, kept_in, trees_in};
 ghost use Rattle.programs.specs.Repeats.{AreApart, first_repeat, link_fault};
 ghost use Rattle.typed_unit.specs.Functions.{function_of};
 
@@ -41,6 +41,20 @@ fn add_unit<'a>(functions: &mut Functions<'a>, unit: &'a TypedUnit<'a>) -> Resul
     Ok(())
 }
 
+// The functions of all units, in source order.
+fn gather<'a>(units: &Vec<&'a TypedUnit<'a>>) -> Result<Functions<'a>, LinkFault>
+    requires { length (kept_in units.now.items) < 2 ^ 32 }
+    ensures kept { IfOk result (λ functions. defined_by functions.all.items ≡ kept_in units.now.items) }
+    ensures linked { OnOk result (first_repeat [] (kept_in units.now.items) ≡ None) }
+    ensures repeated { IfErr result (λ e. IsRepeat e (first_repeat [] (kept_in units.now.items))) }
+{
+    let mut functions = Functions::new(*units.allocator());
+    for i in 0..units.len() {
+        add_unit(&mut functions, units[i])?;
+    }
+    Ok(functions)
+}
+
 /// Links typed units, each with the number of its file as its position: the program that they are, if no function has two bodies
 /// that stand in one file or that both have external linkage. The work is linear in the number of functions.
 pub fn link<'a>(units: Vec<&'a TypedUnit<'a>>) -> Result<Program<'a>, LinkFault>
@@ -48,14 +62,11 @@ pub fn link<'a>(units: Vec<&'a TypedUnit<'a>>) -> Result<Program<'a>, LinkFault>
     requires numbered { AreNumbered units.items }
     requires few_functions { length (definitions (trees_in units.items)) < 2 ^ 32 }
     ensures units { IfOk result (λ program. program.units ≡ units.entry) }
-    ensures linked { OnOk result (link_fault (definitions (trees_in units.items)) ≡ None) }
-    ensures apart { OnOk result (AreApart (definitions (trees_in units.items))) }
-    ensures fault { IfErr result (λ e. IsLinkFault e (link_fault (definitions (trees_in units.items)))) }
+    ensures linked { OnOk result (link_fault (definitions (trees_in units.entry.items)) ≡ None) }
+    ensures apart { OnOk result (AreApart (definitions (trees_in units.entry.items))) }
+    ensures fault { IfErr result (λ e. IsLinkFault e (link_fault (definitions (trees_in units.entry.items)))) }
 {
     units_are_listed();
-    let mut functions = Functions::new(*units.allocator());
-    for unit in units.as_slice() {
-        add_unit(&mut functions, unit)?;
-    }
+    let functions = gather(&units)?;
     Ok(Program::new(units, functions))
 }
