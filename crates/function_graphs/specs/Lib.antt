@@ -1,0 +1,4 @@
+pub mod Closing
+pub mod Variables
+pub mod Known
+pub mod Bodies
