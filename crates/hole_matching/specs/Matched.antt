@@ -5,7 +5,7 @@ use Rattle.c_typing.specs.Options.{if_there, ◌>?◌}
 use Rattle.hole_matching.specs.ComparedSubjects.{compared, compared_all}
 use Rattle.metal_machines.specs.Limits.{most_holes}
 use Rattle.hole_matching.specs.Holes.{Setting, may_take, takes_rest}
-use Rattle.hole_matching.specs.Matching.{Taken, One, Many, Binding, slot}
+use Rattle.hole_matching.specs.Matching.{Taken, One, Many, Binding, slot, Seat, Argument, first_seat, next_seat}
 use Rattle.hole_matching.specs.Pattern.{Head, Pattern, hole, likewise, other, Patterns, no_more, more, same_head, same_pattern, same_patterns}
 use Rattle.path_subjects.specs.Subjects.{Subject}
 use Rattle.hole_matching.specs.Subjects.{inner, head_of, parts_of}
@@ -32,10 +32,10 @@ bound_in u n x b (Some y) = cond (are_equal u y x) (Some b) None
 abbrev pub bound : Facts → ℕ → Taken → Binding → Option Binding
 bound u n x b = bound_in u n x b (slot n b)
 
--- the hole for arguments that a pattern is, if it stands last
-abbrev pub rest_hole : Setting → Pattern → Patterns → Option ℕ
-rest_hole g (hole n) no_more = cond (takes_rest g n) (Some n) None
-rest_hole g _ _ = None
+-- the hole for arguments that a pattern is, if it stands last among the arguments of a call
+abbrev pub rest_hole : Setting → Seat → Pattern → Patterns → Option ℕ
+rest_hole g Argument (hole n) no_more = cond (takes_rest g n) (Some n) None
+rest_hole g _ _ _ = None
 
 abbrev pub is_head : Option Head → Head → Bool
 is_head None h = false
@@ -45,11 +45,11 @@ is_head (Some k) h = same_head k h
 abbrev mutual
   pub matched : Setting → Pattern → Subject → Binding → Option Binding
   matched g (hole n) s b = cond (may_take g n (inner s)) (bound g.facts n (One (inner s)) b) None
-  matched g (likewise h ps) s b = cond (is_head (head_of g.facts (inner s)) h) (matched_all g ps (parts_of (inner s)) b) None
+  matched g (likewise h ps) s b = cond (is_head (head_of g.facts (inner s)) h) (matched_all g (first_seat h) ps (parts_of (inner s)) b) None
   matched g other s b = None
 
-  pub matched_all : Setting → Patterns → List Subject → Binding → Option Binding
-  matched_all g no_more [] b = Some b
-  matched_all g no_more (s ∷ ss) b = None
-  matched_all g (more p ps) [] b = rest_hole g p ps >? λ n. bound g.facts n (Many []) b
-  matched_all g (more p ps) (s ∷ ss) b = if_there (rest_hole g p ps) (matched g p s b >? matched_all g ps ss) (λ n. bound g.facts n (Many (s ∷ ss)) b)
+  pub matched_all : Setting → Seat → Patterns → List Subject → Binding → Option Binding
+  matched_all g seat no_more [] b = Some b
+  matched_all g seat no_more (s ∷ ss) b = None
+  matched_all g seat (more p ps) [] b = rest_hole g seat p ps >? λ n. bound g.facts n (Many []) b
+  matched_all g seat (more p ps) (s ∷ ss) b = if_there (rest_hole g seat p ps) (matched g p s b >? matched_all g (next_seat seat) ps ss) (λ n. bound g.facts n (Many (s ∷ ss)) b)

@@ -4,7 +4,7 @@ use Rattle.c_objects.specs.Facts.{Facts}
 use Rattle.hole_matching.specs.ComparedSubjects.{compared, compared_all}
 use Rattle.metal_machines.specs.Limits.{most_holes}
 use Rattle.hole_matching.specs.Holes.{Setting, may_take, takes_rest}
-use Rattle.hole_matching.specs.Pattern.{Pattern, hole, likewise, other, Patterns, no_more, more}
+use Rattle.hole_matching.specs.Pattern.{Head, Call, Pattern, hole, likewise, other, Patterns, no_more, more}
 use Rattle.path_subjects.specs.Subjects.{Subject}
 use Rattle.hole_matching.specs.Subjects.{inner, head_of, parts_of}
 
@@ -21,25 +21,41 @@ pub record Taking : Type 0 where
 abbrev pub taking : ℕ → Taken → Taking
 taking n x = record { hole = n; taken = x }
 
--- a hole for arguments that stands last takes the rest, also an empty one
-abbrev pub TakesRest : Setting → Pattern → Patterns → List Subject → List Taking → Type 0
-TakesRest g (hole n) no_more ss ts = (takes_rest g n ≡ true) × (ts ≡ (taking n (Many ss) ∷ []))
-TakesRest g _ _ ss ts = ⊥
+-- Where a part of a tree stands: it is the callee of a call, or among the arguments, or a part of another tree.
+pub data Seat : Type 0 where
+  Callee : Seat
+  Argument : Seat
+  Elsewhere : Seat
+
+-- that of the first part under a head
+abbrev pub first_seat : Head → Seat
+first_seat Call = Callee
+first_seat _ = Elsewhere
+
+-- that of the part behind
+abbrev pub next_seat : Seat → Seat
+next_seat Elsewhere = Elsewhere
+next_seat _ = Argument
+
+-- a hole for arguments that stands last among those of a call takes the rest, also an empty one
+abbrev pub TakesRest : Setting → Seat → Pattern → Patterns → List Subject → List Taking → Type 0
+TakesRest g Argument (hole n) no_more ss ts = (takes_rest g n ≡ true) × (ts ≡ (taking n (Many ss) ∷ []))
+TakesRest g _ _ _ ss ts = ⊥
 
 -- A PATTERN STANDS OVER A SUBJECT, and its holes take these, in the order of the text. A hole takes what is in the parentheses.
 -- Every other pattern has the head of the subject, and its parts stand over the parts.
 abbrev mutual
   pub Stands : Setting → Pattern → Subject → List Taking → Type 0
   Stands g (hole n) s ts = (may_take g n (inner s) ≡ true) × (ts ≡ (taking n (One (inner s)) ∷ []))
-  Stands g (likewise h ps) s ts = (head_of g.facts (inner s) ≡ Some h) × StandAll g ps (parts_of (inner s)) ts
+  Stands g (likewise h ps) s ts = (head_of g.facts (inner s) ≡ Some h) × StandAll g (first_seat h) ps (parts_of (inner s)) ts
   Stands g other s ts = ⊥
 
-  pub StandAll : Setting → Patterns → List Subject → List Taking → Type 0
-  StandAll g no_more ss ts = (ss ≡ []) × (ts ≡ [])
-  StandAll g (more p ps) ss ts =
-      TakesRest g p ps ss ts
+  pub StandAll : Setting → Seat → Patterns → List Subject → List Taking → Type 0
+  StandAll g seat no_more ss ts = (ss ≡ []) × (ts ≡ [])
+  StandAll g seat (more p ps) ss ts =
+      TakesRest g seat p ps ss ts
       ⊎ ((s : Subject) × (rest : List Subject) × (xs : List Taking) × (ys : List Taking)
-      × (ss ≡ (s ∷ rest)) × (ts ≡ (xs ++ ys)) × Stands g p s xs × StandAll g ps rest ys)
+      × (ss ≡ (s ∷ rest)) × (ts ≡ (xs ++ ys)) × Stands g p s xs × StandAll g (next_seat seat) ps rest ys)
 
 -- what each hole has taken, by its number
 abbrev pub Binding : Type 0
