@@ -4,7 +4,6 @@ use crate::expected::expect;
 use c_lexer::{LexFault, Mode, Spot, Tokens, chunks, lex, strip};
 use c_tree::{FloatEnd, Keyword, Mark, Place, Punctuator, Token, TokenKind};
 use mx_base::Names;
-use std::alloc::{AllocError, Global};
 use std::process::Abort;
 use std::test::Fail;
 
@@ -77,127 +76,127 @@ fn expect_fault(
     }
 }
 
-static KEYWORDS: [Keyword; 45] = [
-    Keyword::Auto,
-    Keyword::Break,
-    Keyword::Case,
-    Keyword::Char,
-    Keyword::Const,
-    Keyword::Continue,
-    Keyword::Default,
-    Keyword::Do,
-    Keyword::Double,
-    Keyword::Else,
-    Keyword::Enum,
-    Keyword::Extern,
-    Keyword::Float,
-    Keyword::For,
-    Keyword::Goto,
-    Keyword::If,
-    Keyword::Int,
-    Keyword::Long,
-    Keyword::Register,
-    Keyword::Return,
-    Keyword::Short,
-    Keyword::Signed,
-    Keyword::Sizeof,
-    Keyword::Static,
-    Keyword::Struct,
-    Keyword::Switch,
-    Keyword::Typedef,
-    Keyword::Union,
-    Keyword::Unsigned,
-    Keyword::Void,
-    Keyword::Volatile,
-    Keyword::While,
-    Keyword::Inline,
-    Keyword::Restrict,
-    Keyword::Bool,
-    Keyword::Int128,
-    Keyword::Float32,
-    Keyword::Float32x,
-    Keyword::Float64,
-    Keyword::Float64x,
-    Keyword::Float128,
-    Keyword::GnuFloat128,
-    Keyword::BuiltinVaList,
-    Keyword::BuiltinVaArg,
-    Keyword::BuiltinOffsetof,
+static KEYWORDS: [TokenKind; 45] = [
+    TokenKind::Keyword(Keyword::Auto),
+    TokenKind::Keyword(Keyword::Break),
+    TokenKind::Keyword(Keyword::Case),
+    TokenKind::Keyword(Keyword::Char),
+    TokenKind::Keyword(Keyword::Const),
+    TokenKind::Keyword(Keyword::Continue),
+    TokenKind::Keyword(Keyword::Default),
+    TokenKind::Keyword(Keyword::Do),
+    TokenKind::Keyword(Keyword::Double),
+    TokenKind::Keyword(Keyword::Else),
+    TokenKind::Keyword(Keyword::Enum),
+    TokenKind::Keyword(Keyword::Extern),
+    TokenKind::Keyword(Keyword::Float),
+    TokenKind::Keyword(Keyword::For),
+    TokenKind::Keyword(Keyword::Goto),
+    TokenKind::Keyword(Keyword::If),
+    TokenKind::Keyword(Keyword::Int),
+    TokenKind::Keyword(Keyword::Long),
+    TokenKind::Keyword(Keyword::Register),
+    TokenKind::Keyword(Keyword::Return),
+    TokenKind::Keyword(Keyword::Short),
+    TokenKind::Keyword(Keyword::Signed),
+    TokenKind::Keyword(Keyword::Sizeof),
+    TokenKind::Keyword(Keyword::Static),
+    TokenKind::Keyword(Keyword::Struct),
+    TokenKind::Keyword(Keyword::Switch),
+    TokenKind::Keyword(Keyword::Typedef),
+    TokenKind::Keyword(Keyword::Union),
+    TokenKind::Keyword(Keyword::Unsigned),
+    TokenKind::Keyword(Keyword::Void),
+    TokenKind::Keyword(Keyword::Volatile),
+    TokenKind::Keyword(Keyword::While),
+    TokenKind::Keyword(Keyword::Inline),
+    TokenKind::Keyword(Keyword::Restrict),
+    TokenKind::Keyword(Keyword::Bool),
+    TokenKind::Keyword(Keyword::Int128),
+    TokenKind::Keyword(Keyword::Float32),
+    TokenKind::Keyword(Keyword::Float32x),
+    TokenKind::Keyword(Keyword::Float64),
+    TokenKind::Keyword(Keyword::Float64x),
+    TokenKind::Keyword(Keyword::Float128),
+    TokenKind::Keyword(Keyword::GnuFloat128),
+    TokenKind::Keyword(Keyword::BuiltinVaList),
+    TokenKind::Keyword(Keyword::BuiltinVaArg),
+    TokenKind::Keyword(Keyword::BuiltinOffsetof),
 ];
 
-static MARKS: [Mark; 23] = [
-    Mark::FunctionName,
-    Mark::FunctionName,
-    Mark::FunctionName,
-    Mark::ExtensionBoth,
-    Mark::Attribute,
-    Mark::AttributeBoth,
-    Mark::AsmPlain,
-    Mark::Asm,
-    Mark::AsmBoth,
-    Mark::Inline,
-    Mark::InlineBoth,
-    Mark::Restrict,
-    Mark::RestrictBoth,
-    Mark::Const,
-    Mark::ConstBoth,
-    Mark::Volatile,
-    Mark::VolatileBoth,
-    Mark::Signed,
-    Mark::SignedBoth,
-    Mark::Plain,
-    Mark::Plain,
-    Mark::Plain,
-    Mark::Plain,
+static MARKS: [TokenKind; 23] = [
+    TokenKind::Word(Mark::FunctionName),
+    TokenKind::Word(Mark::FunctionName),
+    TokenKind::Word(Mark::FunctionName),
+    TokenKind::Word(Mark::ExtensionBoth),
+    TokenKind::Word(Mark::Attribute),
+    TokenKind::Word(Mark::AttributeBoth),
+    TokenKind::Word(Mark::AsmPlain),
+    TokenKind::Word(Mark::Asm),
+    TokenKind::Word(Mark::AsmBoth),
+    TokenKind::Word(Mark::Inline),
+    TokenKind::Word(Mark::InlineBoth),
+    TokenKind::Word(Mark::Restrict),
+    TokenKind::Word(Mark::RestrictBoth),
+    TokenKind::Word(Mark::Const),
+    TokenKind::Word(Mark::ConstBoth),
+    TokenKind::Word(Mark::Volatile),
+    TokenKind::Word(Mark::VolatileBoth),
+    TokenKind::Word(Mark::Signed),
+    TokenKind::Word(Mark::SignedBoth),
+    TokenKind::Word(Mark::Plain),
+    TokenKind::Word(Mark::Plain),
+    TokenKind::Word(Mark::Plain),
+    TokenKind::Word(Mark::Plain),
 ];
 
-static PUNCTUATORS: [Punctuator; 46] = [
-    Punctuator::OpenBracket,
-    Punctuator::CloseBracket,
-    Punctuator::OpenParen,
-    Punctuator::CloseParen,
-    Punctuator::OpenBrace,
-    Punctuator::CloseBrace,
-    Punctuator::Dot,
-    Punctuator::Arrow,
-    Punctuator::Increment,
-    Punctuator::Decrement,
-    Punctuator::Ampersand,
-    Punctuator::Star,
-    Punctuator::Plus,
-    Punctuator::Minus,
-    Punctuator::Tilde,
-    Punctuator::Exclamation,
-    Punctuator::Slash,
-    Punctuator::Percent,
-    Punctuator::ShiftLeft,
-    Punctuator::ShiftRight,
-    Punctuator::Less,
-    Punctuator::Greater,
-    Punctuator::LessEqual,
-    Punctuator::GreaterEqual,
-    Punctuator::Equal,
-    Punctuator::NotEqual,
-    Punctuator::Caret,
-    Punctuator::Bar,
-    Punctuator::AndAnd,
-    Punctuator::OrOr,
-    Punctuator::Question,
-    Punctuator::Colon,
-    Punctuator::Semicolon,
-    Punctuator::Ellipsis,
-    Punctuator::Assign,
-    Punctuator::StarAssign,
-    Punctuator::SlashAssign,
-    Punctuator::PercentAssign,
-    Punctuator::PlusAssign,
-    Punctuator::MinusAssign,
-    Punctuator::ShiftLeftAssign,
-    Punctuator::ShiftRightAssign,
-    Punctuator::AmpersandAssign,
-    Punctuator::CaretAssign,
-    Punctuator::BarAssign,
-    Punctuator::Comma,
+static PUNCTUATORS: [TokenKind; 46] = [
+    TokenKind::Punct(Punctuator::OpenBracket),
+    TokenKind::Punct(Punctuator::CloseBracket),
+    TokenKind::Punct(Punctuator::OpenParen),
+    TokenKind::Punct(Punctuator::CloseParen),
+    TokenKind::Punct(Punctuator::OpenBrace),
+    TokenKind::Punct(Punctuator::CloseBrace),
+    TokenKind::Punct(Punctuator::Dot),
+    TokenKind::Punct(Punctuator::Arrow),
+    TokenKind::Punct(Punctuator::Increment),
+    TokenKind::Punct(Punctuator::Decrement),
+    TokenKind::Punct(Punctuator::Ampersand),
+    TokenKind::Punct(Punctuator::Star),
+    TokenKind::Punct(Punctuator::Plus),
+    TokenKind::Punct(Punctuator::Minus),
+    TokenKind::Punct(Punctuator::Tilde),
+    TokenKind::Punct(Punctuator::Exclamation),
+    TokenKind::Punct(Punctuator::Slash),
+    TokenKind::Punct(Punctuator::Percent),
+    TokenKind::Punct(Punctuator::ShiftLeft),
+    TokenKind::Punct(Punctuator::ShiftRight),
+    TokenKind::Punct(Punctuator::Less),
+    TokenKind::Punct(Punctuator::Greater),
+    TokenKind::Punct(Punctuator::LessEqual),
+    TokenKind::Punct(Punctuator::GreaterEqual),
+    TokenKind::Punct(Punctuator::Equal),
+    TokenKind::Punct(Punctuator::NotEqual),
+    TokenKind::Punct(Punctuator::Caret),
+    TokenKind::Punct(Punctuator::Bar),
+    TokenKind::Punct(Punctuator::AndAnd),
+    TokenKind::Punct(Punctuator::OrOr),
+    TokenKind::Punct(Punctuator::Question),
+    TokenKind::Punct(Punctuator::Colon),
+    TokenKind::Punct(Punctuator::Semicolon),
+    TokenKind::Punct(Punctuator::Ellipsis),
+    TokenKind::Punct(Punctuator::Assign),
+    TokenKind::Punct(Punctuator::StarAssign),
+    TokenKind::Punct(Punctuator::SlashAssign),
+    TokenKind::Punct(Punctuator::PercentAssign),
+    TokenKind::Punct(Punctuator::PlusAssign),
+    TokenKind::Punct(Punctuator::MinusAssign),
+    TokenKind::Punct(Punctuator::ShiftLeftAssign),
+    TokenKind::Punct(Punctuator::ShiftRightAssign),
+    TokenKind::Punct(Punctuator::AmpersandAssign),
+    TokenKind::Punct(Punctuator::CaretAssign),
+    TokenKind::Punct(Punctuator::BarAssign),
+    TokenKind::Punct(Punctuator::Comma),
 ];
 
 static INTEGERS: [TokenKind; 11] = [
@@ -319,33 +318,6 @@ static SUM: [TokenKind; 4] = [
 
 static TWO_WORDS: [TokenKind; 2] = [TokenKind::Word(Mark::Plain), TokenKind::Word(Mark::Plain)];
 
-/// The kinds of keywords.
-fn keyword_kinds(alloc: Global) -> Result<Vec<TokenKind, Global>, AllocError> {
-    let mut kinds = Vec::new(alloc);
-    for keyword in &KEYWORDS {
-        kinds.push(TokenKind::Keyword(*keyword))?;
-    }
-    Ok(kinds)
-}
-
-/// The kinds of words with these marks.
-fn word_kinds(alloc: Global) -> Result<Vec<TokenKind, Global>, AllocError> {
-    let mut kinds = Vec::new(alloc);
-    for mark in &MARKS {
-        kinds.push(TokenKind::Word(*mark))?;
-    }
-    Ok(kinds)
-}
-
-/// The kinds of punctuators.
-fn punctuator_kinds(alloc: Global) -> Result<Vec<TokenKind, Global>, AllocError> {
-    let mut kinds = Vec::new(alloc);
-    for punctuator in &PUNCTUATORS {
-        kinds.push(TokenKind::Punct(*punctuator))?;
-    }
-    Ok(kinds)
-}
-
 #[test]
 fn words_are_read(rt: HostRuntime) -> Result<(), Fail> {
     let keywords =
@@ -353,18 +325,18 @@ fn words_are_read(rt: HostRuntime) -> Result<(), Fail> {
         register return short signed sizeof static struct switch typedef union unsigned void volatile while inline
         restrict _Bool __int128 _Float32 _Float32x _Float64 _Float64x _Float128 __float128 __builtin_va_list
         __builtin_va_arg __builtin_offsetof";
-    expect_kinds(&rt, Mode::C, keywords, &keyword_kinds(rt.alloc())?)?;
+    expect_kinds(&rt, Mode::C, keywords, &KEYWORDS)?;
     let words =
         b"__func__ __FUNCTION__ __PRETTY_FUNCTION__ __extension__ __attribute __attribute__ asm __asm __asm__
         __inline __inline__ __restrict __restrict__ __const __const__ __volatile __volatile__ __signed __signed__
         Int ints _ L";
-    expect_kinds(&rt, Mode::C, words, &word_kinds(rt.alloc())?)
+    expect_kinds(&rt, Mode::C, words, &MARKS)
 }
 
 #[test]
 fn punctuators_are_read(rt: HostRuntime) -> Result<(), Fail> {
     let text = b"[](){}.->++ --& *+- ~!/ %<<>>< ><=>===!=^| &&||?:;... = *=/=%=+=-=<<=>>=&=^=|=,";
-    expect_kinds(&rt, Mode::C, text, &punctuator_kinds(rt.alloc())?)?;
+    expect_kinds(&rt, Mode::C, text, &PUNCTUATORS)?;
     expect_kinds(&rt, Mode::Metal, b"$==>", &OF_A_CHECKER)?;
     expect_kinds(&rt, Mode::C, b"==>", &OF_C)?;
     expect_kinds(&rt, Mode::C, b"a+++b", &SUM)?;
