@@ -1,4 +1,3 @@
-pub mod BasicTypes
 pub mod Declarations
 pub mod Items
 pub mod Lists

@@ -1,22 +1,16 @@
 -- What the reader in the arena gives, seen by the reader over lists of symbols.
 use Rattle.std.specs.Prelude.{◌≡◌, ℕ, ◌+◌, ◌*◌, ◌≤◌, List, [], ◌∷◌, Option, None, Some, Result, Ok, Err, length}
 use Rattle.c_tree.specs.declared.tree.Tree.{Tree}
-use Rattle.c_tree.specs.declared.tree.Kind.{Kind}
 use Rattle.c_tree.specs.Symbol.{Symbol, symbols_of}
-use Rattle.c_tree.specs.Syntax.{Syntax, Syntaxes, no_more, more}
+use Rattle.c_tree.specs.Syntax.{Syntaxes, no_more, more}
 use Rattle.c_tree.specs.Height.{height_of, height_in}
-use Rattle.c_tree.specs.Views.{shape_of}
-use Rattle.c_tree.specs.Forget.{shape_syntax, view, list_view}
+use Rattle.c_tree.specs.Forget.{view, list_view}
 use Rattle.c_grammar.specs.Found.{Found}
 use Rattle.c_expr.specs.Scopes.{Scopes}
 use Rattle.c_expr.specs.declared.fault.ExprFault.{ExprFault}
 use Rattle.c_expr.specs.declared.fault.ExprFault.TheVariants.{NoTree}
 use Rattle.c_expr.specs.declared.nodes.Read.{Read}
 use Rattle.c_expr.specs.declared.nodes.ReadList.{ReadList}
-
--- the syntax of a node of this kind
-abbrev pub kind_view : Kind → Syntax
-kind_view k = shape_syntax (shape_of k)
 
 -- a tree and what follows it, or no tree; where memory runs out, nothing is said
 abbrev pub Gives : Result Read ExprFault → Option Found → Type 0

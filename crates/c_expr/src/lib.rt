@@ -1,7 +1,6 @@
 //! Reads C's expressions, type names, specifiers and declarators.
 #![tactic(auto)]
 
-mod basic_types;
 mod declarators;
 mod expressions;
 mod fault;
@@ -17,7 +16,6 @@ mod symbols;
 mod type_names;
 mod types;
 
-pub use basic_types::same_words;
 pub use declarators::{Form, declarator_in_front};
 pub use expressions::expression_in_front;
 pub use fault::ExprFault;

@@ -3,10 +3,10 @@
 ghost use Rattle.std.specs.Prelude.{◌≡◌, ◌+◌, ◌*◌, ◌<◌, ◌≤◌, ◌^◌, length, MatchResult};
 ghost use Rattle.c_tree.specs.Symbol.{symbols_of};
 ghost use Rattle.c_tree.specs.Height.{height_of};
-ghost use Rattle.c_tree.specs.Forget.{view, view_all, list_view};
+ghost use Rattle.c_tree.specs.Forget.{view, view_all, list_view, kind_view};
 ghost use Rattle.c_grammar.specs.Found.{made};
 ghost use Rattle.c_tree.specs.Views.{shape_of, nodes_of, nodes_in};
-ghost use Rattle.c_expr.specs.Gives.{Gives, kind_view, left, Spends};
+ghost use Rattle.c_expr.specs.Gives.{Gives, left, Spends};
 ghost use Rattle.c_expr.specs.Standing.{IsMade, Makes};
 ghost use Rattle.c_expr.specs.declared.fault.ExprFault.TheVariants.{NoMemory};
 

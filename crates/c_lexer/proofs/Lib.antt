@@ -4,3 +4,5 @@ mod Reaching
 mod Positions
 mod Rising
 mod Kept
+mod TokenGroups
+mod ChunkSteps

@@ -32,11 +32,11 @@ marker_view Skipped = markers.Skipped
 marker_view (Renumbers line file) = markers.Renumbers line (option_map (λ f. unescaped f.now) file)
 
 -- the byte in front
-abbrev pub IsFirst : ℕ → List ℕ → Type 0
-IsFirst b [] = ⊥
-IsFirst b (c ∷ cs) = c ≡ b
+abbrev pub BeginsWith : ℕ → List ℕ → Type 0
+BeginsWith b [] = ⊥
+BeginsWith b (c ∷ cs) = c ≡ b
 
 -- the number that a marker gives to the following line, if it gives one
-abbrev pub marker_line : Marker → ℕ
-marker_line Skipped = 0
-marker_line (Renumbers line file) = line
+abbrev pub following_line : Marker → ℕ
+following_line Skipped = 0
+following_line (Renumbers line file) = line

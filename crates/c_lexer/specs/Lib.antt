@@ -5,3 +5,5 @@ pub mod Tokens
 pub mod Progress
 pub mod Faults
 pub mod Naming
+pub mod Groups
+pub mod Nests

@@ -10,7 +10,7 @@ use Rattle.c_reading.specs.Reading.{fault_at, spelling_fault}
 use Rattle.c_reading.specs.Cutting.{cut, comment_at, line_comment_at, marker_at, spelling_at}
 use Rattle.c_lexer.specs.declared.pieces.Piece.{Piece}
 use Rattle.c_lexer.specs.declared.pieces.Piece.TheVariants.{Space, Comment, LineComment, MarkerLine, Spelling}
-use Rattle.c_lexer.specs.Found.{marker_view, marker_line}
+use Rattle.c_lexer.specs.Found.{marker_view, following_line}
 
 -- the piece with its bytes
 abbrev pub piece_view : Piece → List ℕ → pieces.Piece
@@ -30,7 +30,7 @@ piece_len (Spelling n kind) = n
 
 -- what it says besides
 abbrev pub Says : Mode → Piece → List ℕ → Type 0
-Says mode (MarkerLine n ended marker) bs = (marker_of (take n (drop 1 bs)) ≡ Some (marker_view marker)) × (marker_line marker ≤ 2147483647)
+Says mode (MarkerLine n ended marker) bs = (marker_of (take n (drop 1 bs)) ≡ Some (marker_view marker)) × (following_line marker ≤ 2147483647)
 Says mode (Spelling n kind) bs = kind_of mode (take n bs) ≡ Some kind
 Says mode _ bs = ⊤
 
@@ -60,5 +60,5 @@ GivesToken mode bs (Err fault) = (spelling_at mode bs ≡ None) × (fault ≡ sp
 
 -- the number that a marker gives to the following line is small
 abbrev pub NumbersLow : Piece → Type 0
-NumbersLow (MarkerLine n ended marker) = marker_line marker ≤ 2147483647
+NumbersLow (MarkerLine n ended marker) = following_line marker ≤ 2147483647
 NumbersLow _ = ⊤

@@ -3,7 +3,7 @@
 ghost use Rattle.std.specs.Prelude.{◌≡◌, ◌+◌, ◌<◌, ◌≤◌, ◌^◌, ◌↔◌, length, IsTrue, IfOk};
 ghost use Rattle.c_reading.specs.Strip.{is_close_paren};
 ghost use Rattle.c_reading.specs.Chunks.{depth_behind, AreChunks, IsCut};
-ghost use Rattle.c_reading.specs.Nests.{ends_here, body_behind};
+ghost use Rattle.c_lexer.specs.Nests.{ends_here, body_behind};
 
 use crate::kinds::{closes, is_close_brace, is_close_paren, is_open_brace, is_semicolon, opens};
 use crate::tokens::Tokens;

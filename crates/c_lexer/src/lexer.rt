@@ -6,7 +6,7 @@ ghost use Rattle.c_reading.specs.declared.mode.Mode.{Mode as ReadMode};
 ghost use Rattle.c_reading.specs.Pieces.{Piece as ReadPiece, on_next_line};
 ghost use Rattle.c_reading.specs.declared.fault.Fault.{Fault as ReadFault};
 ghost use Rattle.c_reading.specs.Reading.{IsReading, IsFaulty};
-ghost use Rattle.c_lexer.specs.Found.{marker_view, marker_line};
+ghost use Rattle.c_lexer.specs.Found.{marker_view, following_line};
 ghost use Rattle.c_lexer.specs.Naming.{file_in, text_named, with_name, named_by};
 ghost use Rattle.c_lexer.specs.Pieces.{piece_view, piece_len, Says, NumbersLow};
 ghost use Rattle.c_lexer.specs.Progress.{here_of, InBounds, Steps, Lands, spot_of};
@@ -34,7 +34,7 @@ fn next_line(
     requires bounds { InBounds here }
     requires room { here.offset + count ≤ 16777216 }
     requires some { 1 ≤ count }
-    requires line { marker_line marker ≤ 2147483647 }
+    requires line { following_line marker ≤ 2147483647 }
     requires names { length names.old < 2 ^ 31 }
     requires once { HasNoRepeats names.old }
     ensures lands { IfOk result (λ next. (file : List ℕ) → slice_get names.old here.source ≡ Some file →

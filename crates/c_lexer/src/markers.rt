@@ -3,7 +3,7 @@
 ghost use Rattle.std.specs.Prelude.{◌≡◌, ◌<◌, ◌≤◌, ◌^◌, IfOk, IfSome, length, codes, bytes_eq, ◌==◌, ◌&&◌, drop};
 ghost use Rattle.std.specs.Option.{option_map};
 ghost use Rattle.c_reading.specs.Markers.{after_gaps, are_flags, unescaped, behind_number, numbered, first_word, begins_gap, after_line_word, marker_of};
-ghost use Rattle.c_lexer.specs.Found.{marker_view, marker_line};
+ghost use Rattle.c_lexer.specs.Found.{marker_view, following_line};
 
 use crate::bytes::{Class, begins, front_len, is_gap, within};
 use crate::constants::value_up_to;
@@ -70,7 +70,7 @@ pub fn unescaped(alloc: Global, text: &[u8]) -> Result<Vec<u8>, AllocError>
 fn behind_number(text: &[u8], line: u32) -> Option<Marker<'_>>
     requires { line ≤ 2147483647 }
     ensures says { option_map marker_view result ≡ behind_number text.now line }
-    ensures line { IfSome result (λ marker. marker_line marker ≤ 2147483647) }
+    ensures line { IfSome result (λ marker. following_line marker ≤ 2147483647) }
 {
     let string = after_gaps(text);
     if !begins(b'"', string) {
@@ -94,7 +94,7 @@ fn behind_number(text: &[u8], line: u32) -> Option<Marker<'_>>
 #[tactic(auto, unfolding(c_reading::specs::Markers::numbered))]
 fn numbered(text: &[u8]) -> Option<Marker<'_>>
     ensures says { option_map marker_view result ≡ numbered text.now }
-    ensures line { IfSome result (λ marker. marker_line marker ≤ 2147483647) }
+    ensures line { IfSome result (λ marker. following_line marker ≤ 2147483647) }
 {
     let count = front_len(Class::Digit, text);
     if count == 0 {
@@ -144,7 +144,7 @@ fn begins_gap(text: &[u8]) -> bool
 #[tactic(auto, unfolding(c_reading::specs::Markers::marker_of))]
 pub fn marker_of(text: &[u8]) -> Option<Marker<'_>>
     ensures says { option_map marker_view result ≡ marker_of text.now }
-    ensures line { IfSome result (λ marker. marker_line marker ≤ 2147483647) }
+    ensures line { IfSome result (λ marker. following_line marker ≤ 2147483647) }
 {
     let inside = after_gaps(text);
     let word = first_word(inside);

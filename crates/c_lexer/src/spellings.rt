@@ -1,10 +1,10 @@
 //! The longest spelling in front of bytes, and what it is.
 
-ghost use Rattle.std.specs.Prelude.{◌≡◌, ◌<◌, IsTrue, slice_index, length};
+ghost use Rattle.std.specs.Prelude.{◌≡◌, ◌<◌, IsTrue, slice_index, length, unwrap_or};
 ghost use Rattle.c_reading.specs.Bytes.{is_letter};
-ghost use Rattle.c_reading.specs.Spellings.{begins_number, literal_len, or_zero};
+ghost use Rattle.c_reading.specs.Spellings.{begins_number, literal_len};
 ghost use Rattle.c_reading.specs.Cutting.{word_len, number_len, punctuator_len, word_or_literal, spelling_len};
-ghost use Rattle.c_lexer.specs.Found.{GivesSpelling, IsFirst};
+ghost use Rattle.c_lexer.specs.Found.{GivesSpelling, BeginsWith};
 ghost use Rattle.c_reading.specs.declared.mode.Mode.{Mode};
 
 use crate::bytes::{Class, front_len, is_letter, is_quote};
@@ -26,7 +26,7 @@ pub struct Spelled {
 /// A literal.
 #[tactic(auto, using(c_reading::proofs::ClassKinds::literal_kinds))]
 fn literal(mode: Mode, bytes: &[u8]) -> Option<Spelled>
-    ensures { GivesSpelling mode bytes.now (or_zero (literal_len bytes.now)) result }
+    ensures { GivesSpelling mode bytes.now (unwrap_or (literal_len bytes.now) 0) result }
 {
     let Some(len) = literal_len(bytes) else {
         return None;
@@ -41,7 +41,7 @@ fn literal(mode: Mode, bytes: &[u8]) -> Option<Spelled>
 /// A literal behind `L`, else a word.
 #[tactic(auto, unfolding(c_reading::specs::Cutting::word_len), using(c_reading::proofs::ClassKinds::word_kinds))]
 fn word_or_literal(mode: Mode, first: u8, bytes: &[u8]) -> Option<Spelled>
-    requires begins { IsFirst first bytes.now }
+    requires begins { BeginsWith first bytes.now }
     requires letter { IsTrue (is_letter first) }
     ensures { GivesSpelling mode bytes.now (word_or_literal bytes.now) result }
 {

@@ -3,7 +3,7 @@
 ghost use Rattle.std.specs.Prelude.{◌≡◌, ◌+◌, ◌<◌, ◌≤◌, ℕ, List, ◌∷◌, length, drop, reverse, IfOk, IfSome, Some, slice_get};
 ghost use Rattle.c_tree.specs.declared.token.Token.{Token as TokenValue};
 ghost use Rattle.c_reading.specs.Strip.{group_len, asm_len, dropped_with, renamed, stripped};
-ghost use Rattle.c_reading.specs.Groups.{Marks, AreGroups};
+ghost use Rattle.c_lexer.specs.Groups.{AreEnds, AreGroups};
 ghost use Rattle.c_reading.specs.Scans.{plus};
 ghost use Rattle.c_tree.specs.TokenPlaces.{Rises};
 
@@ -21,8 +21,8 @@ fn group_at(
 ) -> Result<Option<usize>, AllocError>
     requires { behind < 4294967296 }
     ensures { IfOk result (λ group. (t : TokenValue) (rest : List TokenValue) →
-        t.kind ≡ kind → length rest ≡ behind → Marks rest (reverse closers.old.items) →
-        Marks (t ∷ rest) (reverse closers.new.items) × (group ≡ group_len (t ∷ rest))) }
+        t.kind ≡ kind → length rest ≡ behind → AreEnds rest (reverse closers.old.items) →
+        AreEnds (t ∷ rest) (reverse closers.new.items) × (group ≡ group_len (t ∷ rest))) }
 {
     if is_open_paren(kind) {
         return match closers.pop() {

@@ -16,7 +16,8 @@ pub record Facts : Type 0 where
 abbrev pub facts_of : Nodes → Table → Facts
 facts_of unit table = record { table = table; structs = structs_of unit }
 
--- the type of the node of this number; a table that types a unit has one for each expression, type name and declared name
+-- the type of the node of this number, and `Void` where the table has none; a table that types a unit has one for each
+-- expression, type name and declared name
 abbrev pub numbered_type : Facts → ℕ → CType
 numbered_type u i = if_there (at i u.table) Void (λ c. c.ty)
 

@@ -6,7 +6,7 @@ ghost use Rattle.c_places.specs.Theorems.{
   PlacesAreFirst,
 };
 
-/// The numbers of the nodes of a tree go up in the order in which the nodes end, so no two are equal.
+/// The numbers of the nodes of a tree, or of trees in a row, go up in the order in which the nodes end, so no two are equal.
 pub fn numbers_rise()
     ensures { NumbersRise }
 {}

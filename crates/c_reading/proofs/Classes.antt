@@ -1,5 +1,5 @@
 -- Of each class of spellings: the longest in front is as long as is computed.
-use Rattle.std.proofs.Common.{◌≡◌, ℕ, suc, ◌+◌, ◌≤◌, ◌<◌, Bool, true, false, cond, not, ◌&&◌, eqb, List, [], ◌∷◌, ◌++◌, length, take, Option, None, Some, is_some, inl, inr, refl, ap, sym, ◌∙◌, subst, arith, length-append}
+use Rattle.std.proofs.Common.{◌≡◌, ℕ, suc, ◌+◌, ◌≤◌, ◌<◌, Bool, true, false, cond, not, ◌&&◌, eqb, List, [], ◌∷◌, ◌++◌, length, take, Option, None, Some, is_some, unwrap_or, inl, inr, refl, ap, sym, ◌∙◌, subst, arith, length-append}
 use Rattle.std.specs.List.{list_all, prefix_len}
 use Rattle.std.proofs.lemmas.List.{take_at}
 use Rattle.std.proofs.lemmas.List.Sums.{prefix_len-le-length}
@@ -10,7 +10,7 @@ use Rattle.c_reading.specs.Runs.{goes_through, run_len}
 use Rattle.c_tree.specs.declared.punctuator.Punctuator.{Punctuator}
 use Rattle.c_reading.specs.Words.{find_text}
 use Rattle.c_reading.specs.Punctuators.{punctuator_of, punctuators, singles, pairs, triples}
-use Rattle.c_reading.specs.Spellings.{is_word, is_number, is_literal, goes_on, begins_number, literal_len, or_zero}
+use Rattle.c_reading.specs.Spellings.{is_word, is_number, is_literal, goes_on, begins_number, literal_len}
 use Rattle.c_reading.specs.Cutting.{word_len, number_len, punctuator_len, single_len, pair_len, triple_len}
 use Rattle.c_reading.proofs.Tests.{cases, both, either, not_true, same, same_true}
 use Rattle.c_reading.proofs.Runs.{prefix_passes, prefix_of_passes, run_goes, run_of_goes, run_len-le}
@@ -100,14 +100,14 @@ number_begins-append c cs r h = begins_still c cs r (number_begins c cs h)
 
 -- ---- literals
 
-there : (o : Option ℕ) (n : ℕ) → or_zero o ≡ suc n → o ≡ Some (suc n)
+there : (o : Option ℕ) (n : ℕ) → unwrap_or o 0 ≡ suc n → o ≡ Some (suc n)
 there None n h = absurd (omega arith)
 there (Some m) n h = ap Some h
 
 pub literal-there : (s r : List ℕ) → is_literal s ≡ true → literal_len (s ++ r) ≡ Some (length s)
 unfolding is_literal
 literal-there [] r h = cc
-literal-there (c ∷ cs) r h = literal-append (c ∷ cs) r (length (c ∷ cs)) (there (literal_len (c ∷ cs)) (length cs) (same (or_zero (literal_len (c ∷ cs))) (length (c ∷ cs)) h))
+literal-there (c ∷ cs) r h = literal-append (c ∷ cs) r (length (c ∷ cs)) (there (literal_len (c ∷ cs)) (length cs) (same (unwrap_or (literal_len (c ∷ cs)) 0) (length (c ∷ cs)) h))
 
 is_literal_front : (fs : List ℕ) (n : ℕ) → length fs ≡ n → literal_len fs ≡ Some n → is_literal fs ≡ true
 unfolding is_literal literal_len

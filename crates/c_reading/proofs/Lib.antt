@@ -11,5 +11,3 @@ pub mod Readings
 pub mod Examples
 pub mod Scans
 pub mod ClassKinds
-pub mod TokenGroups
-pub mod ChunkSteps

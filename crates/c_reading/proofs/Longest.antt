@@ -1,10 +1,11 @@
 -- The longest spelling in front of bytes is as long as is computed.
-use Rattle.std.proofs.Common.{◌≡◌, ℕ, suc, zero, ◌+◌, ◌-◌, ◌≤◌, ◌<◌, Bool, true, false, cond, not, ◌&&◌, ◌||◌, ◌⊎◌, eqb, List, [], ◌∷◌, ◌++◌, length, take, drop, Option, None, Some, is_some, option_map, inl, inr, refl, ap, sym, ◌∙◌, arith, append_assoc, length-append}
+use Rattle.std.proofs.Common.{◌≡◌, ℕ, suc, zero, ◌+◌, ◌-◌, ◌≤◌, ◌<◌, Bool, true, false, cond, not, ◌&&◌, ◌||◌, ◌⊎◌, eqb, List, [], ◌∷◌, ◌++◌, length, take, drop, Option, None, Some, is_some, unwrap_or, inl, inr, refl, ap, sym, ◌∙◌, arith, append_assoc, length-append}
 use Rattle.std.proofs.lemmas.List.{take_at, take-append-drop, length-take-le, nil_from_length}
 use Rattle.c_reading.specs.declared.mode.Mode.{Mode}
 use Rattle.c_reading.specs.Bytes.{is_letter, is_quote, begins}
-use Rattle.c_reading.specs.Spellings.{is_word, is_number, is_literal, is_spelling, begins_number, literal_len, unprefixed_len, or_zero}
+use Rattle.c_reading.specs.Spellings.{is_word, is_number, is_literal, is_spelling, begins_number, literal_len, unprefixed_len}
 use Rattle.c_reading.specs.Punctuators.{punctuator_of}
+use Rattle.c_reading.specs.Scans.{plus}
 use Rattle.c_reading.specs.Reading.{IsLongest}
 use Rattle.c_reading.specs.Cutting.{word_len, number_len, punctuator_len, word_or_literal, spelling_len}
 use Rattle.c_reading.proofs.Tests.{cases, both, either, chosen, taken, mapped, same, not_zero}
@@ -24,7 +25,7 @@ literal_first c cs n h = elim (chosen (eqb c 76) _ _ (Some n) h) [
     quote : (m : ℕ) (d : ℕ) (ds : List ℕ) → unprefixed_len (d ∷ ds) ≡ Some m → is_quote d ≡ true
     quote m d ds k = (both (is_quote d) (not (eqb d 39 && begins 39 ds)) (taken (is_quote d && not (eqb d 39 && begins 39 ds)) _ m k).0).0
 
-    prefixed : c ≡ 76 → (cs : List ℕ) → Path (Option ℕ) (option_map (λ m. m + 1) (unprefixed_len cs)) (Some n) → (c ≡ 76) × (d : ℕ) × (ds : List ℕ) × (cs ≡ d ∷ ds) × (is_quote d ≡ true)
+    prefixed : c ≡ 76 → (cs : List ℕ) → plus 1 (unprefixed_len cs) ≡ Some n → (c ≡ 76) × (d : ℕ) × (ds : List ℕ) × (cs ≡ d ∷ ds) × (is_quote d ≡ true)
     prefixed e [] k = cc
     prefixed e (d ∷ ds) k = let m = mapped 1 (unprefixed_len (d ∷ ds)) n k in (e, d, ds, refl, quote m.0 d ds m.1)
 
@@ -149,7 +150,7 @@ fronts_letter mode c cs None l h = rw h (record { spelling = word_is mode (take 
 fronts_letter mode c cs (Some zero) l h = rw h (record { spelling = word_is mode (take (word_len (c ∷ cs)) (c ∷ cs)) (word-taken c cs l); within = word-le (c ∷ cs) })
 fronts_letter mode c cs (Some (suc n)) l h = rw (h, not_zero n) (fronts_literal mode (c ∷ cs) (suc n) h)
 
-fronts_quote : (mode : Mode) (bs : List ℕ) (o : Option ℕ) → literal_len bs ≡ o → 0 < or_zero o → Fronts mode bs (or_zero o)
+fronts_quote : (mode : Mode) (bs : List ℕ) (o : Option ℕ) → literal_len bs ≡ o → 0 < unwrap_or o 0 → Fronts mode bs (unwrap_or o 0)
 fronts_quote mode bs None h n = absurd (omega arith)
 fronts_quote mode bs (Some n) h k = fronts_literal mode bs n h
 
@@ -159,8 +160,8 @@ spelling-taken mode [] h = absurd (omega arith)
 spelling-taken mode (c ∷ cs) h = by (is_letter c) (begins_number (c ∷ cs)) (is_quote c) refl refl refl h
   where
     by : (l n q : Bool) → is_letter c ≡ l → begins_number (c ∷ cs) ≡ n → is_quote c ≡ q →
-        0 < cond l (word_or_literal (c ∷ cs)) (cond n (number_len (c ∷ cs)) (cond q (or_zero (literal_len (c ∷ cs))) (punctuator_len mode (c ∷ cs)))) →
-        Fronts mode (c ∷ cs) (cond l (word_or_literal (c ∷ cs)) (cond n (number_len (c ∷ cs)) (cond q (or_zero (literal_len (c ∷ cs))) (punctuator_len mode (c ∷ cs)))))
+        0 < cond l (word_or_literal (c ∷ cs)) (cond n (number_len (c ∷ cs)) (cond q (unwrap_or (literal_len (c ∷ cs)) 0) (punctuator_len mode (c ∷ cs)))) →
+        Fronts mode (c ∷ cs) (cond l (word_or_literal (c ∷ cs)) (cond n (number_len (c ∷ cs)) (cond q (unwrap_or (literal_len (c ∷ cs)) 0) (punctuator_len mode (c ∷ cs)))))
     by true n q e f g k = fronts_letter mode c cs (literal_len (c ∷ cs)) e refl
     by false true q e f g k = record { spelling = number_is mode (take (number_len (c ∷ cs)) (c ∷ cs)) (number-taken c cs f); within = number-le (c ∷ cs) }
     by false false true e f g k = fronts_quote mode (c ∷ cs) (literal_len (c ∷ cs)) refl k

@@ -1,5 +1,5 @@
 -- Steps of a reader that goes on byte by byte.
-use Rattle.std.proofs.Common.{◌≡◌, ℕ, ◌+◌, ◌-◌, ◌*◌, ◌≤◌, ◌<◌, true, false, cond, eqb, leb, ◌&&◌, List, [], ◌∷◌, length, take, drop, get_or, subst, Option, None, Some, option_map, inl, inr, refl, ap, sym, ◌∙◌, arith}
+use Rattle.std.proofs.Common.{◌≡◌, ℕ, ◌+◌, ◌-◌, ◌*◌, ◌≤◌, ◌<◌, true, false, cond, eqb, leb, ◌&&◌, List, [], ◌∷◌, length, take, drop, get_or, subst, Option, None, Some, inl, inr, refl, ap, sym, ◌∙◌, arith}
 use Rattle.std.proofs.lemmas.Bool.Decides.{nat_tests}
 use Rattle.c_reading.specs.Bytes.{begins}
 use Rattle.c_reading.specs.Constants.{digit_value, value_after}
@@ -9,10 +9,6 @@ use Rattle.c_reading.specs.Scans.{plus}
 use Rattle.std.proofs.lemmas.List.{take_all}
 use Rattle.c_reading.proofs.Tests.{cases, unequal, same_true}
 
-map_plus : (k : ℕ) (o : Option ℕ) → option_map (λ n. n + k) o ≡ plus k o
-map_plus k None = refl
-map_plus k (Some n) = refl
-
 pub plus-plus : (k m : ℕ) (o : Option ℕ) → plus k (plus m o) ≡ plus (k + m) o
 plus-plus k m None = refl
 plus-plus k m (Some n) = ap Some (omega arith)
@@ -21,10 +17,10 @@ plus-plus k m (Some n) = ap Some (omega arith)
 
 pub quoted-more : (q c : ℕ) (cs : List ℕ) (k : ℕ) → eqb c q ≡ false → eqb c 10 ≡ false → eqb c 92 ≡ false → plus k (quoted q (c ∷ cs)) ≡ plus (k + 1) (quoted q cs)
 quoted-more q c [] k e f g = rw e refl
-quoted-more q c (d ∷ cs) k e f g = rw (e, f, g, map_plus 1 (quoted q (d ∷ cs))) (plus-plus k 1 (quoted q (d ∷ cs)))
+quoted-more q c (d ∷ cs) k e f g = rw (e, f, g) (plus-plus k 1 (quoted q (d ∷ cs)))
 
 pub quoted-escape : (q c d : ℕ) (cs : List ℕ) (k : ℕ) → eqb c q ≡ false → eqb c 10 ≡ false → eqb c 92 ≡ true → eqb d 10 ≡ false → plus k (quoted q (c ∷ d ∷ cs)) ≡ plus (k + 2) (quoted q cs)
-quoted-escape q c d cs k e f g h = rw (e, f, g, h, map_plus 2 (quoted q cs)) (plus-plus k 2 (quoted q cs))
+quoted-escape q c d cs k e f g h = rw (e, f, g, h) (plus-plus k 2 (quoted q cs))
 
 pub quoted-end : (q c : ℕ) (cs : List ℕ) → eqb c q ≡ true → quoted q (c ∷ cs) ≡ Some 1
 quoted-end q c [] e = rw e refl
@@ -43,7 +39,7 @@ quoted-last q c e = rw e refl
 -- ---- comments
 
 pub closing-more : (c : ℕ) (cs : List ℕ) (k : ℕ) → (eqb c 42 && begins 47 cs) ≡ false → plus k (closing (c ∷ cs)) ≡ plus (k + 1) (closing cs)
-closing-more c cs k e = rw (e, map_plus 1 (closing cs)) (plus-plus k 1 (closing cs))
+closing-more c cs k e = rw e (plus-plus k 1 (closing cs))
 
 -- ---- values
 

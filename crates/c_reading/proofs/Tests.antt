@@ -1,7 +1,8 @@
 -- Tests that are true or false, and choices by them.
-use Rattle.std.proofs.Common.{◌≡◌, ℕ, suc, ◌+◌, eqb, eq-eqb, Bool, true, false, cond, ◌&&◌, ◌||◌, not, Option, None, Some, option_map, ◌⊎◌, inl, inr, refl, arith}
+use Rattle.std.proofs.Common.{◌≡◌, ℕ, suc, ◌+◌, eqb, eq-eqb, Bool, true, false, cond, ◌&&◌, ◌||◌, not, Option, None, Some, ◌⊎◌, inl, inr, refl, arith}
 use Rattle.std.proofs.lemmas.Bool.{eqb-true}
 use Rattle.std.proofs.lemmas.Bool.Decides.{nat_tests}
+use Rattle.c_reading.specs.Scans.{plus}
 
 -- a test is true or false
 pub cases : (b : Bool) → (b ≡ true) ⊎ (b ≡ false)
@@ -43,7 +44,7 @@ passed true x z h = cc
 passed false x z h = (refl, h)
 
 -- a number that is k more than one that is there
-pub mapped : (k : ℕ) (o : Option ℕ) (n : ℕ) → option_map (λ m. m + k) o ≡ Some n → (m : ℕ) × (o ≡ Some m) × (n ≡ m + k)
+pub mapped : (k : ℕ) (o : Option ℕ) (n : ℕ) → plus k o ≡ Some n → (m : ℕ) × (o ≡ Some m) × (n ≡ m + k)
 mapped k None n h = cc
 mapped k (Some m) n h = (m, refl, cc)
 

@@ -1,11 +1,12 @@
 -- The one piece that can be cut off bytes, if there is one: a reader over lists, by the first byte.
-use Rattle.std.specs.Prelude.{ℕ, Bool, ◌+◌, ◌==◌, ◌&&◌, List, [], ◌∷◌, take, drop, Option, None, Some, is_some, option_map, if◌then◌else◌}
+use Rattle.std.specs.Prelude.{ℕ, Bool, ◌+◌, ◌==◌, ◌&&◌, List, [], ◌∷◌, take, drop, Option, None, Some, is_some, option_map, unwrap_or, if◌then◌else◌}
 use Rattle.std.specs.List.{prefix_len}
 use Rattle.c_reading.specs.declared.mode.Mode.{Mode}
 use Rattle.c_reading.specs.Bytes.{is_letter, is_word_byte, is_quote, is_blank, is_within_line, begins}
 use Rattle.c_reading.specs.Runs.{run_len}
+use Rattle.c_reading.specs.Scans.{plus}
 use Rattle.c_reading.specs.Punctuators.{punctuator_of}
-use Rattle.c_reading.specs.Spellings.{begins_number, goes_on, literal_len, or_zero, kind_of}
+use Rattle.c_reading.specs.Spellings.{begins_number, goes_on, literal_len, kind_of}
 use Rattle.c_reading.specs.Markers.{marker_of}
 use Rattle.c_reading.specs.Pieces.{Piece, Space, Comment, LineComment, MarkerLine, Spelling}
 use Rattle.c_reading.specs.Reading.{begins_comment, begins_line_comment, has_markers}
@@ -35,7 +36,7 @@ punctuator_len mode (a ∷ b ∷ c ∷ _) = triple_len mode a b c
 
 -- a literal behind `L`, else a word
 abbrev pub word_or_literal : List ℕ → ℕ
-word_or_literal bs = if or_zero (literal_len bs) == 0 then word_len bs else or_zero (literal_len bs)
+word_or_literal bs = if unwrap_or (literal_len bs) 0 == 0 then word_len bs else unwrap_or (literal_len bs) 0
 
 -- the length of the longest spelling in front, or 0
 unfoldable pub spelling_len : Mode → List ℕ → ℕ
@@ -43,7 +44,7 @@ spelling_len mode [] = 0
 spelling_len mode (c ∷ cs) =
     if is_letter c then word_or_literal (c ∷ cs)
     else (if begins_number (c ∷ cs) then number_len (c ∷ cs)
-    else (if is_quote c then or_zero (literal_len (c ∷ cs)) else punctuator_len mode (c ∷ cs)))
+    else (if is_quote c then unwrap_or (literal_len (c ∷ cs)) 0 else punctuator_len mode (c ∷ cs)))
 
 abbrev pub spelling_of : Mode → List ℕ → ℕ → Option Piece
 spelling_of mode bs n = if n == 0 then None else (if is_some (kind_of mode (take n bs)) then Some (Spelling (take n bs)) else None)
@@ -54,7 +55,7 @@ spelling_at mode bs = spelling_of mode bs (spelling_len mode bs)
 -- the number of bytes up to and with the first `*/`
 abbrev pub closing : List ℕ → Option ℕ
 closing [] = None
-closing (c ∷ cs) = if (c == 42) && begins 47 cs then Some 2 else option_map (λ n. n + 1) (closing cs)
+closing (c ∷ cs) = if (c == 42) && begins 47 cs then Some 2 else plus 1 (closing cs)
 
 -- a comment, behind its first two bytes
 unfoldable pub comment_at : List ℕ → Option Piece

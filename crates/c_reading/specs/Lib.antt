@@ -11,5 +11,3 @@ pub mod Cutting
 pub mod Scans
 pub mod Strip
 pub mod Chunks
-pub mod Groups
-pub mod Nests

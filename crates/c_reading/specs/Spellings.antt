@@ -1,11 +1,12 @@
 -- The spellings of tokens: words, numbers, literals and punctuators.
-use Rattle.std.specs.Prelude.{ℕ, Bool, true, false, ◌+◌, ◌==◌, ◌&&◌, ◌||◌, not, List, [], ◌∷◌, length, Option, None, Some, option_map, is_some, if◌then◌else◌}
+use Rattle.std.specs.Prelude.{ℕ, Bool, true, false, ◌==◌, ◌&&◌, ◌||◌, not, List, [], ◌∷◌, length, Option, None, Some, option_map, unwrap_or, is_some, if◌then◌else◌}
 use Rattle.std.specs.List.{list_all}
 use Rattle.c_tree.specs.declared.token.TokenKind.{TokenKind}
 use Rattle.c_tree.specs.declared.token.TokenKind.TheVariants as kinds
 use Rattle.c_reading.specs.declared.mode.Mode.{Mode}
 use Rattle.c_reading.specs.Bytes.{is_digit, is_letter, is_word_byte, is_quote, begins}
 use Rattle.c_reading.specs.Runs.{goes_through}
+use Rattle.c_reading.specs.Scans.{plus}
 use Rattle.c_reading.specs.Words.{word_kind}
 use Rattle.c_reading.specs.Constants.{number_kind, is_e}
 use Rattle.c_reading.specs.Punctuators.{punctuator_of}
@@ -37,28 +38,23 @@ quoted q (c ∷ []) = if c == q then Some 1 else None
 quoted q (c ∷ d ∷ cs) =
     if c == q then Some 1
     else (if c == 10 then None
-    else (if c == 92 then (if d == 10 then None else option_map (λ n. n + 2) (quoted q cs))
-    else option_map (λ n. n + 1) (quoted q (d ∷ cs))))
+    else (if c == 92 then (if d == 10 then None else plus 2 (quoted q cs))
+    else plus 1 (quoted q (d ∷ cs))))
 
 -- the length of a literal without prefix that begins here; there is no empty character
 abbrev pub unprefixed_len : List ℕ → Option ℕ
 unprefixed_len [] = None
-unprefixed_len (c ∷ cs) = if is_quote c && not ((c == 39) && begins 39 cs) then option_map (λ n. n + 1) (quoted c cs) else None
+unprefixed_len (c ∷ cs) = if is_quote c && not ((c == 39) && begins 39 cs) then plus 1 (quoted c cs) else None
 
 -- the length of a literal that begins here, perhaps behind `L`
 unfoldable pub literal_len : List ℕ → Option ℕ
 literal_len [] = None
-literal_len (c ∷ cs) = if c == 76 then option_map (λ n. n + 1) (unprefixed_len cs) else unprefixed_len (c ∷ cs)
-
--- the number that is there, or 0
-abbrev pub or_zero : Option ℕ → ℕ
-or_zero None = 0
-or_zero (Some n) = n
+literal_len (c ∷ cs) = if c == 76 then plus 1 (unprefixed_len cs) else unprefixed_len (c ∷ cs)
 
 -- A character or a string: the literal that begins at its first byte is all of it.
 unfoldable pub is_literal : List ℕ → Bool
 is_literal [] = false
-is_literal (c ∷ cs) = or_zero (literal_len (c ∷ cs)) == length (c ∷ cs)
+is_literal (c ∷ cs) = unwrap_or (literal_len (c ∷ cs)) 0 == length (c ∷ cs)
 
 unfoldable pub is_spelling : Mode → List ℕ → Bool
 is_spelling mode s = is_word s || (is_number s || (is_literal s || is_some (punctuator_of mode s)))

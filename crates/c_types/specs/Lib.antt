@@ -9,7 +9,6 @@ pub mod Mentions
 pub mod Storage
 pub mod Declarators
 pub mod Roles
-pub mod Specified
 pub mod Statics
 pub mod Units
 pub mod Keeping

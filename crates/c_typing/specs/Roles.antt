@@ -1,4 +1,5 @@
--- What a node is where it stands, as far as its kind doesn't say it.
+-- What a node is where it stands, as far as its kind doesn't say it. Not meant are `plain`, the slot of a part (`Parts`),
+-- `Plainly` and `Alone`, mentions of tags (`Tags`), and `Member`, a member with its type (`Scopes`).
 use Rattle.std.specs.Prelude.{ℕ, cond}
 use Rattle.c_tree.specs.Node.{Nodes, no_more, more}
 use Rattle.c_typing.specs.Declarators.{is_bare}

@@ -25,7 +25,8 @@ pub data Sort : Type 0 where
   Unions : Sort
   Enums : Sort
 
--- A tag that was declared at this depth, with the number of its structure or union. `body`: it has one, maybe still open.
+-- A tag that was declared at this depth, with the number of its structure or union; an enumeration has none, and the number
+-- says nothing there. `body`: it has one, maybe still open.
 pub record Tag : Type 0 where
   pub name : ℕ
   pub depth : ℕ

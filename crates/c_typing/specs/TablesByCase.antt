@@ -5,7 +5,7 @@ use Rattle.c_typing.specs.Declarators.{is_bare}
 use Rattle.c_typing.specs.Definition.{Table}
 use Rattle.c_typing.specs.Moves.{opened_block}
 use Rattle.c_typing.specs.Order.{put_kept}
-use Rattle.c_typing.specs.Roles.{Role, Plain, Callee, Declares, Defines, Formal, Inside, Body, owner_of, inner_role, specs_role, item_role, given}
+use Rattle.c_typing.specs.Roles.{Role, Plain, Callee, Declares, Defines, Formal, Inside, Body, owner_of, inner_role, specs_role, item_role}
 use Rattle.c_typing.specs.Roles as roles
 use Rattle.c_typing.specs.Rows.{keeps, var_of}
 use Rattle.c_typing.specs.Scopes.{Scopes, Enums, deeper}

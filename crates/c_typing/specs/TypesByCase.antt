@@ -7,7 +7,7 @@ use Rattle.c_typing.specs.Declarators.{is_bare, around_maybe, enumerator}
 use Rattle.c_typing.specs.Faults.{Fault, NotPointer, NotFunction}
 use Rattle.c_typing.specs.Moves.{opened_block, mention}
 use Rattle.c_typing.specs.Options.{or_fault, unless_fault, ◌>>=◌}
-use Rattle.c_typing.specs.Roles.{Role, Plain, Callee, Declares, Defines, Formal, Inside, Body, owner_of, inner_role, specs_role, item_role, given}
+use Rattle.c_typing.specs.Roles.{Role, Plain, Callee, Declares, Defines, Formal, Inside, Body, owner_of, inner_role, specs_role, item_role}
 use Rattle.c_typing.specs.Roles as roles
 use Rattle.c_typing.specs.Rows.{identifier, member, unary_row, if_lvalue, fine_unless, members_row, declarator_row, name_row}
 use Rattle.c_typing.specs.Scopes.{Scopes, Enums, deeper}

@@ -1,7 +1,8 @@
 //! Variables: what a name stands for, if it stands for a variable.
 
 /// A variable by its linkage and storage (ISO 9899:1990, 6.1.2.2, 6.1.2.4). The token of a declared variable is that of its name in
-/// its file. The first three have static storage. No name stands for the last two.
+/// its file. The first three have static storage, and what a return leaves behind counts as if it had. No name stands for the last
+/// two.
 #[derive(Clone, Copy, PartialEq, Eq)]
 pub enum Var {
     /// One over all files, by its name.

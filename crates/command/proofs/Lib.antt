@@ -4,7 +4,7 @@ pub mod Judging
 pub mod Members
 pub mod Plans
 pub mod Reporting
-pub mod SmallBodies
+pub mod SimpleBodies
 pub mod SourceFaults
 pub mod Statements
 pub mod Statuses

@@ -2,12 +2,10 @@
 use Rattle.std.specs.Prelude.{ℕ, List, map}
 use Rattle.c_tree.specs.Views.{node_of}
 use Rattle.c_paths.specs.Events as events
-use Rattle.path_subjects.specs.Subjects as subjects
+use Rattle.path_subjects.specs.Values.{subject_of}
 use Rattle.c_paths.specs.Graphs as graphs
 use Rattle.c_paths.specs.Fragments as ways
 use Rattle.c_paths.specs.Building as building
-use Rattle.flow_graph.specs.declared.event.Subject.{Subject}
-use Rattle.flow_graph.specs.declared.event.Subject.TheVariants as subject
 use Rattle.flow_graph.specs.declared.event.Variable.{Variable}
 use Rattle.flow_graph.specs.declared.event.Event.{Event}
 use Rattle.flow_graph.specs.declared.event.Event.TheVariants as event
@@ -19,10 +17,6 @@ use Rattle.flow_graph.specs.declared.draft.DraftEnd.TheVariants as drafted
 use Rattle.flow_graph.specs.declared.draft.Draft.{Draft}
 use Rattle.flow_graph.specs.declared.draft.Way.{Way}
 use Rattle.flow_graph.specs.declared.draft.Way.TheVariants as way
-
-abbrev pub subject_of : Subject → subjects.Subject
-subject_of (subject.Tree t) = subjects.Tree (node_of t.now)
-subject_of (subject.DerefOf t) = subjects.DerefOf (node_of t.now)
 
 abbrev pub variable_in : Variable → events.Variable
 variable_in x = record { place = x.place; name = x.name }
@@ -58,6 +52,11 @@ drafts_of ds = map draft_of ds
 abbrev pub way_of : Way → ways.Way
 way_of (way.To next) = ways.To next
 way_of (way.ToEither holds fails) = ways.ToEither holds fails
+
+-- the way of a condition that holds where another one, which has this way, fails
+abbrev pub turned : ways.Way → ways.Way
+turned (ways.To next) = ways.To next
+turned (ways.ToEither holds fails) = ways.ToEither fails holds
 
 -- the blocks so far, and the one where what was built begins
 abbrev pub made : List Draft → ℕ → building.Made

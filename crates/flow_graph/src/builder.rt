@@ -10,9 +10,10 @@ ghost use Rattle.c_paths.specs.Building.{Settled, Waits, push, lead, filled, spl
 ghost use Rattle.flow_graph.specs.Values.{event_of, sketch_of, drafts_of, way_of, made};
 
 use crate::draft::{Draft, DraftEnd, Way};
-use crate::event::{Event, Subject};
+use crate::event::Event;
 use crate::graph::End;
 use c_tree::{Place, Tree};
+use path_subjects::Subject;
 use std::alloc::{AllocError, Global};
 
 /// The blocks of a function, while they are built.

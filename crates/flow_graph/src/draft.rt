@@ -1,5 +1,8 @@
 //! Blocks while their graph grows.
 
+ghost use Rattle.std.specs.Prelude.{◌≡◌};
+ghost use Rattle.flow_graph.specs.Values.{way_of, turned};
+
 use crate::event::Event;
 use crate::graph::End;
 
@@ -27,4 +30,19 @@ pub(crate) enum Way {
     To(u32),
     /// As a condition: to one block where it holds, and to another where it fails.
     ToEither { holds: u32, fails: u32 },
+}
+
+impl Way {
+    /// The way of a condition that holds where this one fails.
+    pub(crate) fn turned(self) -> Way
+        ensures { way_of result ≡ turned (way_of self) }
+    {
+        match self {
+            Way::To(next) => Way::To(next),
+            Way::ToEither { holds, fails } => Way::ToEither {
+                holds: fails,
+                fails: holds,
+            },
+        }
+    }
 }

@@ -1,15 +1,7 @@
 //! What happens in a function, as far as a checker sees it.
 
 use c_tree::{Place, Tree};
-
-/// What has been evaluated.
-#[derive(Clone, Copy)]
-pub enum Subject<'a> {
-    /// A tree.
-    Tree(&'a Tree<'a>),
-    /// The `*x` that is read out of `x->f`, given by the `x`. Its first token is that of `x`.
-    DerefOf(&'a Tree<'a>),
-}
+use path_subjects::Subject;
 
 /// A variable of a block with automatic storage (ISO 9899:1990, 6.1.2.4). A parameter is none.
 #[derive(Clone, Copy, Debug, PartialEq, Eq)]

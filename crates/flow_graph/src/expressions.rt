@@ -11,9 +11,10 @@ ghost use Rattle.flow_graph.specs.Values.{drafts_of, way_of, made};
 
 use crate::builder::Builder;
 use crate::draft::Way;
-use crate::event::{Event, Subject};
+use crate::event::Event;
 use crate::facts::Facts;
 use c_tree::{Initializer, Kind, Operation, Primary, Tree, Trees};
+use path_subjects::Subject;
 use std::alloc::AllocError;
 
 impl<'a> Builder<'a> {

@@ -19,6 +19,6 @@ mod switches;
 mod zero;
 
 pub use bodies::build_body;
-pub use event::{Event, Subject, Variable};
+pub use event::{Event, Variable};
 pub use facts::Facts;
 pub use graph::{Block, End, Graph};

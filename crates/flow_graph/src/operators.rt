@@ -79,15 +79,8 @@ impl<'a> Builder<'a> {
                 let b = self.expression(facts, inner, Way::To(node))?;
                 Ok(b)
             }
-            Way::ToEither { holds, fails } => {
-                let b = self.expression(
-                    facts,
-                    inner,
-                    Way::ToEither {
-                        holds: fails,
-                        fails: holds,
-                    },
-                )?;
+            Way::ToEither { .. } => {
+                let b = self.expression(facts, inner, way.turned())?;
                 Ok(b)
             }
         }
@@ -137,15 +130,8 @@ impl<'a> Builder<'a> {
                 let b = self.with_operands(facts, tree, left, zero, way)?;
                 Ok(b)
             }
-            Way::ToEither { holds, fails } => {
-                let b = self.expression(
-                    facts,
-                    left,
-                    Way::ToEither {
-                        holds: fails,
-                        fails: holds,
-                    },
-                )?;
+            Way::ToEither { .. } => {
+                let b = self.expression(facts, left, way.turned())?;
                 Ok(b)
             }
         }

@@ -87,8 +87,8 @@ fn untyped(tokens: &Tokens, fault: TypeFault) -> Refusal
 
 /// The tokens of a C file. `word` names the file where no marker names another.
 ///
-/// One of the four lexical faults comes exactly where the bytes have no reading, at the end of the longest beginning that has
-/// one. Each token and each marker adds at most one name, and the word one.
+/// One of the four lexical faults comes exactly where the bytes have no reading, at the first place where no blank, marker or
+/// spelling can be cut off behind those before. Each token and each marker adds at most one name, and the word one.
 pub fn read_tokens(
     alloc: Global,
     bytes: &[u8],

@@ -2,6 +2,8 @@
 //! of an arrow.
 #![tactic(auto)]
 
+mod subject;
 mod theorems;
 
+pub use subject::Subject;
 pub use theorems::trees_stand_at_their_first_tokens;

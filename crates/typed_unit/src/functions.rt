@@ -7,7 +7,8 @@ use c_unit::Var;
 #[derive(Drop)]
 pub struct TypedFunction<'a> {
     pub name: u32,
-    /// It belongs to its file alone: it is `static` or `inline`, or an earlier declaration of its name is `static` (6.1.2.2).
+    /// It belongs to its file alone: it is `static` or `inline`, or an earlier declaration of its name at file scope is `static`
+    /// (6.1.2.2).
     pub own: bool,
     /// The number of its file.
     pub file: u16,

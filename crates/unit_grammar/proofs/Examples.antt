@@ -14,13 +14,13 @@ use Rattle.c_grammar.specs.SpecifierSteps.{read_items}
 use Rattle.c_grammar.specs.DeclaratorSteps.{read_params, read_suffixes}
 use Rattle.c_grammar.specs.ExpressionSteps.{read_path, read_more_arguments, read_postfix_operators, read_chain, read_binary}
 use Rattle.c_grammar.specs.Reading.{read as read_expressions}
-use Rattle.unit_grammar.specs.Names.{has_typedef}
+use Rattle.unit_grammar.specs.Names.{has_typedef, declared}
 use Rattle.unit_grammar.specs.Control.{has_name, are_different}
 use Rattle.unit_grammar.specs.Construct.{OneStatement}
 use Rattle.unit_grammar.specs.TaggedSteps.{read_enumerators, read_members, read_member_declarators}
 use Rattle.unit_grammar.specs.DeclarationSteps.{read_initials, read_init_declarators}
 use Rattle.unit_grammar.specs.StatementSteps.{read_statements, read_block_items}
-use Rattle.unit_grammar.specs.Reading.{read, chunk, Trees, Bad, read_unit}
+use Rattle.unit_grammar.specs.Reading.{read, chunk}
 
 abbrev T : Symbol
 T = Word 0
@@ -159,10 +159,13 @@ two_chunks : chunk [] (int_word ∷ x ∷ semicolon ∷ semicolon ∷ []) ≡ No
 unfolding read_expressions read_binary read_chain read_postfix_operators read_more_arguments read_path read_items read_suffixes read_params run_of after_run is_type type_words other_types storages inlines occurrences as_often is_among has_typedef has_name are_different read_enumerators read_members read_member_declarators read_initials read_init_declarators read_statements read_block_items read
 two_chunks = refl
 
+abbrev declares_type : Syntax
+declares_type = Outer (Declaration (Specifier (Specs (more (Part (SpecWord typedef_word)) (more (Part (SpecWord int_word)) no_more)))) (more (plain T) no_more))
+
 -- typedef int T; void f(void) { T * x; }
-type_behind_typedef : read_unit [] ((typedef_word ∷ int_word ∷ T ∷ semicolon ∷ []) ∷ (void_word ∷ f ∷ left ∷ void_word ∷ right ∷ open_brace ∷ T ∷ star ∷ x ∷ semicolon ∷ close_brace ∷ []) ∷ []) ≡ Trees (more (Outer (Declaration (Specifier (Specs (more (Part (SpecWord typedef_word)) (more (Part (SpecWord int_word)) no_more)))) (more (plain T) no_more))) (more (function (more (Outer (Declaration (one_word T) (more (pointer x) no_more))) no_more)) no_more))
-unfolding read_expressions read_binary read_chain read_postfix_operators read_more_arguments read_path read_items read_suffixes read_params run_of after_run is_type type_words other_types storages inlines occurrences as_often is_among has_typedef has_name are_different read_enumerators read_members read_member_declarators read_initials read_init_declarators read_statements read_block_items read read_unit
-type_behind_typedef = refl
+type_behind_typedef : (chunk [] (typedef_word ∷ int_word ∷ T ∷ semicolon ∷ []) ≡ Some declares_type) × (chunk (declared declares_type []) (void_word ∷ f ∷ left ∷ void_word ∷ right ∷ open_brace ∷ T ∷ star ∷ x ∷ semicolon ∷ close_brace ∷ []) ≡ Some (function (more (Outer (Declaration (one_word T) (more (pointer x) no_more))) no_more)))
+unfolding read_expressions read_binary read_chain read_postfix_operators read_more_arguments read_path read_items read_suffixes read_params run_of after_run is_type type_words other_types storages inlines occurrences as_often is_among has_typedef has_name are_different read_enumerators read_members read_member_declarators read_initials read_init_declarators read_statements read_block_items read
+type_behind_typedef = (refl, refl)
 
 -- void f(void) { T * x; }
 product : chunk [] (void_word ∷ f ∷ left ∷ void_word ∷ right ∷ open_brace ∷ T ∷ star ∷ x ∷ semicolon ∷ close_brace ∷ []) ≡ Some (function (more (Statement (ExprStmt (present (Operation (Binary binary.Multiply (ident T) (ident x)))))) no_more))
@@ -389,20 +392,26 @@ param_hides_type : chunk types (int_word ∷ f ∷ left ∷ int_word ∷ T ∷ r
 unfolding read_expressions read_binary read_chain read_postfix_operators read_more_arguments read_path read_items read_suffixes read_params run_of after_run is_type type_words other_types storages inlines occurrences as_often is_among has_typedef has_name are_different read_enumerators read_members read_member_declarators read_initials read_init_declarators read_statements read_block_items read
 param_hides_type = refl
 
+abbrev with_param_named_as_type : Syntax
+with_param_named_as_type = Outer (Function (one_word int_word) (Declarator (Named [] f (more (Part (Params (more (Specifier (Param (one_word int_word) (present (plain T)))) no_more) false)) no_more))) (Statement (Block no_more)))
+
 -- int f(int T) { } T x;
-params_end_with_body : read_unit types ((int_word ∷ f ∷ left ∷ int_word ∷ T ∷ right ∷ open_brace ∷ close_brace ∷ []) ∷ (T ∷ x ∷ semicolon ∷ []) ∷ []) ≡ Trees (more (Outer (Function (one_word int_word) (Declarator (Named [] f (more (Part (Params (more (Specifier (Param (one_word int_word) (present (plain T)))) no_more) false)) no_more))) (Statement (Block no_more)))) (more (Outer (Declaration (one_word T) (more (plain x) no_more))) no_more))
-unfolding read_expressions read_binary read_chain read_postfix_operators read_more_arguments read_path read_items read_suffixes read_params run_of after_run is_type type_words other_types storages inlines occurrences as_often is_among has_typedef has_name are_different read_enumerators read_members read_member_declarators read_initials read_init_declarators read_statements read_block_items read read_unit
-params_end_with_body = refl
+params_end_with_body : (chunk types (int_word ∷ f ∷ left ∷ int_word ∷ T ∷ right ∷ open_brace ∷ close_brace ∷ []) ≡ Some with_param_named_as_type) × (chunk (declared with_param_named_as_type types) (T ∷ x ∷ semicolon ∷ []) ≡ Some (Outer (Declaration (one_word T) (more (plain x) no_more))))
+unfolding read_expressions read_binary read_chain read_postfix_operators read_more_arguments read_path read_items read_suffixes read_params run_of after_run is_type type_words other_types storages inlines occurrences as_often is_among has_typedef has_name are_different read_enumerators read_members read_member_declarators read_initials read_init_declarators read_statements read_block_items read
+params_end_with_body = (refl, refl)
 
 -- void T(void) { T(); }
 own_name_in_body : chunk types (void_word ∷ T ∷ left ∷ void_word ∷ right ∷ open_brace ∷ T ∷ left ∷ right ∷ semicolon ∷ close_brace ∷ []) ≡ Some (Outer (Function (one_word void_word) (of_void T) (Statement (Block (more (Statement (ExprStmt (present (Operation (Call (ident T) no_more))))) no_more)))))
 unfolding read_expressions read_binary read_chain read_postfix_operators read_more_arguments read_path read_items read_suffixes read_params run_of after_run is_type type_words other_types storages inlines occurrences as_often is_among has_typedef has_name are_different read_enumerators read_members read_member_declarators read_initials read_init_declarators read_statements read_block_items read
 own_name_in_body = refl
 
+abbrev named_as_type : Syntax
+named_as_type = Outer (Function (one_word void_word) (of_void T) (Statement (Block no_more)))
+
 -- void T(void) { } T x; has no parse of the second
-function_hides_type : read_unit types ((void_word ∷ T ∷ left ∷ void_word ∷ right ∷ open_brace ∷ close_brace ∷ []) ∷ (T ∷ x ∷ semicolon ∷ []) ∷ []) ≡ Bad 1
-unfolding read_expressions read_binary read_chain read_postfix_operators read_more_arguments read_path read_items read_suffixes read_params run_of after_run is_type type_words other_types storages inlines occurrences as_often is_among has_typedef has_name are_different read_enumerators read_members read_member_declarators read_initials read_init_declarators read_statements read_block_items read read_unit
-function_hides_type = refl
+function_hides_type : (chunk types (void_word ∷ T ∷ left ∷ void_word ∷ right ∷ open_brace ∷ close_brace ∷ []) ≡ Some named_as_type) × (chunk (declared named_as_type types) (T ∷ x ∷ semicolon ∷ []) ≡ None)
+unfolding read_expressions read_binary read_chain read_postfix_operators read_more_arguments read_path read_items read_suffixes read_params run_of after_run is_type type_words other_types storages inlines occurrences as_often is_among has_typedef has_name are_different read_enumerators read_members read_member_declarators read_initials read_init_declarators read_statements read_block_items read
+function_hides_type = (refl, refl)
 
 -- typedef int f(void) { } has no parse
 typedef_of_function : chunk [] (typedef_word ∷ int_word ∷ f ∷ left ∷ void_word ∷ right ∷ open_brace ∷ close_brace ∷ []) ≡ None
@@ -509,10 +518,10 @@ returned : chunk [] (void_word ∷ f ∷ left ∷ void_word ∷ right ∷ open_b
 unfolding read_expressions read_binary read_chain read_postfix_operators read_more_arguments read_path read_items read_suffixes read_params run_of after_run is_type type_words other_types storages inlines occurrences as_often is_among has_typedef has_name are_different read_enumerators read_members read_member_declarators read_initials read_init_declarators read_statements read_block_items read
 returned = refl
 
--- int x; x; y; has no parse of the second
-first_bad : read_unit [] ((int_word ∷ x ∷ semicolon ∷ []) ∷ (x ∷ semicolon ∷ []) ∷ (y ∷ semicolon ∷ []) ∷ []) ≡ Bad 1
-unfolding read_expressions read_binary read_chain read_postfix_operators read_more_arguments read_path read_items read_suffixes read_params run_of after_run is_type type_words other_types storages inlines occurrences as_often is_among has_typedef has_name are_different read_enumerators read_members read_member_declarators read_initials read_init_declarators read_statements read_block_items read read_unit
-first_bad = refl
+-- int x; x; has no parse of the second
+first_bad : (chunk [] (int_word ∷ x ∷ semicolon ∷ []) ≡ Some (declares_int x)) × (chunk (declared (declares_int x) []) (x ∷ semicolon ∷ []) ≡ None)
+unfolding read_expressions read_binary read_chain read_postfix_operators read_more_arguments read_path read_items read_suffixes read_params run_of after_run is_type type_words other_types storages inlines occurrences as_often is_among has_typedef has_name are_different read_enumerators read_members read_member_declarators read_initials read_init_declarators read_statements read_block_items read
+first_bad = (refl, refl)
 
 -- void f(void) { T; }
 type_alone : chunk types (void_word ∷ f ∷ left ∷ void_word ∷ right ∷ open_brace ∷ T ∷ semicolon ∷ close_brace ∷ []) ≡ Some (function (more (Outer (Declaration (one_word T) no_more)) no_more))
@@ -525,19 +534,22 @@ unfolding read_expressions read_binary read_chain read_postfix_operators read_mo
 width_of_type = refl
 
 -- void f(void) { typedef int T; } T x; has no parse of the second
-typedef_ends_with_block : read_unit [] ((void_word ∷ f ∷ left ∷ void_word ∷ right ∷ open_brace ∷ typedef_word ∷ int_word ∷ T ∷ semicolon ∷ close_brace ∷ []) ∷ (T ∷ x ∷ semicolon ∷ []) ∷ []) ≡ Bad 1
-unfolding read_expressions read_binary read_chain read_postfix_operators read_more_arguments read_path read_items read_suffixes read_params run_of after_run is_type type_words other_types storages inlines occurrences as_often is_among has_typedef has_name are_different read_enumerators read_members read_member_declarators read_initials read_init_declarators read_statements read_block_items read read_unit
-typedef_ends_with_block = refl
+typedef_ends_with_block : (chunk [] (void_word ∷ f ∷ left ∷ void_word ∷ right ∷ open_brace ∷ typedef_word ∷ int_word ∷ T ∷ semicolon ∷ close_brace ∷ []) ≡ Some (function (more declares_type no_more))) × (chunk (declared (function (more declares_type no_more)) []) (T ∷ x ∷ semicolon ∷ []) ≡ None)
+unfolding read_expressions read_binary read_chain read_postfix_operators read_more_arguments read_path read_items read_suffixes read_params run_of after_run is_type type_words other_types storages inlines occurrences as_often is_among has_typedef has_name are_different read_enumerators read_members read_member_declarators read_initials read_init_declarators read_statements read_block_items read
+typedef_ends_with_block = (refl, refl)
+
+abbrev declares_enumerator : Syntax
+declares_enumerator = Outer (Declaration (Specifier (Specs (more (Specifier (EnumBody None (more (Part (Enumerator T absent)) no_more) false)) no_more))) no_more)
 
 -- void f(void) { enum { T }; } T x;
-enumerator_ends_with_block : read_unit types ((void_word ∷ f ∷ left ∷ void_word ∷ right ∷ open_brace ∷ enum_word ∷ open_brace ∷ T ∷ close_brace ∷ semicolon ∷ close_brace ∷ []) ∷ (T ∷ x ∷ semicolon ∷ []) ∷ []) ≡ Trees (more (function (more (Outer (Declaration (Specifier (Specs (more (Specifier (EnumBody None (more (Part (Enumerator T absent)) no_more) false)) no_more))) no_more)) no_more)) (more (Outer (Declaration (one_word T) (more (plain x) no_more))) no_more))
-unfolding read_expressions read_binary read_chain read_postfix_operators read_more_arguments read_path read_items read_suffixes read_params run_of after_run is_type type_words other_types storages inlines occurrences as_often is_among has_typedef has_name are_different read_enumerators read_members read_member_declarators read_initials read_init_declarators read_statements read_block_items read read_unit
-enumerator_ends_with_block = refl
+enumerator_ends_with_block : (chunk types (void_word ∷ f ∷ left ∷ void_word ∷ right ∷ open_brace ∷ enum_word ∷ open_brace ∷ T ∷ close_brace ∷ semicolon ∷ close_brace ∷ []) ≡ Some (function (more declares_enumerator no_more))) × (chunk (declared (function (more declares_enumerator no_more)) types) (T ∷ x ∷ semicolon ∷ []) ≡ Some (Outer (Declaration (one_word T) (more (plain x) no_more))))
+unfolding read_expressions read_binary read_chain read_postfix_operators read_more_arguments read_path read_items read_suffixes read_params run_of after_run is_type type_words other_types storages inlines occurrences as_often is_among has_typedef has_name are_different read_enumerators read_members read_member_declarators read_initials read_init_declarators read_statements read_block_items read
+enumerator_ends_with_block = (refl, refl)
 
 -- enum { T }; T x; has no parse of the second
-enumerator_hides_type_behind : read_unit types ((enum_word ∷ open_brace ∷ T ∷ close_brace ∷ semicolon ∷ []) ∷ (T ∷ x ∷ semicolon ∷ []) ∷ []) ≡ Bad 1
-unfolding read_expressions read_binary read_chain read_postfix_operators read_more_arguments read_path read_items read_suffixes read_params run_of after_run is_type type_words other_types storages inlines occurrences as_often is_among has_typedef has_name are_different read_enumerators read_members read_member_declarators read_initials read_init_declarators read_statements read_block_items read read_unit
-enumerator_hides_type_behind = refl
+enumerator_hides_type_behind : (chunk types (enum_word ∷ open_brace ∷ T ∷ close_brace ∷ semicolon ∷ []) ≡ Some declares_enumerator) × (chunk (declared declares_enumerator types) (T ∷ x ∷ semicolon ∷ []) ≡ None)
+unfolding read_expressions read_binary read_chain read_postfix_operators read_more_arguments read_path read_items read_suffixes read_params run_of after_run is_type type_words other_types storages inlines occurrences as_often is_among has_typedef has_name are_different read_enumerators read_members read_member_declarators read_initials read_init_declarators read_statements read_block_items read
+enumerator_hides_type_behind = (refl, refl)
 
 -- void f(void) { switch (x) while (y) { case n: continue; } }
 case_in_loop : chunk [] (void_word ∷ f ∷ left ∷ void_word ∷ right ∷ open_brace ∷ Reserved words.Switch ∷ left ∷ x ∷ right ∷ Reserved words.While ∷ left ∷ y ∷ right ∷ open_brace ∷ Reserved words.Case ∷ n ∷ colon ∷ Reserved words.Continue ∷ semicolon ∷ close_brace ∷ close_brace ∷ []) ≡ Some (function (more (Statement (Switch (ident x) (Iteration (While (ident y) (Statement (Block (more (Statement (Case number (Jump Continue))) no_more))))))) no_more))

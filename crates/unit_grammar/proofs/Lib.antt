@@ -12,4 +12,3 @@ pub mod CompleteDeclarations
 pub mod CompleteStatements
 pub mod Complete
 pub mod CompleteChunks
-pub mod Units

@@ -1,12 +1,11 @@
 -- The reader over lists of symbols. It takes the names in force and gives none back: those behind a tree are `declared`.
-use Rattle.std.specs.Prelude.{ℕ, zero, suc, ◌+◌, List, [], ◌∷◌, Option, None, Some}
+use Rattle.std.specs.Prelude.{ℕ, zero, suc, List, Option, None}
 use Rattle.c_tree.specs.Symbol.{Symbol}
-use Rattle.c_tree.specs.Syntax.{Syntax, Syntaxes, no_more, more}
+use Rattle.c_tree.specs.Syntax.{Syntax}
 use Rattle.c_grammar.specs.Names.{Names}
 use Rattle.c_grammar.specs.Found.{◌>>=◌, Reader}
 use Rattle.c_grammar.specs.SpecifierSteps.{read_specifiers}
 use Rattle.c_grammar.specs.Reading.{read as read_expressions, ended}
-use Rattle.unit_grammar.specs.Names.{declared}
 use Rattle.unit_grammar.specs.Construct.{SpecifiersIn, TaggedType, StructMember, BracedInitials, BlockDeclaration, OneStatement, FunctionBody, ConstructReader}
 use Rattle.unit_grammar.specs.TaggedSteps.{read_tagged, read_member}
 use Rattle.unit_grammar.specs.DeclarationSteps.{read_braces, read_declaration}
@@ -31,21 +30,3 @@ read (suc n) = read_construct (read_expressions n) (read n) (suc n)
 -- the tree of this chunk
 abbrev pub chunk : Names → List Symbol → Option Syntax
 chunk names ts = read_chunk (read_expressions 999) (read 999) 1000 names ts >>= ended
-
--- the trees of chunks, or the number of the first that has none
-pub data Outcome : Type 0 where
-  Trees : Syntaxes → Outcome
-  Bad : ℕ → Outcome
-
-abbrev pub behind : Syntax → Outcome → Outcome
-behind e (Trees es) = Trees (more e es)
-behind e (Bad k) = Bad (k + 1)
-
-abbrev pub follow : Option Syntax → (Syntax → Outcome) → Outcome
-follow None f = Bad 0
-follow (Some e) f = behind e (f e)
-
--- each chunk is read under the names that those before it leave
-unfoldable pub read_unit : Names → List (List Symbol) → Outcome
-read_unit names [] = Trees no_more
-read_unit names (ts ∷ chunks) = follow (chunk names ts) (λ e. read_unit (declared e names) chunks)

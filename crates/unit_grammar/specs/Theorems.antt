@@ -1,13 +1,13 @@
 -- The theorems of this crate as statements, which contracts can name.
 use Rattle.std.specs.Prelude.{◌≡◌, ℕ, ◌≤◌, ◌↔◌, List, Some}
 use Rattle.c_tree.specs.Symbol.{Symbol}
-use Rattle.c_tree.specs.Syntax.{Syntax, Syntaxes}
+use Rattle.c_tree.specs.Syntax.{Syntax}
 use Rattle.c_tree.specs.Height.{height_of}
 use Rattle.c_tree.specs.Tokens.{tokens_then}
 use Rattle.c_grammar.specs.Names.{Names}
 use Rattle.unit_grammar.specs.Construct.{Construct}
-use Rattle.unit_grammar.specs.Grammar.{IsOf, IsParse, AreParses, IsFirstBad}
-use Rattle.unit_grammar.specs.Reading.{read, chunk, Trees, Bad, read_unit}
+use Rattle.unit_grammar.specs.Grammar.{IsOf, IsParse}
+use Rattle.unit_grammar.specs.Reading.{read, chunk}
 use Rattle.unit_grammar.specs.Following.{Ends}
 
 -- what is read is a tree of the grammar, and its tokens are those that were taken
@@ -29,11 +29,3 @@ ChunksAreRead = (names : Names) (ts : List Symbol) (e : Syntax) → (chunk names
 -- a chunk has at most one parse
 abbrev pub ParsesAreUnique : Type 0
 ParsesAreUnique = (names : Names) (ts : List Symbol) (a b : Syntax) → IsParse names a ts → IsParse names b ts → a ≡ b
-
--- the trees that are read of chunks are exactly their parses
-abbrev pub UnitsAreRead : Type 0
-UnitsAreRead = (names : Names) (chunks : List (List Symbol)) (es : Syntaxes) → (read_unit names chunks ≡ Trees es) ↔ AreParses IsParse names es chunks
-
--- and the number that is read is that of the first chunk without a parse
-abbrev pub FirstBadIsFound : Type 0
-FirstBadIsFound = (names : Names) (chunks : List (List Symbol)) (k : ℕ) → (read_unit names chunks ≡ Bad k) ↔ IsFirstBad IsParse names chunks k

@@ -4,7 +4,4 @@
 
 mod theorems;
 
-pub use theorems::{
-    chunks_are_read, first_bad_is_found, parses_are_unique, reading_is_complete, reading_is_sound,
-    units_are_read,
-};
+pub use theorems::{chunks_are_read, parses_are_unique, reading_is_complete, reading_is_sound};

@@ -6,8 +6,6 @@ ghost use Rattle.unit_grammar.specs.Theorems.{
   ReadingIsComplete,
   ChunksAreRead,
   ParsesAreUnique,
-  UnitsAreRead,
-  FirstBadIsFound,
 };
 
 /// What the plain reader finds is a tree of the grammar, of at most the height that it was given, and its tokens are those
@@ -29,14 +27,4 @@ pub fn chunks_are_read()
 /// A chunk has at most one parse.
 pub fn parses_are_unique()
     ensures { ParsesAreUnique }
-{}
-
-/// The trees that are read of chunks are exactly their parses, each under the names that those before it leave.
-pub fn units_are_read()
-    ensures { UnitsAreRead }
-{}
-
-/// The number that is read where a chunk has no parse is exactly that of the first such chunk.
-pub fn first_bad_is_found()
-    ensures { FirstBadIsFound }
 {}

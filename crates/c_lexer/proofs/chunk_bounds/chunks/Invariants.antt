@@ -1,6 +1,6 @@
 use Rattle.std.proofs.Common.{◌-◌, ◌<◌, ◌≤◌, ℕ, length}
 use Rattle.c_reading.specs.Chunks.{EndsChunk, Follow}
-use Rattle.c_reading.specs.Nests.{Nests}
+use Rattle.c_lexer.specs.Nests.{Nests}
 use Rattle.c_lexer.proofs.chunk_bounds.chunks.Given as goal
 
 abbrev pub invariant-cutting : goal.invariant-cutting

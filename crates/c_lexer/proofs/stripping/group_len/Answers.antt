@@ -1,7 +1,7 @@
 use Rattle.std.proofs.Common.{◌<◌, length, sym, ◌∙◌, arith}
 use Rattle.std.proofs.lemmas.Option.{slice_get-get_or}
 use Rattle.c_reading.proofs.Tests.{some_is}
-use Rattle.c_reading.proofs.TokenGroups.{group_within, group_past}
+use Rattle.c_lexer.proofs.TokenGroups.{group_within, group_past}
 use Rattle.c_lexer.proofs.stripping.group_len.Goals as goal
 
 pub returns-then-index-groups-clause-within : goal.returns-then-index-groups-clause-within

@@ -1,5 +1,5 @@
 use Rattle.std.proofs.Common.{◌≡◌, length, reverse, sym, ap, ◌∙◌}
-use Rattle.c_reading.proofs.TokenGroups.{groups_start, groups_step}
+use Rattle.c_lexer.proofs.TokenGroups.{groups_start, groups_step}
 use Rattle.c_lexer.proofs.stripping.groups_of.Goals as goal
 
 pub back-init : goal.back-init

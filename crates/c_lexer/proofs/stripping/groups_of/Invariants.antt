@@ -1,4 +1,4 @@
-use Rattle.c_reading.proofs.TokenGroups.{GroupsFrom}
+use Rattle.c_lexer.proofs.TokenGroups.{GroupsFrom}
 use Rattle.std.proofs.Common.{reverse}
 use Rattle.c_lexer.proofs.stripping.groups_of.Given as goal
 

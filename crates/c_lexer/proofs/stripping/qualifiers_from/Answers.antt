@@ -1,6 +1,6 @@
 use Rattle.std.proofs.Common.{◌+◌, sym, ap, ◌∙◌, arith}
 use Rattle.c_reading.specs.Scans.{plus}
-use Rattle.c_reading.proofs.TokenGroups.{asm_more, asm_stops, asm_past}
+use Rattle.c_lexer.proofs.TokenGroups.{asm_more, asm_stops, asm_past}
 use Rattle.c_lexer.proofs.stripping.qualifiers_from.Goals as goal
 
 pub returns-then-not-is_qualifier-clause-found : goal.returns-then-not-is_qualifier-clause-found

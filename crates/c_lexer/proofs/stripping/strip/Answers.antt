@@ -1,6 +1,6 @@
 use Rattle.std.proofs.Common.{◌≡◌, ◌++◌, sym, ap, ◌∙◌, arith}
 use Rattle.c_reading.specs.Strip.{stripped}
-use Rattle.c_reading.proofs.TokenGroups.{strip_dropped, strip_kept, strip_end}
+use Rattle.c_lexer.proofs.TokenGroups.{strip_dropped, strip_kept, strip_end}
 use Rattle.c_tree.specs.TokenPlaces.{AreOfFile, Rises}
 use Rattle.c_lexer.proofs.Kept.{rises_stripped, file_stripped}
 use Rattle.c_lexer.proofs.stripping.strip.Goals as goal

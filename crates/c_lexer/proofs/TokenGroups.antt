@@ -3,20 +3,20 @@ use Rattle.std.proofs.Common.{◌≡◌, ℕ, zero, suc, ◌+◌, ◌-◌, ◌�
 use Rattle.c_tree.specs.declared.token.Token.{Token}
 use Rattle.c_reading.specs.Scans.{plus}
 use Rattle.c_reading.specs.Strip.{is_open_paren, is_close_paren, group_end, group_len, is_qualifier, asm_len, dropped_with, kept, stripped_behind}
-use Rattle.c_reading.specs.Groups.{Marked, Marks}
+use Rattle.c_lexer.specs.Groups.{EndsAt, AreEnds}
 use Rattle.std.proofs.lemmas.List.{drop_all, drop_more, drop-drop, append-nil}
 use Rattle.std.proofs.lemmas.Bool.{cases_lt}
 use Rattle.c_reading.proofs.Scans.{plus-plus}
-use Rattle.c_reading.proofs.Tests.{cases, some_is}
+use Rattle.c_reading.proofs.Tests.{cases, mapped, some_is}
 
-more : (rest : List Token) (t : Token) (d e : ℕ) (o : Option ℕ) → group_end e (t ∷ rest) ≡ plus 1 (group_end d rest) → Marked rest d o → Marked (t ∷ rest) e o
+more : (rest : List Token) (t : Token) (d e : ℕ) (o : Option ℕ) → group_end e (t ∷ rest) ≡ plus 1 (group_end d rest) → EndsAt rest d o → EndsAt (t ∷ rest) e o
 more rest t d e None h m = rw (h, m) refl
 more rest t d e (Some behind) h m = (m.0 + 1, rw (h, m.1) refl, let z = m.2 in omega arith)
 
-pub marks_none : Marks [] []
+pub ends_none : AreEnds [] []
 unfolding group_end
-marks_none zero = refl
-marks_none (suc d) = refl
+ends_none zero = refl
+ends_none (suc d) = refl
 
 other_end : (rest : List Token) (t : Token) (d : ℕ) → is_open_paren t.kind ≡ false → is_close_paren t.kind ≡ false → group_end d (t ∷ rest) ≡ plus 1 (group_end d rest)
 unfolding group_end
@@ -36,27 +36,27 @@ close_end : (rest : List Token) (t : Token) (d : ℕ) → is_open_paren t.kind �
 unfolding group_end
 close_end rest t d o c = rw (o, c) refl
 
-pub marks_other : (rest : List Token) (t : Token) (marks : List ℕ) → is_open_paren t.kind ≡ false → is_close_paren t.kind ≡ false → Marks rest marks → Marks (t ∷ rest) marks
-marks_other rest t marks o c m d = more rest t d d (slice_get marks d) (other_end rest t d o c) (m d)
+pub ends_other : (rest : List Token) (t : Token) (ends : List ℕ) → is_open_paren t.kind ≡ false → is_close_paren t.kind ≡ false → AreEnds rest ends → AreEnds (t ∷ rest) ends
+ends_other rest t ends o c m d = more rest t d d (slice_get ends d) (other_end rest t d o c) (m d)
 
-pub marks_close : (rest : List Token) (t : Token) (marks : List ℕ) → is_open_paren t.kind ≡ false → is_close_paren t.kind ≡ true → Marks rest marks → Marks (t ∷ rest) (length rest ∷ marks)
-marks_close rest t marks o c m zero = (1, close_first rest t o c, omega arith)
-marks_close rest t marks o c m (suc d) = more rest t d (suc d) (slice_get marks d) (close_end rest t d o c) (m d)
+pub ends_close : (rest : List Token) (t : Token) (ends : List ℕ) → is_open_paren t.kind ≡ false → is_close_paren t.kind ≡ true → AreEnds rest ends → AreEnds (t ∷ rest) (length rest ∷ ends)
+ends_close rest t ends o c m zero = (1, close_first rest t o c, omega arith)
+ends_close rest t ends o c m (suc d) = more rest t d (suc d) (slice_get ends d) (close_end rest t d o c) (m d)
 
-pub marks_open : (rest : List Token) (t : Token) (behind : ℕ) (marks : List ℕ) → is_open_paren t.kind ≡ true → Marks rest (behind ∷ marks) → Marks (t ∷ rest) marks
-marks_open rest t behind marks o m d = more rest t (suc d) d (slice_get marks d) (open_end rest t d o) (m (suc d))
+pub ends_open : (rest : List Token) (t : Token) (behind : ℕ) (ends : List ℕ) → is_open_paren t.kind ≡ true → AreEnds rest (behind ∷ ends) → AreEnds (t ∷ rest) ends
+ends_open rest t behind ends o m d = more rest t (suc d) d (slice_get ends d) (open_end rest t d o) (m (suc d))
 
-pub marks_open_none : (rest : List Token) (t : Token) → is_open_paren t.kind ≡ true → Marks rest [] → Marks (t ∷ rest) []
-marks_open_none rest t o m d = more rest t (suc d) d None (open_end rest t d o) (m (suc d))
+pub ends_open_none : (rest : List Token) (t : Token) → is_open_paren t.kind ≡ true → AreEnds rest [] → AreEnds (t ∷ rest) []
+ends_open_none rest t o m d = more rest t (suc d) d None (open_end rest t d o) (m (suc d))
 
-pub group_len-some : (rest : List Token) (t : Token) (behind n : ℕ) (marks : List ℕ) → is_open_paren t.kind ≡ true → Marks rest (behind ∷ marks) → n + behind ≡ length rest + 1 → group_len (t ∷ rest) ≡ Some n
+pub group_len-some : (rest : List Token) (t : Token) (behind n : ℕ) (ends : List ℕ) → is_open_paren t.kind ≡ true → AreEnds rest (behind ∷ ends) → n + behind ≡ length rest + 1 → group_len (t ∷ rest) ≡ Some n
 unfolding group_len
-group_len-some rest t behind n marks o m h =
+group_len-some rest t behind n ends o m h =
     let k = m 0 in
     let e : k.0 + 1 ≡ n = let z = k.2 in omega arith in
     rw (o, k.1) (ap Some e)
 
-pub group_len-none : (rest : List Token) (t : Token) → is_open_paren t.kind ≡ true → Marks rest [] → group_len (t ∷ rest) ≡ None
+pub group_len-none : (rest : List Token) (t : Token) → is_open_paren t.kind ≡ true → AreEnds rest [] → group_len (t ∷ rest) ≡ None
 unfolding group_len
 group_len-none rest t o m = rw (o, m 0) refl
 
@@ -102,14 +102,10 @@ group_len-empty = refl
 
 -- ---- groups end within their tokens
 
-plus_some : (k n : ℕ) (o : Option ℕ) → plus k o ≡ Some n → (m : ℕ) × (o ≡ Some m) × (n ≡ m + k)
-plus_some k n None h = cc
-plus_some k n (Some m) h = (m, refl, cc)
-
 -- the ways in which a group goes on
 longer : (d e : ℕ) (t : Token) (ts : List Token) (n : ℕ) → ((m : ℕ) → group_end d ts ≡ Some m → m ≤ length ts) → group_end e (t ∷ ts) ≡ plus 1 (group_end d ts) → group_end e (t ∷ ts) ≡ Some n → n ≤ length (t ∷ ts)
 longer d e t ts n below h k =
-    let p = plus_some 1 n (group_end d ts) (sym h ∙ k) in
+    let p = mapped 1 (group_end d ts) n (sym h ∙ k) in
     let b = below p.0 p.1 in
     let q = p.2 in
     omega arith
@@ -118,11 +114,11 @@ group_end-le : (d : ℕ) (ts : List Token) (n : ℕ) → group_end d ts ≡ Some
 group_end-le zero [] n h = absurd (empty h)
   where
     empty : group_end 0 [] ≡ Some n → ⊥
-    empty k = let e : group_end 0 [] ≡ None = marks_none 0 in cc
+    empty k = let e : group_end 0 [] ≡ None = ends_none 0 in cc
 group_end-le (suc d) [] n h = absurd (empty h)
   where
     empty : group_end (suc d) [] ≡ Some n → ⊥
-    empty k = let e : group_end (suc d) [] ≡ None = marks_none (suc d) in cc
+    empty k = let e : group_end (suc d) [] ≡ None = ends_none (suc d) in cc
 group_end-le zero (t ∷ ts) n h = elim (cases (is_open_paren t.kind)) as (λ _. n ≤ length (t ∷ ts)) [
   | inl o ↦ longer 1 0 t ts n (λ m k. group_end-le 1 ts m k) (open_end ts t 0 o) h
   | inr o ↦ elim (cases (is_close_paren t.kind)) as (λ _. n ≤ length (t ∷ ts)) [
@@ -143,34 +139,34 @@ unfolding group_len
 group_len-le [] n h = cc
 group_len-le (t ∷ ts) n h = elim (cases (is_open_paren t.kind)) as (λ _. n ≤ length (t ∷ ts)) [
   | inl o ↦
-      let p = plus_some 1 n (group_end 0 ts) (rw o at h) in
+      let p = mapped 1 (group_end 0 ts) n (rw o at h) in
       let b = group_end-le 0 ts p.0 p.1 in
       let q = p.2 in
       omega arith
   | inr o ↦ let e : Path (Option ℕ) None (Some n) = rw o at h in cc
 ]
 
--- ---- the answers at a token, with the marks behind it
+-- ---- the answers at a token, with the ends behind it
 
-pub at_open : (rest : List Token) (t : Token) (marks : List ℕ) → is_open_paren t.kind ≡ true → marks ≡ [] → Marks rest marks → Marks (t ∷ rest) marks × (None ≡ group_len (t ∷ rest))
-at_open rest t marks o e m =
-    let n : Marks rest [] = subst (λ l. Marks rest l) e m in
-    (subst (λ l. Marks (t ∷ rest) l) (sym e) (marks_open_none rest t o n), sym (group_len-none rest t o n))
+pub at_open : (rest : List Token) (t : Token) (ends : List ℕ) → is_open_paren t.kind ≡ true → ends ≡ [] → AreEnds rest ends → AreEnds (t ∷ rest) ends × (None ≡ group_len (t ∷ rest))
+at_open rest t ends o e m =
+    let n : AreEnds rest [] = subst (λ l. AreEnds rest l) e m in
+    (subst (λ l. AreEnds (t ∷ rest) l) (sym e) (ends_open_none rest t o n), sym (group_len-none rest t o n))
 
-pub at_open_group : (rest : List Token) (t : Token) (old new : List ℕ) (closer behind : ℕ) → is_open_paren t.kind ≡ true → length rest ≡ behind → old ≡ closer ∷ new → Marks rest old → Marks (t ∷ rest) new × (Some (behind + 1 - closer) ≡ group_len (t ∷ rest))
+pub at_open_group : (rest : List Token) (t : Token) (old new : List ℕ) (closer behind : ℕ) → is_open_paren t.kind ≡ true → length rest ≡ behind → old ≡ closer ∷ new → AreEnds rest old → AreEnds (t ∷ rest) new × (Some (behind + 1 - closer) ≡ group_len (t ∷ rest))
 at_open_group rest t old new closer behind o h e m =
-    let n : Marks rest (closer ∷ new) = subst (λ l. Marks rest l) e m in
+    let n : AreEnds rest (closer ∷ new) = subst (λ l. AreEnds rest l) e m in
     let k = n 0 in
     let fits : (behind + 1 - closer) + closer ≡ length rest + 1 = let z = k.2 in omega arith in
-    (marks_open rest t closer new o n, sym (group_len-some rest t closer (behind + 1 - closer) new o n fits))
+    (ends_open rest t closer new o n, sym (group_len-some rest t closer (behind + 1 - closer) new o n fits))
 
-pub at_close : (rest : List Token) (t : Token) (old new : List ℕ) (behind : ℕ) → is_open_paren t.kind ≡ false → is_close_paren t.kind ≡ true → length rest ≡ behind → new ≡ behind ∷ old → Marks rest old → Marks (t ∷ rest) new × (None ≡ group_len (t ∷ rest))
+pub at_close : (rest : List Token) (t : Token) (old new : List ℕ) (behind : ℕ) → is_open_paren t.kind ≡ false → is_close_paren t.kind ≡ true → length rest ≡ behind → new ≡ behind ∷ old → AreEnds rest old → AreEnds (t ∷ rest) new × (None ≡ group_len (t ∷ rest))
 at_close rest t old new behind o c h e m =
-    let n : Marks (t ∷ rest) (behind ∷ old) = subst (λ k. Marks (t ∷ rest) (k ∷ old)) h (marks_close rest t old o c m) in
-    (subst (λ l. Marks (t ∷ rest) l) (sym e) n, sym (group_len-other rest t o))
+    let n : AreEnds (t ∷ rest) (behind ∷ old) = subst (λ k. AreEnds (t ∷ rest) (k ∷ old)) h (ends_close rest t old o c m) in
+    (subst (λ l. AreEnds (t ∷ rest) l) (sym e) n, sym (group_len-other rest t o))
 
-pub at_other : (rest : List Token) (t : Token) (marks : List ℕ) → is_open_paren t.kind ≡ false → is_close_paren t.kind ≡ false → Marks rest marks → Marks (t ∷ rest) marks × (None ≡ group_len (t ∷ rest))
-at_other rest t marks o c m = (marks_other rest t marks o c m, sym (group_len-other rest t o))
+pub at_other : (rest : List Token) (t : Token) (ends : List ℕ) → is_open_paren t.kind ≡ false → is_close_paren t.kind ≡ false → AreEnds rest ends → AreEnds (t ∷ rest) ends × (None ≡ group_len (t ∷ rest))
+at_other rest t ends o c m = (ends_other rest t ends o c m, sym (group_len-other rest t o))
 
 -- ---- of the tokens from a number on
 
@@ -215,30 +211,30 @@ set_there (y ∷ ys) zero (suc k) x h = refl
 set_there (y ∷ ys) (suc i) zero x h = refl
 set_there (y ∷ ys) (suc i) (suc k) x h = set_there ys i k x (λ e. h (ap suc e))
 
-pub record GroupsFrom (ts : List Token) (groups : List (Option ℕ)) (index behind : ℕ) (marks : List ℕ) : Type 0 where
+pub record GroupsFrom (ts : List Token) (groups : List (Option ℕ)) (index behind : ℕ) (ends : List ℕ) : Type 0 where
   pub place : behind + index ≡ length ts
   pub count : length groups ≡ length ts
   pub each : (k : ℕ) → index ≤ k → k < length ts → slice_get groups k ≡ Some (group_len (drop k ts))
-  pub marks_are : Marks (drop index ts) marks
+  pub ends_are : AreEnds (drop index ts) ends
 
-pub groups_start : (ts : List Token) (groups : List (Option ℕ)) (marks : List ℕ) → length groups ≡ length ts → marks ≡ [] → GroupsFrom ts groups (length ts) 0 marks
-groups_start ts groups marks n e = record {
+pub groups_start : (ts : List Token) (groups : List (Option ℕ)) (ends : List ℕ) → length groups ≡ length ts → ends ≡ [] → GroupsFrom ts groups (length ts) 0 ends
+groups_start ts groups ends n e = record {
   place = omega arith;
   count = n;
   each = λ k a b. absurd (omega arith);
-  marks_are = let m : Marks (drop (length ts) ts) [] = rw (drop_all (length ts) ts (omega arith)) marks_none in subst (λ l. Marks (drop (length ts) ts) l) (sym e) m;
+  ends_are = let m : AreEnds (drop (length ts) ts) [] = rw (drop_all (length ts) ts (omega arith)) ends_none in subst (λ l. AreEnds (drop (length ts) ts) l) (sym e) m;
 }
 
-pub groups_step : (ts : List Token) (groups : List (Option ℕ)) (index behind : ℕ) (marks new : List ℕ) (group : Option ℕ) (d : Token) → 0 < index → GroupsFrom ts groups index behind marks →
-    ((t : Token) (rest : List Token) → t.kind ≡ (get_or ts (index - 1) d).kind → length rest ≡ behind → Marks rest marks → Marks (t ∷ rest) new × (group ≡ group_len (t ∷ rest))) →
+pub groups_step : (ts : List Token) (groups : List (Option ℕ)) (index behind : ℕ) (ends new : List ℕ) (group : Option ℕ) (d : Token) → 0 < index → GroupsFrom ts groups index behind ends →
+    ((t : Token) (rest : List Token) → t.kind ≡ (get_or ts (index - 1) d).kind → length rest ≡ behind → AreEnds rest ends → AreEnds (t ∷ rest) new × (group ≡ group_len (t ∷ rest))) →
     GroupsFrom ts (set groups (index - 1) group) (index - 1) (behind + 1) new
-groups_step ts groups index behind marks new group d p g step =
+groups_step ts groups index behind ends new group d p g step =
     let i = index - 1 in
     let n = g.place in
     let c = g.count in
     let rest = drop index ts in
     let size : length rest ≡ behind = length-drop index ts ∙ omega arith in
-    let s = step (get_or ts i d) rest refl size g.marks_are in
+    let s = step (get_or ts i d) rest refl size g.ends_are in
     let next : i + 1 ≡ index = omega arith in
     let whole : drop i ts ≡ get_or ts i d ∷ rest = drop_more ts i d (omega arith) ∙ ap (λ k. get_or ts i d ∷ drop k ts) next in
     record {
@@ -250,5 +246,5 @@ groups_step ts groups index behind marks new group d p g step =
             let e : k ≡ i = omega arith in
             rw (e, whole) (set_here groups i group (omega arith) ∙ ap Some s.1)
       ];
-      marks_are = rw whole (s.0);
+      ends_are = rw whole (s.0);
     }

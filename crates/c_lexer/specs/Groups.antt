@@ -4,13 +4,13 @@ use Rattle.c_tree.specs.declared.token.Token.{Token}
 use Rattle.c_reading.specs.Strip.{group_end, group_len}
 
 -- a group with so many more open in it ends where this many tokens stand behind, or doesn't end
-abbrev pub Marked : List Token → ℕ → Option ℕ → Type 0
-Marked rest inner None = group_end inner rest ≡ None
-Marked rest inner (Some behind) = (n : ℕ) × (group_end inner rest ≡ Some n) × (n + behind ≡ length rest)
+abbrev pub EndsAt : List Token → ℕ → Option ℕ → Type 0
+EndsAt rest inner None = group_end inner rest ≡ None
+EndsAt rest inner (Some behind) = (n : ℕ) × (group_end inner rest ≡ Some n) × (n + behind ≡ length rest)
 
--- for each number of open groups there is a mark, as far as groups end
-abbrev pub Marks : List Token → List ℕ → Type 0
-Marks rest marks = (inner : ℕ) → Marked rest inner (slice_get marks inner)
+-- for each number of open groups there is an end, as far as groups end
+abbrev pub AreEnds : List Token → List ℕ → Type 0
+AreEnds rest ends = (inner : ℕ) → EndsAt rest inner (slice_get ends inner)
 
 -- for each token, the length of the group that begins there
 pub record AreGroups (ts : List Token) (groups : List (Option ℕ)) : Type 0 where

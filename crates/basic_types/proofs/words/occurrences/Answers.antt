@@ -1,7 +1,7 @@
 use Rattle.std.proofs.Common.{arith}
 use Rattle.c_tree.specs.declared.keyword.Keyword.TheVariants.{Sizeof}
-use Rattle.c_expr.proofs.BasicTypes.{occurrences-drop, occurrences-end}
-use Rattle.c_expr.proofs.basic_types.occurrences.Goals as goal
+use Rattle.basic_types.proofs.Counting.{occurrences-drop, occurrences-end}
+use Rattle.basic_types.proofs.words.occurrences.Goals as goal
 
 pub loop-found-preserved : goal.loop-found-preserved
 loop-found-preserved c =

@@ -4,8 +4,8 @@ use Rattle.std.specs.Borrow.{Bor}
 use Rattle.c_tree.specs.declared.keyword.Keyword.{Keyword}
 use Rattle.c_typing.specs.Types.{CType, Void, Arith, VaList}
 use Rattle.c_unit.specs.Types.{arithmetic_of}
-use Rattle.c_types.specs.declared.specified.Basic.{Basic}
-use Rattle.c_types.specs.declared.specified.Basic.TheVariants as basic
+use Rattle.basic_types.specs.declared.basic.Basic.{Basic}
+use Rattle.basic_types.specs.declared.basic.Basic.TheVariants as basic
 
 abbrev pub basic_of : Basic → CType
 basic_of basic.Void = Void

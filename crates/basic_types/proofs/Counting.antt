@@ -4,7 +4,7 @@ use Rattle.std.proofs.lemmas.List.{drop_all}
 use Rattle.c_tree.specs.declared.keyword.Keyword.{Keyword}
 use Rattle.c_grammar.specs.Symbols.{same_keyword}
 use Rattle.c_grammar.specs.Specifiers.{occurrences, as_often, same_words, is_among}
-use Rattle.c_expr.specs.Lines.{lines_of}
+use Rattle.basic_types.specs.Lines.{lines_of}
 
 passed : {A B : Type 0} (f : List A → B) (ts : List A) (i : ℕ) (d : A) → i < length ts → f (drop i ts) ≡ f (get_or ts i d ∷ drop (i + 1) ts)
 passed f ts i d h = ap f (drop-cons ts i d h) ∙ ap (λ j. f (get_or ts i d ∷ drop j ts)) (sym (add-one i))

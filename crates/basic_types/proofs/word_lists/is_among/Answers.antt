@@ -1,8 +1,8 @@
 use Rattle.std.proofs.Common.{◌∙◌, sym, ap, ◌||◌, drop, ◌+◌, arith}
 use Rattle.c_grammar.specs.Specifiers.{is_among}
-use Rattle.c_expr.specs.Lines.{lines_of}
-use Rattle.c_expr.proofs.BasicTypes.{is_among-drop, is_among-end}
-use Rattle.c_expr.proofs.basic_types.is_among.Goals as goal
+use Rattle.basic_types.specs.Lines.{lines_of}
+use Rattle.basic_types.proofs.Counting.{is_among-drop, is_among-end}
+use Rattle.basic_types.proofs.word_lists.is_among.Goals as goal
 
 pub returns-then-same_words : goal.returns-then-same_words
 returns-then-same_words c =

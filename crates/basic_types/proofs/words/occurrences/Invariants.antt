@@ -1,6 +1,6 @@
 use Rattle.std.proofs.Common.{◌≡◌, ◌+◌, ◌≤◌, drop}
 use Rattle.c_grammar.specs.Specifiers.{occurrences}
-use Rattle.c_expr.proofs.basic_types.occurrences.Given as goal
+use Rattle.basic_types.proofs.words.occurrences.Given as goal
 
 abbrev pub invariant-loop-found : goal.invariant-loop-found
 invariant-loop-found l = record {

@@ -1,7 +1,7 @@
 use Rattle.std.proofs.Common.{◌≡◌, drop}
 use Rattle.c_typing.specs.Specified.{basic_in}
-use Rattle.c_types.specs.Specified.{lines_of}
-use Rattle.c_types.proofs.specified.basic_in.Given as goal
+use Rattle.basic_types.specs.Basics.{lines_of}
+use Rattle.basic_types.proofs.basic.basic_in.Given as goal
 
 -- the lines that are left decide
 abbrev pub invariant-loop-line : goal.invariant-loop-line

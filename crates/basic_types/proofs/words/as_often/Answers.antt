@@ -1,7 +1,7 @@
 use Rattle.std.proofs.Common.{◌∙◌, sym, arith}
 use Rattle.c_tree.specs.declared.keyword.Keyword.TheVariants.{Sizeof}
-use Rattle.c_expr.proofs.BasicTypes.{as_often-differ, as_often-agree, as_often-end}
-use Rattle.c_expr.proofs.basic_types.as_often.Goals as goal
+use Rattle.basic_types.proofs.Counting.{as_often-differ, as_often-agree, as_often-end}
+use Rattle.basic_types.proofs.words.as_often.Goals as goal
 
 pub returns-then-occurrences : goal.returns-then-occurrences
 returns-then-occurrences c =
