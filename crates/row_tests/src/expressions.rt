@@ -1,40 +1,33 @@
 //! Expressions, specifiers and declarators of C that are known, with what the standard says of them (ISO 9899:1990, 6.3, 6.5).
 
 use crate::expected::expect;
+use crate::texts::tokens_of;
 use bumpalo::Bump;
 use c_expr::{ExprFault, Form, TypeNames, read_declarator, read_expr, read_specs};
-use c_lexer::{LexFault, Mode, Tokens, lex};
+use c_lexer::{LexFault, Tokens};
 use c_tree::{Arena, Tree};
 use mx_base::Names;
-use std::alloc::{AllocError, Global};
+use std::alloc::Global;
 use std::process::Abort;
 use std::test::Fail;
 
 /// What a text is read as. `T` is the name of a type in it, and no other name is.
 #[derive(Clone, Copy, PartialEq, Eq)]
-enum Phrase {
+pub enum Phrase {
     Expression,
     Specifiers,
     Declarator(Form),
 }
 
-/// The tokens of a short text; a long one is too much for these tests.
-fn tokens_of(alloc: Global, text: &[u8], names: &mut Names) -> Result<Tokens, LexFault> {
-    if text.len() > 10000 || names.len() > 100000 {
-        return Err(LexFault::NoMemory);
-    }
-    lex(alloc, text, Mode::C, 0, b"a.c", names)
-}
-
 /// The tree that these tokens are.
-fn tree_of<'a>(
+pub fn tree_of<'a>(
     arena: &'a Arena,
     phrase: Phrase,
     tokens: &'a Tokens,
     types: &mut TypeNames,
 ) -> Result<&'a Tree<'a>, ExprFault> {
     let tokens = tokens.all();
-    if tokens.len() > 10000 {
+    if tokens.len() > 100000 {
         return Err(ExprFault::NoMemory);
     }
     let mut next = 0;
@@ -46,7 +39,7 @@ fn tree_of<'a>(
 }
 
 /// Whether the text is read as this phrase.
-fn is_read(alloc: Global, phrase: Phrase, text: &[u8]) -> Result<bool, LexFault> {
+pub fn is_read(alloc: Global, phrase: Phrase, text: &[u8]) -> Result<bool, LexFault> {
     let arena = Bump::new(alloc);
     let mut names = Names::new(alloc);
     let type_name = names.intern(b"T")?;
@@ -328,29 +321,4 @@ fn declarators_are_read(rt: HostRuntime) -> Result<(), Fail> {
         &NOT_OF_PARAMETERS,
         false,
     )
-}
-
-/// Appends a text some times.
-fn append(text: &mut Vec<u8, Global>, part: &[u8], times: u32) -> Result<(), AllocError> {
-    for _ in 0..times {
-        text.extend_from_slice(part)?;
-    }
-    Ok(())
-}
-
-#[test]
-fn long_expressions_are_read(rt: HostRuntime) -> Result<(), Fail> {
-    for operators in [1, 999] {
-        let mut text = Vec::new(rt.alloc());
-        append(&mut text, b"x", 1)?;
-        append(&mut text, b" + x", operators)?;
-        let seen = is_read(rt.alloc(), Phrase::Expression, &text)?;
-        expect(&rt, seen, "many operators");
-    }
-    let mut text = Vec::new(rt.alloc());
-    append(&mut text, b"x", 1)?;
-    append(&mut text, b" + x", 1000)?;
-    let seen = is_read(rt.alloc(), Phrase::Expression, &text)?;
-    expect(&rt, !seen, "a tree higher than 1000");
-    Ok(())
 }

@@ -2,9 +2,15 @@
 #![tactic(auto)]
 
 #[cfg(test)]
+mod binding;
+#[cfg(test)]
 mod expected;
 #[cfg(test)]
 mod expressions;
+#[cfg(test)]
+mod heights;
+#[cfg(test)]
+mod texts;
 #[cfg(test)]
 mod trees;
 #[cfg(test)]

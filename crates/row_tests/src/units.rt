@@ -1,8 +1,9 @@
 //! Translation units of C that are known, and where they are refused (ISO 9899:1990, 6.5 to 6.7).
 
 use crate::expected::expect;
+use crate::texts::tokens_of;
 use bumpalo::Bump;
-use c_lexer::{LexFault, Mode, Tokens, lex, strip};
+use c_lexer::{LexFault, Tokens, strip};
 use c_parser::{ParseFault, read_unit};
 use c_tree::{Arena, BinaryOp, Kind, Operation, Outer, Statement, Tree};
 use c_unit::Unit;
@@ -12,17 +13,14 @@ use std::test::Fail;
 
 /// Where a unit is refused, by line and column, or what is done with it instead.
 #[derive(Clone, Copy, Debug, PartialEq, Eq)]
-enum Answer {
+pub enum Answer {
     Read,
     Refused(u32, u32),
 }
 
-/// The tokens of a short text, as a parser takes them; a long one is too much for these tests.
-fn tokens_of(alloc: Global, text: &[u8], names: &mut Names) -> Result<Tokens, LexFault> {
-    if text.len() > 10000 || names.len() > 100000 {
-        return Err(LexFault::NoMemory);
-    }
-    let tokens = lex(alloc, text, Mode::C, 0, b"a.c", names)?;
+/// The tokens of a short text, as a parser takes them.
+fn stripped_of(alloc: Global, text: &[u8], names: &mut Names) -> Result<Tokens, LexFault> {
+    let tokens = tokens_of(alloc, text, names)?;
     Ok(strip(alloc, &tokens)?)
 }
 
@@ -32,17 +30,17 @@ fn unit_of<'a>(
     alloc: Global,
     tokens: &'a Tokens,
 ) -> Result<Unit<'a>, ParseFault> {
-    if tokens.all().len() > 10000 {
+    if tokens.all().len() > 100000 {
         return Err(ParseFault::NoMemory);
     }
     read_unit(arena, alloc, tokens)
 }
 
 /// What is said of a text.
-fn answer_to(alloc: Global, text: &[u8]) -> Result<Answer, LexFault> {
+pub fn answer_to(alloc: Global, text: &[u8]) -> Result<Answer, LexFault> {
     let arena = Bump::new(alloc);
     let mut names = Names::new(alloc);
-    let tokens = tokens_of(alloc, text, &mut names)?;
+    let tokens = stripped_of(alloc, text, &mut names)?;
     match unit_of(&arena, alloc, &tokens) {
         Ok(_) => Ok(Answer::Read),
         Err(ParseFault::Syntax(place)) => {
@@ -247,7 +245,7 @@ fn what_is(tree: &Tree) -> First {
 fn first_in_last(alloc: Global, text: &[u8]) -> Result<First, LexFault> {
     let arena = Bump::new(alloc);
     let mut names = Names::new(alloc);
-    let tokens = tokens_of(alloc, text, &mut names)?;
+    let tokens = stripped_of(alloc, text, &mut names)?;
     let Ok(unit) = unit_of(&arena, alloc, &tokens) else {
         return Ok(First::Other);
     };

@@ -1,8 +1,11 @@
 //! Trees of expressions, compared with those of the same text with all its parentheses (ISO 9899:1990, 6.3).
 
+use crate::expected::expect;
+use crate::expressions::{Phrase, tree_of};
+use crate::texts::tokens_of;
 use bumpalo::Bump;
-use c_expr::{ExprFault, TypeNames, read_expr};
-use c_lexer::{LexFault, Mode, Tokens, lex};
+use c_expr::TypeNames;
+use c_lexer::{LexFault, Tokens};
 use c_tree::{Arena, Tree};
 use mx_base::Names;
 use std::alloc::Global;
@@ -21,26 +24,29 @@ enum Answer {
     Refused,
 }
 
-/// The tokens of a short text; a long one is too much for these tests.
-fn tokens_of(alloc: Global, text: &[u8], names: &mut Names) -> Result<Tokens, LexFault> {
-    if text.len() > 10000 || names.len() > 100000 {
-        return Err(LexFault::NoMemory);
-    }
-    lex(alloc, text, Mode::C, 0, b"a.c", names)
-}
-
-/// The expression that these tokens are.
-fn tree_of<'a>(
+/// The expression that these tokens are, if they are one.
+fn expression_of<'a>(
     arena: &'a Arena,
     tokens: &'a Tokens,
     types: &mut TypeNames,
-) -> Result<&'a Tree<'a>, ExprFault> {
-    let tokens = tokens.all();
-    if tokens.len() > 10000 {
-        return Err(ExprFault::NoMemory);
+) -> Option<&'a Tree<'a>> {
+    tree_of(arena, Phrase::Expression, tokens, types).ok()
+}
+
+/// How two lists of tokens are read as expressions.
+fn compared(arena: &Arena, tokens: &Tokens, others: &Tokens, types: &mut TypeNames) -> Answer {
+    let tree = expression_of(arena, tokens, types);
+    let other = expression_of(arena, others, types);
+    match (tree, other) {
+        (Some(tree), Some(other)) => {
+            if same_tree(tree, other) {
+                Answer::Same
+            } else {
+                Answer::Other
+            }
+        }
+        _ => Answer::Refused,
     }
-    let mut next = 0;
-    read_expr(arena, tokens, types, &mut next)
 }
 
 /// How two texts are read as expressions.
@@ -52,17 +58,7 @@ fn how_they_are_read(alloc: Global, text: &[u8], other: &[u8]) -> Result<Answer,
     let others = tokens_of(alloc, other, &mut names)?;
     let mut types = TypeNames::new(alloc);
     types.declare(type_name, true)?;
-    let Ok(tree) = tree_of(&arena, &tokens, &mut types) else {
-        return Ok(Answer::Refused);
-    };
-    let Ok(tree_of_other) = tree_of(&arena, &others, &mut types) else {
-        return Ok(Answer::Refused);
-    };
-    Ok(if same_tree(tree, tree_of_other) {
-        Answer::Same
-    } else {
-        Answer::Other
-    })
+    Ok(compared(&arena, &tokens, &others, &mut types))
 }
 
 /// Texts that are read alike, parentheses aside.
@@ -140,7 +136,7 @@ static DIFFERENT: [(&str, &str); 14] = [
 ];
 
 /// Whether the two texts of each row are read so.
-fn compare(
+fn expect_rows(
     rt: &impl Abort,
     alloc: Global,
     rows: &[(&str, &str)],
@@ -148,13 +144,13 @@ fn compare(
 ) -> Result<(), Fail> {
     for (text, other) in rows {
         let seen = how_they_are_read(alloc, text.as_bytes(), other.as_bytes())?;
-        assert_eq!(rt; seen, wanted, "{text}");
+        expect(rt, seen == wanted, text);
     }
     Ok(())
 }
 
 #[test]
 fn operators_bind_as_the_standard_says(rt: HostRuntime) -> Result<(), Fail> {
-    compare(&rt, rt.alloc(), &ALIKE, Answer::Same)?;
-    compare(&rt, rt.alloc(), &DIFFERENT, Answer::Other)
+    expect_rows(&rt, rt.alloc(), &ALIKE, Answer::Same)?;
+    expect_rows(&rt, rt.alloc(), &DIFFERENT, Answer::Other)
 }
