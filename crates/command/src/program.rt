@@ -1,6 +1,6 @@
 //! The whole run.
 
-ghost use Rattle.std.specs.Prelude.{◌≡◌, ◌≢◌, ◌⊎◌, ℕ, List, [], true, false, map, string_bytes};
+ghost use Rattle.std.specs.Prelude.{◌≡◌, ◌≢◌, ◌⊎◌, ℕ, List, [], true, false, ◌+◌, map, take, string_bytes};
 ghost use Rattle.mx_io.specs.Causes.{Rose};
 ghost use Rattle.command.specs.Ran.{Ran, Prints, Misuses, Refuses, Misses, Tells, NoRise, Completes, sink_step};
 ghost use Rattle.command.specs.Reading.{AreFaultlessFrom, UnsoundAt};
@@ -83,7 +83,7 @@ pub fn run<F: Files, O: Sink, E: Sink>(
         (sink_step (O.received out.old) (O.received out.new) (O.faults out.old) (O.faults out.new))
         (sink_step (E.received errs.old) (E.received errs.new) (E.faults errs.old) (E.faults errs.new)) }
     ensures faulty { (texts : List (List ℕ)) (position : ℕ) → is_request_of (map string_bytes words.now) ≡ true →
-        Tells (F.contents files.old) (map string_bytes words.now) texts →
+        Tells (F.contents files.old) (take (position + 1) (map string_bytes words.now)) texts →
         UnsoundAt (F.contents files.old) (map string_bytes words.now) position →
         F.failed files.new ≡ F.failed files.old →
         (result ≡ Status.Refused) ⊎ ((result ≡ Status.WriteFault) ⊎ (result ≡ Status.NoMemory)) }

@@ -32,4 +32,4 @@ returns-clause-complete g c texts request tells sound same no-out no-errs ne =
 
 pub returns-clause-faulty : goal.returns-clause-faulty
 returns-clause-faulty g c texts position request tells unsound same =
-    faulty _ _ _ _ texts _ _ _ request tells same position unsound c.decide_and_write.ensures
+    faulty _ _ _ _ texts _ _ _ position request tells same unsound c.decide_and_write.ensures
