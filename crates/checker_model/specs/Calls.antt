@@ -1,0 +1,67 @@
+-- CALLS (refine and restore): which states a callee begins with, and which the caller has behind the call.
+use Rattle.std.specs.Prelude.{ℕ, List, [], ◌∷◌, Bool, true, false, cond, not, ◌&&◌, Option, None, Some}
+use Rattle.c_objects.specs.Objects.{Selector, Deref, Object, path, address_of, up_to, same_var, is_static_var, are_static, is_static, ends_in_star}
+use Rattle.c_objects.specs.Paths.{rest, has_access, rebase}
+use Rattle.c_typing.specs.Options.{if_there, or_else, ◌>?◌}
+use Rattle.c_typing.specs.Vars.{CVar}
+use Rattle.checker_model.specs.Happenings.{Site}
+
+abbrev pub first_of : {A : Type 0} → List (Option A) → Option A
+first_of [] = None
+first_of (x ∷ xs) = x
+
+abbrev pub behind_first : {A : Type 0} → List A → List A
+behind_first [] = []
+behind_first (x ∷ xs) = xs
+
+-- AT THE ENTRY. The caller's object whose state this one of the callee has: behind a formal that of the actual, and a global
+-- object its own. A formal without an actual has none; actuals behind the last formal stand for nothing.
+abbrev pub passed : ℕ → List CVar → List (Option Object) → Object → Option Object
+passed depth [] actuals c = cond (is_static_var c.base) (Some c) None
+passed depth (x ∷ xs) actuals c = cond (same_var c.base x) (first_of actuals >? λ a. rebase depth c (path x []) a) (passed depth xs (behind_first actuals) c)
+
+-- Index variables of the caller mean nothing in the callee, so all of them have static storage.
+abbrev pub into : ℕ → Site → Object → Option Object
+into depth s c = up_to depth c >? λ o. cond (are_static o.selectors) (passed depth s.formals s.actuals o) None
+
+-- AT THE RETURN. The steps behind a formal by which its actual comes to an object of the caller: `&P` comes to itself by none,
+-- and to what goes on behind `P` by `*` first.
+abbrev pub steps_to : Object → Object → Option (List Selector)
+steps_to a o = rest o (path a.base a.selectors) >? λ r. Some (cond a.address (Deref ∷ r) r)
+
+-- the object of the callee that is, by these steps behind the formal, a path or the address of one
+abbrev pub behind_formal : CVar → Bool → List Selector → Option Object
+behind_formal x false r = Some (path x r)
+behind_formal x true r = cond (has_access r && not (ends_in_star r)) (Some (address_of x r)) None
+
+abbrev pub is_whole : List Selector → Bool
+is_whole [] = true
+is_whole _ = false
+
+-- an actual `&P` is the address of `P` itself
+abbrev pub is_itself : Object → Object → Bool
+is_itself a o = a.address && o.address && if_there (rest o (path a.base a.selectors)) false is_whole
+
+-- the object of the callee through which an actual reaches an object of the caller
+abbrev pub through : CVar → Object → Object → Option Object
+through x a o = cond (is_itself a o) (Some (path x [])) (steps_to a o >? behind_formal x o.address)
+
+abbrev pub if_static : Object → Option Object
+if_static c = cond (are_static c.selectors) (Some c) None
+
+abbrev pub reaching : ℕ → CVar → Object → Object → Option Object
+reaching depth x a o = up_to depth o >? through x a >? up_to depth >? if_static
+
+-- through the first actual that reaches it
+abbrev pub reached : ℕ → List CVar → List (Option Object) → Object → Option Object
+reached depth [] actuals o = None
+reached depth (x ∷ xs) actuals o = or_else (first_of actuals >? λ a. reaching depth x a o) (reached depth xs (behind_first actuals) o)
+
+-- The callee's object whose state this one of the caller has: that through which an actual reaches it, and else, of a global
+-- object, its own. Every other object is saved: it has the state that it had at the call.
+abbrev pub out : ℕ → Site → Object → Option Object
+out depth s o = or_else (reached depth s.formals s.actuals o) (cond (is_static o) (Some o) None)
+
+abbrev pub returned : {State : Type 0} → Option Object → (Object → Option State) → (Object → Option State) → Object → Option State
+returned None callee caller o = caller o
+returned (Some c) callee caller o = callee c
