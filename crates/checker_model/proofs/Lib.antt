@@ -1,2 +1,5 @@
 pub mod Laws
 pub mod Reaching
+pub mod MoveExamples
+pub mod CallExamples
+pub mod ChoiceExamples
