@@ -1,4 +1,4 @@
--- What calls pass and hand back, by computation. The callee has the formals x and y; the caller's variables are those of the examples
+-- What calls pass and hand back, by computation. The callee has the formals x, one without a name, and y; the caller's variables are those of the examples
 -- of objects.
 use Rattle.std.proofs.Common.{◌≡◌, List, [], ◌∷◌, Option, None, Some, refl}
 use Rattle.c_objects.specs.Objects.{Object, Deref, Field, At, AtVar, path, address_of}
@@ -14,7 +14,7 @@ abbrev y : CVar
 y = Param 0 51 21
 
 abbrev call : List (Option Object) → Site
-call actuals = record { formals = x ∷ y ∷ []; actuals = actuals }
+call actuals = record { callee = None; formals = Some x ∷ None ∷ Some y ∷ []; actuals = actuals }
 
 abbrev at_entry : List (Option Object) → Object → Option Object
 at_entry actuals = into 4 (call actuals)
@@ -35,14 +35,14 @@ handed_back = refl
 saved : at_return member (path p (Deref ∷ [])) ≡ None
 saved = refl
 
--- the second formal has no actual, an actual without object passes nothing, and one behind the formals stands for none
+-- the last formal has no actual, an actual without object passes nothing, and one behind the formals stands for none
 no_actual : at_entry member (path y []) ≡ None
 no_actual = refl
 
 no_object : at_entry (None ∷ Some (path p []) ∷ []) (path x []) ≡ None
 no_object = refl
 
-one_too_many : at_return (None ∷ None ∷ Some (path p []) ∷ []) (path p []) ≡ None
+one_too_many : at_return (None ∷ None ∷ None ∷ Some (path p []) ∷ []) (path p []) ≡ None
 one_too_many = refl
 
 -- w(&s): *x is s, and x is &s
@@ -65,9 +65,12 @@ address_of_member = refl
 first : at_return (Some (path p []) ∷ Some (path p []) ∷ []) (path p (Deref ∷ [])) ≡ Some (path x (Deref ∷ []))
 first = refl
 
--- w(g(), p): the second reaches it
-second : at_return (None ∷ Some (path p []) ∷ []) (path p (Deref ∷ [])) ≡ Some (path y (Deref ∷ []))
-second = refl
+-- w(g(), g(), p): the third reaches it; w(g(), p): a formal without a name reaches nothing
+third : at_return (None ∷ None ∷ Some (path p []) ∷ []) (path p (Deref ∷ [])) ≡ Some (path y (Deref ∷ []))
+third = refl
+
+unnamed : at_return (None ∷ Some (path p []) ∷ []) (path p (Deref ∷ [])) ≡ None
+unnamed = refl
 
 -- a global object has its own state, unless an actual reaches it
 global : at_entry [] (path a (At 1 ∷ [])) ≡ Some (path a (At 1 ∷ []))

@@ -16,9 +16,10 @@ behind_first (x ∷ xs) = xs
 
 -- AT THE ENTRY. The caller's object whose state this one of the callee has: behind a formal that of the actual, and a global
 -- object its own. A formal without an actual has none; actuals behind the last formal stand for nothing.
-abbrev pub passed : ℕ → List CVar → List (Option Object) → Object → Option Object
+abbrev pub passed : ℕ → List (Option CVar) → List (Option Object) → Object → Option Object
 passed depth [] actuals c = cond (is_static_var c.base) (Some c) None
-passed depth (x ∷ xs) actuals c = cond (same_var c.base x) (first_of actuals >? λ a. rebase depth c (path x []) a) (passed depth xs (behind_first actuals) c)
+passed depth (None ∷ xs) actuals c = passed depth xs (behind_first actuals) c
+passed depth (Some x ∷ xs) actuals c = cond (same_var c.base x) (first_of actuals >? λ a. rebase depth c (path x []) a) (passed depth xs (behind_first actuals) c)
 
 -- Index variables of the caller mean nothing in the callee, so all of them have static storage.
 abbrev pub into : ℕ → Site → Object → Option Object
@@ -53,9 +54,10 @@ abbrev pub reaching : ℕ → CVar → Object → Object → Option Object
 reaching depth x a o = up_to depth o >? through x a >? up_to depth >? if_static
 
 -- through the first actual that reaches it
-abbrev pub reached : ℕ → List CVar → List (Option Object) → Object → Option Object
+abbrev pub reached : ℕ → List (Option CVar) → List (Option Object) → Object → Option Object
 reached depth [] actuals o = None
-reached depth (x ∷ xs) actuals o = or_else (first_of actuals >? λ a. reaching depth x a o) (reached depth xs (behind_first actuals) o)
+reached depth (None ∷ xs) actuals o = reached depth xs (behind_first actuals) o
+reached depth (Some x ∷ xs) actuals o = or_else (first_of actuals >? λ a. reaching depth x a o) (reached depth xs (behind_first actuals) o)
 
 -- The callee's object whose state this one of the caller has: that through which an actual reaches it, and else, of a global
 -- object, its own. Every other object is saved: it has the state that it had at the call.

@@ -19,7 +19,9 @@ pub record Happening : Type 0 where
   pub tokens : List Token
   pub event : Event
 
--- what a call passes: the formals of the callee, and the object of each actual of the call, if it has one
+-- a call: the function with a body that it calls, what it passes to which formals, as far as these have names, and the object of each
+-- actual, if it has one
 pub record Site : Type 0 where
-  pub formals : List CVar
+  pub callee : Option Function
+  pub formals : List (Option CVar)
   pub actuals : List (Option Object)

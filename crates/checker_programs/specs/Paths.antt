@@ -1,0 +1,16 @@
+-- THE PATHS OF A PROGRAM UNDER A CHECKER: those of the theory, over the steps of its functions' bodies.
+use Rattle.std.specs.Prelude.{ℕ, List}
+use Rattle.c_paths.specs.Bodies.{step_bodies}
+use Rattle.checker_model.specs.Checkers.{model}
+use Rattle.checker_model.specs.Reports.{Checker}
+use Rattle.checker_programs.specs.Roots.{followed_into, IsRootFunction}
+use Rattle.checker_programs.specs.Texts.{Text, definition_of, flow_facts, happening, site}
+use Rattle.path_theory.specs.Marks.{Bodies, under}
+use Rattle.path_theory.specs.Supergraph.{Supergraph}
+
+abbrev pub bodies : (c : Checker) → List Text → Bodies (model c)
+bodies c ts = step_bodies (model c) (flow_facts ts) (definition_of ts) (happening ts) (site c.depth ts)
+
+-- a path goes on in the callee where the call is followed; the end of a root's own frame ends it
+abbrev pub program : (c : Checker) → List Text → Supergraph (model c)
+program c ts = under (model c) (IsRootFunction c.machine ts) (λ f s. followed_into c.machine s) (bodies c ts)

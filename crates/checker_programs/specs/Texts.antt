@@ -1,0 +1,92 @@
+-- A program as a checker is told of it: the trees, the types and the tokens of each unit, in the order of their files.
+use Rattle.std.specs.Prelude.{ℕ, List, [], ◌∷◌, map, find, nat_eq, slice_get, Bool, cond, ◌&&◌, Option, None, Some}
+use Rattle.std.specs.Option.{option_map}
+use Rattle.c_objects.specs.Facts as objects
+use Rattle.c_objects.specs.Objects.{Object}
+use Rattle.c_objects.specs.ObjectOf.{object_of}
+use Rattle.c_paths.specs.Events.{Event}
+use Rattle.c_paths.specs.Facts.{Facts}
+use Rattle.c_paths.specs.Traces.{Definition}
+use Rattle.c_tree.specs.declared.place.Place.{Place}
+use Rattle.c_tree.specs.declared.token.Token.{Token}
+use Rattle.c_tree.specs.Node.{Node, node, Statement, Operation, Block, Call, Nodes, no_more, more}
+use Rattle.c_typing.specs.Definition.{Table}
+use Rattle.c_typing.specs.Functions.{Defined}
+use Rattle.c_typing.specs.Options.{if_there, ◌>?◌}
+use Rattle.checker_model.specs.Happenings.{Function, Happening, Site}
+use Rattle.function_graphs.specs.Closing.{closing_brace}
+use Rattle.function_graphs.specs.Known.{facts_of}
+use Rattle.path_subjects.specs.Subjects.{first_of}
+use Rattle.programs.specs.Calls.{body_called}
+use Rattle.programs.specs.Definitions.{definitions}
+
+pub record Text : Type 0 where
+  pub trees : Nodes
+  pub table : Table
+  pub tokens : List Token
+
+-- the functions that the units define, in source order
+abbrev pub functions_in : List Text → List Defined
+functions_in ts = definitions (map (λ t. t.trees) ts)
+
+abbrev pub table_of : List Text → ℕ → Table
+table_of ts file = if_there (slice_get ts file) [] (λ t. t.table)
+
+abbrev pub tokens_of : List Text → ℕ → List Token
+tokens_of ts file = if_there (slice_get ts file) [] (λ t. t.tokens)
+
+abbrev pub trees_of : List Text → ℕ → Nodes
+trees_of ts file = if_there (slice_get ts file) no_more (λ t. t.trees)
+
+-- what is known of the types and variables in a file
+abbrev pub objects_in : List Text → ℕ → objects.Facts
+objects_in ts file = objects.facts_of (trees_of ts file) (table_of ts file)
+
+-- a function is named by the place of its name
+abbrev pub function_of : Defined → Function
+function_of d = record { place = d.place; name = d.name }
+
+abbrev pub same_place : Place → Place → Bool
+same_place p q = nat_eq p.file q.file && nat_eq p.token q.token
+
+abbrev pub defined_at : List Defined → Place → Option Defined
+defined_at [] p = None
+defined_at (d ∷ ds) p = cond (same_place d.place p) (Some d) (defined_at ds p)
+
+-- its definition; where no function has that place, an empty body, which nobody asks for
+abbrev pub empty : Place → Definition
+empty p = record { place = p; body = node 0 p (Statement (Block no_more)); close = p }
+
+abbrev pub with_close : List Text → Defined → Definition
+with_close ts d = record { place = d.place; body = d.body; close = closing_brace (tokens_of ts d.file) (first_of d.body) }
+
+abbrev pub definition_of : List Text → Function → Definition
+definition_of ts f = if_there (defined_at (functions_in ts) f.place) (empty f.place) (with_close ts)
+
+-- what evaluation asks of its file
+abbrev pub flow_facts : List Text → Function → Facts
+flow_facts ts f = facts_of (table_of ts f.place.file) f.place.file (functions_in ts)
+
+-- an event of the function, with its unit
+abbrev pub happening : List Text → Function → Event → Happening
+happening ts f e = record { facts = objects_in ts f.place.file; tokens = tokens_of ts f.place.file; event = e }
+
+abbrev pub objects_of : objects.Facts → ℕ → Nodes → List (Option Object)
+objects_of u depth no_more = []
+objects_of u depth (more e es) = object_of u depth e ∷ objects_of u depth es
+
+abbrev pub actuals_of : objects.Facts → ℕ → Node → List (Option Object)
+actuals_of u depth (node i p (Operation (Call callee paren arguments))) = objects_of u depth arguments
+actuals_of u depth _ = []
+
+-- the function that a call in this file calls, if it has a body in the program
+abbrev pub callee_of : List Text → ℕ → Node → Option Defined
+callee_of ts file call = body_called (table_of ts file) file (functions_in ts) call >? slice_get (functions_in ts)
+
+-- a call in the function
+abbrev pub site : ℕ → List Text → Function → Node → Site
+site depth ts f call = record {
+  callee = option_map function_of (callee_of ts f.place.file call);
+  formals = if_there (callee_of ts f.place.file call) [] (λ d. d.formals);
+  actuals = actuals_of (objects_in ts f.place.file) depth call;
+}
