@@ -1,7 +1,8 @@
 -- THE RELEVANT OBJECTS of a program's functions: the least sets that have what rules bind, and with an object each from which it takes its
 -- state, or that takes its state from it.
-use Rattle.std.specs.Prelude.{◌≡◌, ℕ, ◌≤◌, ◌<◌, length, List, Contains, Option, Some}
+use Rattle.std.specs.Prelude.{◌≡◌, ℕ, ◌≤◌, ◌<◌, length, List, Option, Some}
 use Rattle.c_objects.specs.Objects.{Object}
+use Rattle.c_paths.specs.Membership.{Among}
 use Rattle.checker_model.specs.Calls.{into, out}
 use Rattle.checker_model.specs.Checkers.{model, source_at}
 use Rattle.checker_model.specs.Choices.{applied, scene}
@@ -17,9 +18,9 @@ use Rattle.path_theory.specs.Relevant.{EventOf, CallOf}
 -- an alternative of a rule binds the object at an event, to one of the checker's variables
 pub record Binds (c : Checker) (f : Function) (h : Happening) (o : Object) : Type 0 where
   pub rule : Rule
-  pub among : Contains c.machine.rules rule
+  pub among : Among rule c.machine.rules
   pub items : List Item
-  pub alternative : Contains rule.alternatives items
+  pub alternative : Among items rule.alternatives
   pub binding : Binding
   pub applies : applied (scene c.machine c.depth h f) h.event rule.dest items ≡ Some binding
   pub variable : ℕ

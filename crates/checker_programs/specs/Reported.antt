@@ -1,6 +1,7 @@
 -- WHAT CHECKERS REPORT of a program: the error transitions that some checker takes on some path from some root, in order and each once.
 use Rattle.std.specs.Prelude.{◌≡◌, List, AllPairs, Contains}
 use Rattle.std.specs.declared.cmp.Ordering.TheVariants.{Less}
+use Rattle.c_paths.specs.Membership.{Among}
 use Rattle.checker_model.specs.Checkers.{model}
 use Rattle.checker_model.specs.Reports.{Checker}
 use Rattle.checker_programs.specs.Paths.{program}
@@ -12,7 +13,7 @@ use Rattle.path_theory.specs.Paths.{Reported}
 -- one of the checkers reports it
 pub record IsReported (cs : List Checker) (ts : List Text) (r : Report) : Type 0 where
   pub checker : Checker
-  pub among : Contains cs checker
+  pub among : Among checker cs
   pub taken : Reported (model checker) (program checker ts) r
 
 -- THE LIST OF REPORTS

@@ -1,0 +1,90 @@
+-- An object that takes a rule while it is unknown is bound by an alternative of that rule.
+use Rattle.std.proofs.Common.{◌≡◌, ◌⊎◌, inl, inr, ℕ, List, [], ◌∷◌, Bool, true, false, Option, None, Some, refl, ◌∙◌, sym, ap, subst, cond, not, ◌&&◌, ◌||◌, nat_eq}
+use Rattle.c_objects.specs.Objects.{Selector, Object, same_var, same_selector}
+use Rattle.c_objects.proofs.Vars.{same_var-true, same_selector-true}
+use Rattle.c_paths.specs.Membership.{Among}
+use Rattle.c_typing.specs.Options.{◌>?◌, if_there, or_else}
+use Rattle.checker_model.specs.Choices.{State, Taken, stop, first_some, same_selectors, same_mark, same_object, applied, target_at, by_alternative, from_global, variable_of, binds, is_asked, object_rule, unknown_rule, scene, taken, chosen, object_behind}
+use Rattle.checker_model.specs.Happenings.{Function, Happening}
+use Rattle.checker_model.specs.Reports.{Checker, Fires, report_of}
+use Rattle.checker_programs.specs.Relevant.{Binds}
+use Rattle.checker_programs.proofs.Short.{given, tested, untested}
+use Rattle.hole_matching.specs.Alternatives.{bound_object}
+use Rattle.hole_matching.specs.Holes.{Setting}
+use Rattle.hole_matching.specs.Matching.{Binding}
+use Rattle.metal_machines.specs.Machine.{Item, Rule}
+use Rattle.path_model.specs.declared.report.Report.{Report}
+use Rattle.c_paths.specs.Events.{Event}
+
+-- the first that gives something is among them
+first-found : {A B : Type 0} (f : A → Option B) (xs : List A) (y : B) → first_some f xs ≡ Some y → (x : A) × Among x xs × (f x ≡ Some y)
+first-found f [] y h = cc
+first-found {A = A} {B = B} f (x ∷ xs) y h = by (first-found f xs y) (f x) refl h
+  where
+    by : (first_some f xs ≡ Some y → (z : A) × Among z xs × (f z ≡ Some y)) → (q : Option B) → f x ≡ q → or_else q (first_some f xs) ≡ Some y → (z : A) × Among z (x ∷ xs) × (f z ≡ Some y)
+    by later None e k = let g = later k in (g.0, inr g.1, g.2)
+    by later (Some q) e k = let same : Some q ≡ Some y = k in (x, inl refl, e ∙ same)
+
+both : (a b : Bool) → (a && b) ≡ true → (a ≡ true) × (b ≡ true)
+both true true h = (refl, refl)
+both true false h = cc
+both false b h = cc
+
+selectors-same : (ss ts : List Selector) → same_selectors ss ts ≡ true → ss ≡ ts
+selectors-same [] [] h = refl
+selectors-same [] (t ∷ ts) h = cc
+selectors-same (s ∷ ss) [] h = cc
+selectors-same (s ∷ ss) (t ∷ ts) h = let b = both (same_selector s t) (same_selectors ss ts) h in let e = same_selector-true s t b.0 in let r = selectors-same ss ts b.1 in cc
+
+marks-same : (a b : Bool) → same_mark a b ≡ true → a ≡ b
+marks-same true true h = refl
+marks-same true false h = cc
+marks-same false true h = cc
+marks-same false false h = refl
+
+pub objects-same : (o q : Object) → same_object o q ≡ true → o ≡ q
+objects-same o q h =
+    let b = both (same_mark o.address q.address && same_var o.base q.base) (same_selectors o.selectors q.selectors) h in
+    let c = both (same_mark o.address q.address) (same_var o.base q.base) b.0 in
+    let address = marks-same o.address q.address c.0 in
+    let base = same_var-true o.base q.base c.1 in
+    let selectors = selectors-same o.selectors q.selectors b.1 in
+    ap (λ z. record { address = z; base = o.base; selectors = o.selectors }) address
+    ∙ ap (λ z. record { address = q.address; base = z; selectors = o.selectors }) base
+    ∙ ap (λ z. record { address = q.address; base = q.base; selectors = z }) selectors
+
+module _ (c : Checker) (f : Function) (h : Happening) (o : Object) where
+  -- a binding that has the object
+  has-object : (v : ℕ) (b : Binding) → binds (scene c.machine c.depth h f) v o b ≡ true → bound_object (scene c.machine c.depth h f) v b ≡ Some o
+  has-object v b e = by (bound_object (scene c.machine c.depth h f) v b) refl e
+    where
+      by : (q : Option Object) → bound_object (scene c.machine c.depth h f) v b ≡ q → if_there q false (same_object o) ≡ true → bound_object (scene c.machine c.depth h f) v b ≡ Some o
+      by None e k = cc
+      by (Some q) e k = e ∙ ap Some (sym (objects-same o q k))
+
+  -- the alternative by which a rule binds it
+  by-items : (r : Rule) (v : ℕ) (t : Taken) → Among r c.machine.rules → by_alternative (scene c.machine c.depth h f) h.event r (binds (scene c.machine c.depth h f) v o) ≡ Some t → Binds c f h o
+  by-items r v t among e =
+      let found = first-found (λ items. applied (scene c.machine c.depth h f) h.event r.dest items >? λ b. cond (binds (scene c.machine c.depth h f) v o b) (Some (record { rule = r; binding = b })) None) r.alternatives t e in
+      let applies = given (applied (scene c.machine c.depth h f) h.event r.dest found.0) (λ b. cond (binds (scene c.machine c.depth h f) v o b) (Some (record { rule = r; binding = b })) None) t found.2 in
+      let bound = tested (binds (scene c.machine c.depth h f) v o applies.0) (Some (record { rule = r; binding = applies.0 })) t applies.2 in
+      record { rule = r; among = among; items = found.0; alternative = found.1; binding = applies.0; applies = applies.1; variable = v; bound = has-object v applies.0 bound.0 }
+
+  pub taken-binds : (k : Bool) (state : ℕ) (t : Taken) → taken c.machine c.depth h f k state o None ≡ Some t → Binds c f h o
+  taken-binds k state t e =
+      let some = untested (nat_eq state stop || not (is_asked h.event k o)) (first_some (object_rule (scene c.machine c.depth h f) h.event state o None) c.machine.rules) t e in
+      let found = first-found (object_rule (scene c.machine c.depth h f) h.event state o None) c.machine.rules t some.1 in
+      let rule : Rule = found.0 in
+      let from = tested (from_global state rule.source) (variable_of (target_at h.event rule.dest) >? λ v. by_alternative (scene c.machine c.depth h f) h.event rule (binds (scene c.machine c.depth h f) v o)) t found.2 in
+      let v = given (variable_of (target_at h.event rule.dest)) (λ v. by_alternative (scene c.machine c.depth h f) h.event rule (binds (scene c.machine c.depth h f) v o)) t from.1 in
+      by-items rule v.0 t found.1 v.2
+
+  pub chosen-binds : (k : Bool) (state : ℕ) (x : State) → chosen c.machine c.depth h f k state o None ≡ Some x → Binds c f h o
+  chosen-binds k state x e = by (taken c.machine c.depth h f k state o None) refl e
+    where
+      by : (q : Option Taken) → taken c.machine c.depth h f k state o None ≡ q → if_there q None (λ t. object_behind (target_at h.event t.rule.dest) None) ≡ Some x → Binds c f h o
+      by None a b = cc
+      by (Some t) a b = taken-binds k state t a
+
+  pub fires-binds : (k : Bool) (state : ℕ) (r : Report) → Fires c h f k state o None r → Binds c f h o
+  fires-binds k state r e = let t = given (taken c.machine c.depth h f k state o None) (report_of c h f (Some o)) r e in taken-binds k state t.0 t.1
