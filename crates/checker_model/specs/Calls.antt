@@ -1,10 +1,11 @@
 -- CALLS (refine and restore): which states a callee begins with, and which the caller has behind the call.
-use Rattle.std.specs.Prelude.{ℕ, List, [], ◌∷◌, Bool, true, false, cond, not, ◌&&◌, Option, None, Some}
-use Rattle.c_objects.specs.Objects.{Selector, Deref, Object, path, address_of, up_to, same_var, is_static_var, are_static, is_static, ends_in_star}
-use Rattle.c_objects.specs.Paths.{rest, has_access, rebase}
-use Rattle.c_typing.specs.Options.{if_there, or_else, ◌>?◌}
+use Rattle.std.specs.Prelude.{ℕ, List, [], ◌∷◌, cond, Option, None, Some}
+use Rattle.c_objects.specs.Objects.{Object, path, up_to, same_var, is_static_var, are_static, is_static}
+use Rattle.c_objects.specs.Paths.{rebase}
+use Rattle.c_typing.specs.Options.{or_else, ◌>?◌}
 use Rattle.c_typing.specs.Vars.{CVar}
 use Rattle.checker_model.specs.Happenings.{Site}
+use Rattle.checker_model.specs.Replaced.{replaced}
 
 abbrev pub first_of : {A : Type 0} → List (Option A) → Option A
 first_of [] = None
@@ -25,33 +26,13 @@ passed depth (Some x ∷ xs) actuals c = cond (same_var c.base x) (first_of actu
 abbrev pub into : ℕ → Site → Object → Option Object
 into depth s c = up_to depth c >? λ o. cond (are_static o.selectors) (passed depth s.formals s.actuals o) None
 
--- AT THE RETURN. The steps behind a formal by which its actual comes to an object of the caller: `&P` comes to itself by none,
--- and to what goes on behind `P` by `*` first.
-abbrev pub steps_to : Object → Object → Option (List Selector)
-steps_to a o = rest o (path a.base a.selectors) >? λ r. Some (cond a.address (Deref ∷ r) r)
-
--- the object of the callee that is, by these steps behind the formal, a path or the address of one
-abbrev pub behind_formal : CVar → Bool → List Selector → Option Object
-behind_formal x false r = Some (path x r)
-behind_formal x true r = cond (has_access r && not (ends_in_star r)) (Some (address_of x r)) None
-
-abbrev pub is_whole : List Selector → Bool
-is_whole [] = true
-is_whole _ = false
-
--- an actual `&P` is the address of `P` itself
-abbrev pub is_itself : Object → Object → Bool
-is_itself a o = a.address && o.address && if_there (rest o (path a.base a.selectors)) false is_whole
-
--- the object of the callee through which an actual reaches an object of the caller
-abbrev pub through : CVar → Object → Object → Option Object
-through x a o = cond (is_itself a o) (Some (path x [])) (steps_to a o >? behind_formal x o.address)
-
+-- AT THE RETURN. The object of the callee through which an actual reaches one of the caller: it becomes that where the actual stands in
+-- the place of the formal. Its index variables all have static storage.
 abbrev pub if_static : Object → Option Object
 if_static c = cond (are_static c.selectors) (Some c) None
 
 abbrev pub reaching : ℕ → CVar → Object → Object → Option Object
-reaching depth x a o = up_to depth o >? through x a >? up_to depth >? if_static
+reaching depth x a o = up_to depth o >? replaced (path x []) a >? up_to depth >? if_static
 
 -- through the first actual that reaches it
 abbrev pub reached : ℕ → List (Option CVar) → List (Option Object) → Object → Option Object

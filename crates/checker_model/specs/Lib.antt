@@ -1,5 +1,6 @@
 pub mod Happenings
 pub mod Moves
+pub mod Replaced
 pub mod Calls
 pub mod Choices
 pub mod Reports

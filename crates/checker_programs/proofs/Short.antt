@@ -3,24 +3,16 @@ use Rattle.std.proofs.Common.{arith, ◌≡◌, ℕ, ◌≤◌, List, [], ◌∷
 use Rattle.c_objects.specs.Facts.{Facts}
 use Rattle.c_objects.specs.Objects.{Selector, Object, path, address_of, up_to, same_var, is_static_var, are_static, is_static, ends_in_star}
 use Rattle.c_objects.specs.Paths.{append, joined, addressed, rest, has_access, rebased_address, rebase}
-use Rattle.c_objects.proofs.Steps.{short-up_to, long-up_to, by-length}
 use Rattle.c_typing.specs.Options.{◌>?◌, if_there, or_else}
 use Rattle.c_typing.specs.Vars.{CVar}
-use Rattle.checker_model.specs.Calls.{first_of, behind_first, passed, into, through, if_static, reaching, reached, out}
+use Rattle.checker_model.specs.Calls.{first_of, behind_first, passed, into, if_static, reaching, reached, out}
 use Rattle.checker_model.specs.Happenings.{Site}
+use Rattle.checker_model.specs.Replaced.{replaced}
+use Rattle.checker_model.proofs.Replacing.{kept}
 use Rattle.checker_model.specs.Moves.{Move, under, indexes, copied, source_of, source}
 
 abbrev IsShort : ℕ → Object → Type 0
 IsShort depth o = length o.selectors ≤ depth
-
--- what comes through a test of length is short, and what stands before it
-pub kept : (depth : ℕ) (q o : Object) → up_to depth q ≡ Some o → (q ≡ o) × IsShort depth o
-kept depth q o h = by-length depth q (λ short. by short (sym (short-up_to depth q short) ∙ h)) (λ long. no (sym (long-up_to depth q long) ∙ h))
-  where
-    by : IsShort depth q → Some q ≡ Some o → (q ≡ o) × IsShort depth o
-    by short e = let same : q ≡ o = cc in (same, subst (IsShort depth) same short)
-    no : None ≡ Some o → (q ≡ o) × IsShort depth o
-    no e = cc
 
 -- what a step after a found thing gives was given by one that was found
 pub given : {A B : Type 0} (x : Option A) (f : A → Option B) (y : B) → (x >? f) ≡ Some y → (a : A) × (x ≡ Some a) × (f a ≡ Some y)
@@ -96,9 +88,9 @@ into-short depth s c q h =
 -- returns
 reaching-short : (depth : ℕ) (x : CVar) (a o c : Object) → reaching depth x a o ≡ Some c → IsShort depth o × IsShort depth c
 reaching-short depth x a o c h =
-    let static = given ((up_to depth o >? through x a) >? up_to depth) if_static c h in
-    let short = given (up_to depth o >? through x a) (up_to depth) static.0 static.1 in
-    let first = given (up_to depth o) (through x a) short.0 short.1 in
+    let static = given ((up_to depth o >? replaced (path x []) a) >? up_to depth) if_static c h in
+    let short = given (up_to depth o >? replaced (path x []) a) (up_to depth) static.0 static.1 in
+    let first = given (up_to depth o) (replaced (path x []) a) short.0 short.1 in
     let here = kept depth o first.0 first.1 in
     let there = kept depth short.0 static.0 short.2 in
     let t = (tested (are_static static.0.selectors) (Some static.0) c static.2).1 in
