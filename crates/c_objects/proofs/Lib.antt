@@ -6,3 +6,4 @@ pub mod Plain
 pub mod StepExamples
 pub mod Steps
 pub mod Vars
+pub mod Replacing

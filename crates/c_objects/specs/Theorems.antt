@@ -1,9 +1,10 @@
 -- The theorems of this crate as statements, which contracts can name.
-use Rattle.std.specs.Prelude.{◌≡◌, ℕ, ◌≤◌, ◌↔◌, List, ◌++◌, Some, true}
+use Rattle.std.specs.Prelude.{◌≡◌, ℕ, ◌≤◌, ◌↔◌, List, ◌++◌, Some, true, false}
 use Rattle.c_objects.specs.Facts.{Facts}
 use Rattle.c_objects.specs.Objects.{Selector, Object, IsObject, path, up_to}
 use Rattle.c_objects.specs.ObjectOf.{object_of}
 use Rattle.c_objects.specs.Paths.{append, rebase, begins_with}
+use Rattle.c_objects.specs.Replaced.{replaced}
 use Rattle.c_tree.specs.Node.{Node}
 use Rattle.c_typing.specs.Options.{◌>?◌}
 use Rattle.c_typing.specs.Vars.{CVar}
@@ -35,3 +36,8 @@ RebaseGivesObjects = (depth : ℕ) (o p a q : Object) → IsObject depth a → r
 
 abbrev pub AppendGivesObjects : Type 0
 AppendGivesObjects = (depth : ℕ) (o q : Object) (r : List Selector) → IsObject depth o → append depth o r ≡ Some q → IsObject depth q
+
+-- The object that is found to become another where an object is put in the place of a path does, and no other does.
+abbrev pub ReplacedObjectsBecomeTheirs : Type 0
+ReplacedObjectsBecomeTheirs = (depth : ℕ) (l a o q : Object) → l.address ≡ false → IsObject depth a → IsObject depth o
+    → (replaced depth l a o ≡ Some q) ↔ (IsObject depth q × (rebase depth q l a ≡ Some o))

@@ -6,5 +6,5 @@ mod theorems;
 
 pub use theorems::{
     append_gives_objects, begins_with_is_rest, depth_cuts_off, rebase_gives_objects,
-    rest_is_rebased, steps_are_joined, trees_have_objects,
+    replaced_objects_become_theirs, rest_is_rebased, steps_are_joined, trees_have_objects,
 };

@@ -8,6 +8,7 @@ ghost use Rattle.c_objects.specs.Theorems.{
   RestIsRebased,
   RebaseGivesObjects,
   AppendGivesObjects,
+  ReplacedObjectsBecomeTheirs,
 };
 
 /// The object of a tree has at most as many steps as the depth, and what it is the address of doesn't end in `*`.
@@ -43,4 +44,9 @@ pub fn rebase_gives_objects()
 /// Steps behind an object give an object at the depth.
 pub fn append_gives_objects()
     ensures { AppendGivesObjects }
+{}
+
+/// The object that becomes another one, where an object is put in the place of a path, is the only one that does.
+pub fn replaced_objects_become_theirs()
+    ensures { ReplacedObjectsBecomeTheirs }
 {}

@@ -1,5 +1,4 @@
 pub mod Laws
-pub mod Replacing
 pub mod Reaching
 pub mod MoveExamples
 pub mod CallExamples

@@ -6,12 +6,12 @@ use Rattle.c_objects.proofs.Steps.{short-up_to}
 use Rattle.c_typing.specs.Options.{◌>?◌}
 use Rattle.c_typing.specs.Vars.{CVar}
 use Rattle.checker_model.specs.Calls.{if_static, reaching}
-use Rattle.checker_model.specs.Replaced.{replaced}
-use Rattle.checker_model.proofs.Replacing.{replaced-becomes, becomes-replaced}
+use Rattle.c_objects.specs.Replaced.{replaced}
+use Rattle.c_objects.proofs.Replacing.{replaced-becomes, becomes-replaced}
 
 module _ (depth : ℕ) (x : CVar) (a o : Object) (io : IsObject depth o) where
-  reaching-is : reaching depth x a o ≡ ((replaced (path x []) a o >? up_to depth) >? if_static)
-  reaching-is = ap (λ q. ((q >? replaced (path x []) a) >? up_to depth) >? if_static) (short-up_to depth o io.short)
+  reaching-is : reaching depth x a o ≡ (replaced depth (path x []) a o >? if_static)
+  reaching-is = ap (λ q. (q >? replaced depth (path x []) a) >? if_static) (short-up_to depth o io.short)
 
   static : (q : Option Object) (c : Object) → (q >? if_static) ≡ Some c → (q ≡ Some c) × (are_static c.selectors ≡ true)
   static None c h = cc
@@ -23,7 +23,7 @@ module _ (depth : ℕ) (x : CVar) (a o : Object) (io : IsObject depth o) where
 
   pub reaches : (c : Object) → IsObject depth a → (reaching depth x a o ≡ Some c) ↔ (IsObject depth c × (are_static c.selectors ≡ true) × (rebase depth c (path x []) a ≡ Some o))
   reaches c ia = (
-    λ h. let s = static (replaced (path x []) a o >? up_to depth) c (sym reaching-is ∙ h) in
+    λ h. let s = static (replaced depth (path x []) a o) c (sym reaching-is ∙ h) in
         let b = replaced-becomes depth x [] a o c ia io s.0 in
         (b.object, s.1, b.same),
     λ b. reaching-is ∙ ap (λ q. q >? if_static) (becomes-replaced depth x [] a o c b.0 b.2) ∙ ap (λ z. cond z (Some c) None) b.1,

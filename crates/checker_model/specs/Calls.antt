@@ -5,7 +5,7 @@ use Rattle.c_objects.specs.Paths.{rebase}
 use Rattle.c_typing.specs.Options.{or_else, ◌>?◌}
 use Rattle.c_typing.specs.Vars.{CVar}
 use Rattle.checker_model.specs.Happenings.{Site}
-use Rattle.checker_model.specs.Replaced.{replaced}
+use Rattle.c_objects.specs.Replaced.{replaced}
 
 abbrev pub first_of : {A : Type 0} → List (Option A) → Option A
 first_of [] = None
@@ -32,7 +32,7 @@ abbrev pub if_static : Object → Option Object
 if_static c = cond (are_static c.selectors) (Some c) None
 
 abbrev pub reaching : ℕ → CVar → Object → Object → Option Object
-reaching depth x a o = up_to depth o >? replaced (path x []) a >? up_to depth >? if_static
+reaching depth x a o = up_to depth o >? replaced depth (path x []) a >? if_static
 
 -- through the first actual that reaches it
 abbrev pub reached : ℕ → List (Option CVar) → List (Option Object) → Object → Option Object

@@ -1,6 +1,5 @@
 pub mod Happenings
 pub mod Moves
-pub mod Replaced
 pub mod Calls
 pub mod Choices
 pub mod Reports

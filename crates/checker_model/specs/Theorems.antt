@@ -1,15 +1,13 @@
 -- The laws of checkers as statements, which contracts can name.
 use Rattle.std.specs.Prelude.{◌≡◌, ◌↔◌, ℕ, ◌≤◌, length, true, false, [], Some}
-use Rattle.c_objects.specs.Objects.{Object, IsObject, path, up_to, are_static}
+use Rattle.c_objects.specs.Objects.{Object, IsObject, path, are_static}
 use Rattle.c_objects.specs.Paths.{rebase}
-use Rattle.c_typing.specs.Options.{◌>?◌}
 use Rattle.c_typing.specs.Vars.{CVar}
 use Rattle.path_theory.specs.FrameEnds.{IgnoresKind, EndsQuietly}
 use Rattle.path_theory.specs.Origins.{IsLocal}
 use Rattle.checker_model.specs.Calls.{reaching}
 use Rattle.checker_model.specs.Checkers.{model, origins}
 use Rattle.checker_model.specs.Choices.{is_exit}
-use Rattle.checker_model.specs.Replaced.{replaced}
 use Rattle.checker_model.specs.Reports.{Checker}
 
 abbrev pub OneObjectAtATime : Type 0
@@ -25,8 +23,3 @@ EndsAreQuiet = (c : Checker) → EndsQuietly (model c) (λ h. is_exit h.event �
 abbrev pub ActualsReachWhatFormalsGive : Type 0
 ActualsReachWhatFormalsGive = (depth : ℕ) (x : CVar) (a o c : Object) → IsObject depth a → IsObject depth o
     → (reaching depth x a o ≡ Some c) ↔ (IsObject depth c × (are_static c.selectors ≡ true) × (rebase depth c (path x []) a ≡ Some o))
-
--- the object that is found to become another does, and no other does
-abbrev pub ReplacedObjectsBecomeTheirs : Type 0
-ReplacedObjectsBecomeTheirs = (depth : ℕ) (l a o q : Object) → l.address ≡ false → IsObject depth a → IsObject depth o
-    → ((replaced l a o >? up_to depth) ≡ Some q) ↔ (IsObject depth q × (rebase depth q l a ≡ Some o))

@@ -5,7 +5,6 @@ ghost use Rattle.checker_model.specs.Theorems.{
   OtherEventsIgnoreFrames,
   EndsAreQuiet,
   ActualsReachWhatFormalsGive,
-  ReplacedObjectsBecomeTheirs,
 };
 
 /// The state of an object behind a move, an entry or a return is that of one object before, or unknown.
@@ -26,9 +25,4 @@ pub fn ends_are_quiet()
 /// The object of the callee through which an actual reaches one of the caller is the one for which that stands at the entry.
 pub fn actuals_reach_what_formals_give()
     ensures { ActualsReachWhatFormalsGive }
-{}
-
-/// The object that becomes another one, where an object is put in the place of a path, is the only one that does.
-pub fn replaced_objects_become_theirs()
-    ensures { ReplacedObjectsBecomeTheirs }
 {}

@@ -1,14 +1,14 @@
 -- What states come from and go to has no more steps than the depth.
 use Rattle.std.proofs.Common.{arith, ◌≡◌, ℕ, ◌≤◌, List, [], ◌∷◌, length, Bool, true, false, Option, None, Some, refl, ◌∙◌, sym, ap, subst, cond, ◌||◌}
 use Rattle.c_objects.specs.Facts.{Facts}
-use Rattle.c_objects.specs.Objects.{Selector, Object, path, address_of, up_to, same_var, is_static_var, are_static, is_static, ends_in_star}
+use Rattle.c_objects.specs.Objects.{Selector, Deref, Object, path, address_of, up_to, same_var, is_static_var, are_static, is_static, ends_in_star}
 use Rattle.c_objects.specs.Paths.{append, joined, addressed, rest, has_access, rebased_address, rebase}
 use Rattle.c_typing.specs.Options.{◌>?◌, if_there, or_else}
 use Rattle.c_typing.specs.Vars.{CVar}
 use Rattle.checker_model.specs.Calls.{first_of, behind_first, passed, into, if_static, reaching, reached, out}
 use Rattle.checker_model.specs.Happenings.{Site}
-use Rattle.checker_model.specs.Replaced.{replaced}
-use Rattle.checker_model.proofs.Replacing.{kept}
+use Rattle.c_objects.specs.Replaced.{pointed, replaced}
+use Rattle.c_objects.proofs.Replacing.{kept}
 use Rattle.checker_model.specs.Moves.{Move, under, indexes, copied, source_of, source}
 
 abbrev IsShort : ℕ → Object → Type 0
@@ -86,16 +86,28 @@ into-short depth s c q h =
     (subst (IsShort depth) (sym k.0) k.1, passed-short depth s.formals s.actuals g.0 q k.1 t)
 
 -- returns
+address-given-short : (depth : ℕ) (l o q : Object) (r : List Selector) → pointed depth l true r ≡ Some q → IsShort depth q
+address-given-short depth l o q [] h = (kept depth l q h).1
+address-given-short depth l o q (s ∷ r) h = let g = given (append depth l (Deref ∷ s ∷ r)) addressed q h in address-short depth g.0 q (append-short depth l g.0 (Deref ∷ s ∷ r) g.1) g.2
+
+replaced-short : (depth : ℕ) (l a o q : Object) → replaced depth l a o ≡ Some q → IsShort depth q
+replaced-short depth l a o q h = by a.address h
+  where
+    pointed-short : (b : Bool) (r : List Selector) → pointed depth l b r ≡ Some q → IsShort depth q
+    pointed-short false r k = append-short depth l q (Deref ∷ r) k
+    pointed-short true r k = address-given-short depth l o q r k
+    by : (b : Bool) → cond b (rest o (path a.base a.selectors) >? pointed depth l o.address) (rebase depth o a l) ≡ Some q → IsShort depth q
+    by false k = rebase-short depth o a l q k
+    by true k = let g = given (rest o (path a.base a.selectors)) (pointed depth l o.address) q k in pointed-short o.address g.0 g.2
+
 reaching-short : (depth : ℕ) (x : CVar) (a o c : Object) → reaching depth x a o ≡ Some c → IsShort depth o × IsShort depth c
 reaching-short depth x a o c h =
-    let static = given ((up_to depth o >? replaced (path x []) a) >? up_to depth) if_static c h in
-    let short = given (up_to depth o >? replaced (path x []) a) (up_to depth) static.0 static.1 in
-    let first = given (up_to depth o) (replaced (path x []) a) short.0 short.1 in
+    let static = given (up_to depth o >? replaced depth (path x []) a) if_static c h in
+    let first = given (up_to depth o) (replaced depth (path x []) a) static.0 static.1 in
     let here = kept depth o first.0 first.1 in
-    let there = kept depth short.0 static.0 short.2 in
     let t = (tested (are_static static.0.selectors) (Some static.0) c static.2).1 in
     let same : static.0 ≡ c = cc in
-    (subst (IsShort depth) (sym here.0) here.1, subst (IsShort depth) same there.1)
+    (subst (IsShort depth) (sym here.0) here.1, subst (IsShort depth) same (replaced-short depth (path x []) a first.0 static.0 first.2))
 
 reached-short : (depth : ℕ) (xs : List (Option CVar)) (actuals : List (Option Object)) (o c : Object) → reached depth xs actuals o ≡ Some c → IsShort depth o × IsShort depth c
 reached-short depth [] actuals o c h = cc

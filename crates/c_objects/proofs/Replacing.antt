@@ -8,7 +8,29 @@ use Rattle.c_objects.proofs.Steps.{short-up_to, long-up_to, by-length}
 use Rattle.c_objects.proofs.Vars.{same_var-true}
 use Rattle.c_typing.specs.Options.{◌>?◌, if_there}
 use Rattle.c_typing.specs.Vars.{CVar}
-use Rattle.checker_model.specs.Replaced.{steps_to, behind_path, is_whole, is_itself, replaced}
+use Rattle.c_objects.specs.Replaced.{pointed, replaced}
+use Rattle.c_objects.proofs.Cuts.{address-cut}
+
+-- THE SAME by the steps to the object, whatever its depth
+-- The steps behind the path by which what is put there comes to an object: `&P` comes to what goes on behind `P` by `*` first.
+abbrev steps_to : Object → Object → Option (List Selector)
+steps_to a o = rest o (path a.base a.selectors) >? λ r. Some (cond a.address (Deref ∷ r) r)
+
+-- the path with these steps behind it, or its address, which is taken of what lies behind `*` or an index
+abbrev behind_path : Object → Bool → List Selector → Option Object
+behind_path l false r = Some (path l.base (l.selectors ++ r))
+behind_path l true r = cond (has_access r && not (ends_in_star (l.selectors ++ r))) (Some (address_of l.base (l.selectors ++ r))) None
+
+abbrev is_whole : List Selector → Bool
+is_whole [] = true
+is_whole _ = false
+
+-- what is put there is the address `&P` and the object too
+abbrev is_itself : Object → Object → Bool
+is_itself a o = a.address && o.address && if_there (rest o (path a.base a.selectors)) false is_whole
+
+abbrev found : Object → Object → Object → Option Object
+found l a o = cond (is_itself a o) (Some (path l.base l.selectors)) (steps_to a o >? behind_path l o.address)
 
 abbrev pub object : Bool → CVar → List Selector → Object
 object b v ss = record { address = b; base = v; selectors = ss }
@@ -121,8 +143,8 @@ module _ (depth : ℕ) (x : CVar) (ls : List Selector) where
   none-found true false = refl
   none-found false oa = refl
 
-  pub replaced-becomes : (a o d : Object) → IsObject depth a → IsObject depth o → (replaced target a o >? up_to depth) ≡ Some d → Becomes a o d
-  replaced-becomes a o d ia io h = by (rest o (path a.base a.selectors)) refl h
+  found-gives : (a o d : Object) → IsObject depth a → IsObject depth o → (found target a o >? up_to depth) ≡ Some d → Becomes a o d
+  found-gives a o d ia io h = by (rest o (path a.base a.selectors)) refl h
     where
       none≢some : None ≡ Some d → ⊥
       none≢some q = cc
@@ -154,51 +176,85 @@ module _ (depth : ℕ) (x : CVar) (ls : List Selector) where
   no-more true o h = cc
   no-more false o h = cc
 
-  replaced-behind : (aa oa : Bool) (v : CVar) (ps r : List Selector) → replaced target (object aa v ps) (object oa v (ps ++ r)) ≡ found_by aa oa (Some r)
-  replaced-behind aa oa v ps r = ap (found_by aa oa) (rest-itself v ps r oa)
+  found-behind : (aa oa : Bool) (v : CVar) (ps r : List Selector) → found target (object aa v ps) (object oa v (ps ++ r)) ≡ found_by aa oa (Some r)
+  found-behind aa oa v ps r = ap (found_by aa oa) (rest-itself v ps r oa)
 
   address-found : (r : List Selector) → has_access r ≡ true → ends_in_star (ls ++ r) ≡ false → behind_path target true r ≡ Some (address_of x (ls ++ r))
   address-found r h e = ap (λ b. cond (b && not (ends_in_star (ls ++ r))) (Some (address_of x (ls ++ r))) None) h ∙ ap (λ b. cond (not b) (Some (address_of x (ls ++ r))) None) e
 
-  finish : (a q o c : Object) → q ≡ o → IsObject depth c → replaced target a q ≡ Some c → (replaced target a o >? up_to depth) ≡ Some c
-  finish a q o c same ic t = ap (λ z. z >? up_to depth) (ap (replaced target a) (sym same) ∙ t) ∙ short-up_to depth c ic.short
+  finish : (a q o c : Object) → q ≡ o → IsObject depth c → found target a q ≡ Some c → (found target a o >? up_to depth) ≡ Some c
+  finish a q o c same ic t = ap (λ z. z >? up_to depth) (ap (found target a) (sym same) ∙ t) ∙ short-up_to depth c ic.short
 
   back : (aa b : Bool) (v : CVar) (ps r : List Selector) (o : Object) → IsObject depth (object b x (ls ++ r)) → becomes b r (object aa v ps) ≡ Some o
-      → (replaced target (object aa v ps) o >? up_to depth) ≡ Some (object b x (ls ++ r))
-  back false false v ps r o ic h = finish (object false v ps) (path v (ps ++ r)) o (object false x (ls ++ r)) (kept depth (path v (ps ++ r)) o h).0 ic (replaced-behind false false v ps r)
+      → (found target (object aa v ps) o >? up_to depth) ≡ Some (object b x (ls ++ r))
+  back false false v ps r o ic h = finish (object false v ps) (path v (ps ++ r)) o (object false x (ls ++ r)) (kept depth (path v (ps ++ r)) o h).0 ic (found-behind false false v ps r)
   back true false v ps [] o ic h =
       finish (object true v ps) (object true v (ps ++ [])) o (object false x (ls ++ [])) (ap (object true v) (append-nil ps) ∙ (kept depth (object true v ps) o h).0) ic
-      (replaced-behind true true v ps [] ∙ ap (λ l. Some (object false x l)) (sym (append-nil ls)))
-  back true false v ps (Deref ∷ r) o ic h = finish (object true v ps) (path v (ps ++ r)) o (object false x (ls ++ Deref ∷ r)) (kept depth (path v (ps ++ r)) o h).0 ic (replaced-behind true false v ps r)
+      (found-behind true true v ps [] ∙ ap (λ l. Some (object false x l)) (sym (append-nil ls)))
+  back true false v ps (Deref ∷ r) o ic h = finish (object true v ps) (path v (ps ++ r)) o (object false x (ls ++ Deref ∷ r)) (kept depth (path v (ps ++ r)) o h).0 ic (found-behind true false v ps r)
   back true false v ps (Field f ∷ r) o ic h = cc
   back true false v ps (At n ∷ r) o ic h = cc
   back true false v ps (AtVar i ∷ r) o ic h = cc
   back false true v ps r o ic h =
       let f = if-access (has_access r) (append depth (object false v ps) r >? addressed) o h in
-      finish (object false v ps) (address_of v (ps ++ r)) o (object true x (ls ++ r)) (address-some v (ps ++ r) o f.1) ic (replaced-behind false true v ps r ∙ address-found r f.0 (ic.plain refl))
+      finish (object false v ps) (address_of v (ps ++ r)) o (object true x (ls ++ r)) (address-some v (ps ++ r) o f.1) ic (found-behind false true v ps r ∙ address-found r f.0 (ic.plain refl))
   back true true v ps [] o ic h = cc
   back true true v ps (Deref ∷ []) o ic h = let e = ic.plain refl in let s = star-last ls in cc
   back true true v ps (Deref ∷ s ∷ r) o ic h =
       finish (object true v ps) (address_of v (ps ++ s ∷ r)) o (object true x (ls ++ Deref ∷ s ∷ r)) (address-some v (ps ++ s ∷ r) o h) ic
-      (replaced-behind true true v ps (s ∷ r) ∙ address-found (Deref ∷ s ∷ r) refl (ic.plain refl))
+      (found-behind true true v ps (s ∷ r) ∙ address-found (Deref ∷ s ∷ r) refl (ic.plain refl))
   back true true v ps (Field f ∷ r) o ic h = absurd (no-more (has_access r) o h)
   back true true v ps (At n ∷ r) o ic h = cc
   back true true v ps (AtVar i ∷ r) o ic h = cc
 
-  pub becomes-replaced : (a o c : Object) → IsObject depth c → rebase depth c target a ≡ Some o → (replaced target a o >? up_to depth) ≡ Some c
-  becomes-replaced a o c ic same = by (rest c target) refl same
+  gives-found : (a o c : Object) → IsObject depth c → rebase depth c target a ≡ Some o → (found target a o >? up_to depth) ≡ Some c
+  gives-found a o c ic same = by (rest c target) refl same
     where
-      by : (k : Option (List Selector)) → rest c target ≡ k → (k >? λ r. cond c.address (rebased_address depth a r) (append depth a r)) ≡ Some o → (replaced target a o >? up_to depth) ≡ Some c
+      by : (k : Option (List Selector)) → rest c target ≡ k → (k >? λ r. cond c.address (rebased_address depth a r) (append depth a r)) ≡ Some o → (found target a o >? up_to depth) ≡ Some c
       by None e k = cc
       by (Some r) e k =
           let whole = rest-is c x ls r e in
           back a.address c.address a.base a.selectors r o (subst (IsObject depth) whole ic) k ∙ ap Some (sym whole)
 
+  -- what is addressed and short is short and addressed
+  addressed-short : (ss : List Selector) → (up_to depth (path x ss) >? addressed) ≡ (cond (not (ends_in_star ss)) (Some (address_of x ss)) None >? up_to depth)
+  addressed-short ss = address-cut depth (Some (path x ss)) ∙ ap (λ q. q >? up_to depth) (by (ends_in_star ss))
+    where
+      by : (b : Bool) → cond (false || b) None (Some (address_of x ss)) ≡ cond (not b) (Some (address_of x ss)) None
+      by true = refl
+      by false = refl
+
+  abbrev replaced-by : Bool → Bool → Object → Option (List Selector) → Option Object
+  replaced-by aa oa l k = cond aa (k >? pointed depth l oa) (k >? λ r. cond oa (rebased_address depth l r) (append depth l r))
+
+  replaced-found : (aa oa : Bool) (k : Option (List Selector)) → replaced-by aa oa target k ≡ (found_by aa oa k >? up_to depth)
+  replaced-found false oa None = refl
+  replaced-found true true None = refl
+  replaced-found true false None = refl
+  replaced-found false false (Some r) = refl
+  replaced-found false true (Some r) = by (has_access r)
+    where
+      by : (b : Bool) → cond b (up_to depth (path x (ls ++ r)) >? addressed) None ≡ (cond (b && not (ends_in_star (ls ++ r))) (Some (address_of x (ls ++ r))) None >? up_to depth)
+      by true = addressed-short (ls ++ r)
+      by false = refl
+  replaced-found true false (Some r) = refl
+  replaced-found true true (Some []) = refl
+  replaced-found true true (Some (s ∷ r)) = addressed-short (ls ++ Deref ∷ s ∷ r)
+
+  replaced-is : (a o : Object) → replaced depth target a o ≡ (found target a o >? up_to depth)
+  replaced-is a o = replaced-found a.address o.address (rest o (path a.base a.selectors))
+
+  pub replaced-becomes : (a o d : Object) → IsObject depth a → IsObject depth o → replaced depth target a o ≡ Some d → Becomes a o d
+  replaced-becomes a o d ia io h = found-gives a o d ia io (sym (replaced-is a o) ∙ h)
+
+  pub becomes-replaced : (a o c : Object) → IsObject depth c → rebase depth c target a ≡ Some o → replaced depth target a o ≡ Some c
+  becomes-replaced a o c ic same = replaced-is a o ∙ gives-found a o c ic same
+
 pub replaces : (depth : ℕ) (l a o q : Object) → l.address ≡ false → IsObject depth a → IsObject depth o
-    → ((replaced l a o >? up_to depth) ≡ Some q) ↔ (IsObject depth q × (rebase depth q l a ≡ Some o))
+    → (replaced depth l a o ≡ Some q) ↔ (IsObject depth q × (rebase depth q l a ≡ Some o))
 replaces depth l a o q n ia io =
     let is : l ≡ path l.base l.selectors = ap (λ b. object b l.base l.selectors) n in
     (
-      λ h. let b = replaced-becomes depth l.base l.selectors a o q ia io h in (b.object, b.same),
-      λ b. becomes-replaced depth l.base l.selectors a o q b.0 b.1,
+      λ h. let b = replaced-becomes depth l.base l.selectors a o q ia io (sym (ap (λ z. replaced depth z a o) is) ∙ h) in (b.object, ap (λ z. rebase depth q z a) is ∙ b.same),
+      λ b. ap (λ z. replaced depth z a o) is ∙ becomes-replaced depth l.base l.selectors a o q b.0 (sym (ap (λ z. rebase depth q z a) is) ∙ b.1),
     )
