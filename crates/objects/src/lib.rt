@@ -12,7 +12,8 @@ mod trees;
 mod variables;
 
 pub use object::{Object, copy, is_static, mentions, variable};
-pub use paths::{append, begins_with, rebase};
+pub use paths::{append, begins_with, rebase, replaced, rest};
 pub use selector::Selector;
+pub use steps::{are_static, has_access, is_indexed_by};
 pub use text::write_text;
 pub use trees::object_of;

@@ -4,12 +4,14 @@ ghost use Rattle.std.specs.Prelude.{◌≡◌, ◌++◌, ◌≤◌, Option, Some
 ghost use Rattle.std.specs.Option.{option_map};
 ghost use Rattle.c_objects.specs.Objects.{path, up_to};
 ghost use Rattle.c_objects.specs.Paths.{append, addressed, rest, rebase, begins_with};
+ghost use Rattle.c_objects.specs.Replaced.{pointed, replaced};
 ghost use Rattle.objects.specs.Selectors.{selectors_of};
 
 use crate::object::{Object, copy};
 use crate::selector::Selector;
 use crate::steps::{behind, ends_in_star, has_access, joined};
 use crate::variables::same_var;
+use c_objects::steps_are_joined;
 
 // The path of an object with these steps behind it, if it has at most so many.
 fn onward(object: &Object, steps: &[Selector], depth: u8) -> Option<Object>
@@ -69,8 +71,8 @@ pub(crate) fn addressed(object: &Object) -> Option<Object>
     })
 }
 
-// The steps by which an object, or what it is the address of, goes on behind a path.
-fn rest<'a>(object: &'a Object, path: &Object) -> Option<&'a [Selector]>
+/// The steps by which an object, or what it is the address of, goes on behind a path. The mark of the path doesn't matter.
+pub fn rest<'a>(object: &'a Object, path: &Object) -> Option<&'a [Selector]>
     ensures { option_map (λ steps. selectors_of steps.now) result ≡ rest object.now path.now }
 {
     if same_var(path.base, object.base) {
@@ -106,4 +108,31 @@ pub fn rebase(object: &Object, from: &Object, to: &Object, depth: u8) -> Option<
         Some(moved) => addressed(&moved),
         None => None,
     }
+}
+
+// What comes to a path, behind `*`, and these steps, or to the address of that.
+fn pointed(path: &Object, address: bool, steps: &[Selector], depth: u8) -> Option<Object>
+    requires { depth ≤ 8 }
+    ensures { result ≡ pointed depth path.now address (selectors_of steps.now) }
+{
+    if address && steps.is_empty() {
+        return up_to(path, depth);
+    }
+    steps_are_joined();
+    let target = append(path, &[Selector::Deref], depth)?;
+    let object = append(&target, steps, depth)?;
+    if address { addressed(&object) } else { Some(object) }
+}
+
+/// The object that becomes this one where an object is put in the place of a path, which is the way back from `rebase`. Where a path was
+/// put there, it is this one with the path in its place; where the address of `P` was, what stands behind `P` stood behind `*`.
+pub fn replaced(object: &Object, from: &Object, to: &Object, depth: u8) -> Option<Object>
+    requires { depth ≤ 8 }
+    ensures { result ≡ replaced depth from.now to.now object.now }
+{
+    if !to.address {
+        return rebase(object, to, from, depth);
+    }
+    let steps = rest(object, to)?;
+    pointed(from, object.address, steps, depth)
 }

@@ -24,7 +24,7 @@ pub(crate) fn ends_in_star(steps: &[Selector]) -> bool
 }
 
 /// Whether one of the steps is `*` or an index.
-pub(crate) fn has_access(steps: &[Selector]) -> bool
+pub fn has_access(steps: &[Selector]) -> bool
     ensures { result ≡ has_access (selectors_of steps.now) }
 {
     match steps {
@@ -35,7 +35,7 @@ pub(crate) fn has_access(steps: &[Selector]) -> bool
 }
 
 /// Whether all index variables have static storage.
-pub(crate) fn are_static(steps: &[Selector]) -> bool
+pub fn are_static(steps: &[Selector]) -> bool
     ensures { result ≡ are_static (selectors_of steps.now) }
 {
     match steps {
@@ -46,7 +46,7 @@ pub(crate) fn are_static(steps: &[Selector]) -> bool
 }
 
 /// Whether this variable is an index.
-pub(crate) fn is_indexed_by(steps: &[Selector], v: Var) -> bool
+pub fn is_indexed_by(steps: &[Selector], v: Var) -> bool
     ensures { result ≡ is_indexed_by (selectors_of steps.now) (cvar_of v) }
 {
     match steps {
