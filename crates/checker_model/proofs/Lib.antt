@@ -1,4 +1,5 @@
 pub mod Laws
+pub mod Short
 pub mod Reaching
 pub mod MoveExamples
 pub mod CallExamples

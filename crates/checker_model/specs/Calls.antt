@@ -1,11 +1,23 @@
 -- CALLS (refine and restore): which states a callee begins with, and which the caller has behind the call.
 use Rattle.std.specs.Prelude.{ℕ, List, [], ◌∷◌, cond, Option, None, Some}
+use Rattle.c_objects.specs.Facts.{Facts}
+use Rattle.c_objects.specs.ObjectOf.{object_of}
 use Rattle.c_objects.specs.Objects.{Object, path, up_to, same_var, is_static_var, are_static, is_static}
 use Rattle.c_objects.specs.Paths.{rebase}
+use Rattle.c_tree.specs.Node.{Node, node, Operation, Call, Nodes, no_more, more}
 use Rattle.c_typing.specs.Options.{or_else, ◌>?◌}
 use Rattle.c_typing.specs.Vars.{CVar}
 use Rattle.checker_model.specs.Happenings.{Site}
 use Rattle.c_objects.specs.Replaced.{replaced}
+
+-- the objects of trees, and of the actuals of a call
+abbrev pub objects_of : Facts → ℕ → Nodes → List (Option Object)
+objects_of u depth no_more = []
+objects_of u depth (more e es) = object_of u depth e ∷ objects_of u depth es
+
+abbrev pub actuals_of : Facts → ℕ → Node → List (Option Object)
+actuals_of u depth (node i p (Operation (Call callee paren arguments))) = objects_of u depth arguments
+actuals_of u depth _ = []
 
 abbrev pub first_of : {A : Type 0} → List (Option A) → Option A
 first_of [] = None

@@ -7,8 +7,9 @@ use Rattle.c_objects.specs.Paths.{rest, has_access, rebase}
 use Rattle.c_paths.specs.Events.{Variable, Event, Evaluated, Declared, Branched, Exited}
 use Rattle.c_tree.specs.declared.operator.AssignOp.{AssignOp}
 use Rattle.c_tree.specs.declared.operator.AssignOp.TheVariants as assign
+use Rattle.c_tree.specs.declared.operator.UnaryOp.{UnaryOp}
 use Rattle.c_tree.specs.declared.operator.UnaryOp.TheVariants as unary
-use Rattle.c_tree.specs.Node.{Node, node, Shape, Operation, Initializer, Unary, Assign, Init}
+use Rattle.c_tree.specs.Node.{Node, node, Operation, Initializer, Unary, Assign, Init}
 use Rattle.c_typing.specs.Options.{if_there, ◌>?◌}
 use Rattle.c_typing.specs.Vars.{CVar, Local}
 use Rattle.hole_matching.specs.Subjects.{is_braced}
@@ -32,21 +33,26 @@ assigned u depth op left right = moving (object_of u depth left) None
 abbrev pub initialized : Facts → ℕ → Node → Node → Option Move
 initialized u depth name initial = moving (object_of u depth name) (cond (is_braced initial) None (object_of u depth initial))
 
-abbrev pub shape_move : Facts → ℕ → Shape → Option Move
-shape_move u depth (Operation (Assign op left right)) = assigned u depth op left right
-shape_move u depth (Operation (Unary unary.PostInc operand)) = moving (object_of u depth operand) None
-shape_move u depth (Operation (Unary unary.PostDec operand)) = moving (object_of u depth operand) None
-shape_move u depth (Operation (Unary unary.PreInc operand)) = moving (object_of u depth operand) None
-shape_move u depth (Operation (Unary unary.PreDec operand)) = moving (object_of u depth operand) None
-shape_move u depth (Initializer (Init name declarator initial)) = initialized u depth name initial
-shape_move u depth _ = None
+-- `++` and `--` write over their operand, and no other operator of one does (6.3.2.4, 6.3.3.1)
+abbrev pub stepped : Facts → ℕ → UnaryOp → Node → Option Move
+stepped u depth unary.PostInc operand = moving (object_of u depth operand) None
+stepped u depth unary.PostDec operand = moving (object_of u depth operand) None
+stepped u depth unary.PreInc operand = moving (object_of u depth operand) None
+stepped u depth unary.PreDec operand = moving (object_of u depth operand) None
+stepped u depth op operand = None
+
+abbrev pub tree_move : Facts → ℕ → Node → Option Move
+tree_move u depth (node i p (Operation (Assign op left right))) = assigned u depth op left right
+tree_move u depth (node i p (Operation (Unary op operand))) = stepped u depth op operand
+tree_move u depth (node i p (Initializer (Init name declarator initial))) = initialized u depth name initial
+tree_move u depth e = None
 
 abbrev pub local_of : Variable → CVar
 local_of x = Local x.place.file x.place.token x.name
 
 -- WHAT AN EVENT MOVES. A declaration writes over its variable; a condition and an exit move nothing.
 abbrev pub move_of : Facts → ℕ → Event → Option Move
-move_of u depth (Evaluated (Tree (node i p s))) = shape_move u depth s
+move_of u depth (Evaluated (Tree e)) = tree_move u depth e
 move_of u depth (Evaluated (DerefOf x)) = None
 move_of u depth (Declared x) = moving (Some (path (local_of x) [])) None
 move_of u depth (Branched n truth) = None

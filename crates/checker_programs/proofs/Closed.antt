@@ -14,7 +14,7 @@ use Rattle.checker_programs.specs.Paths.{program}
 use Rattle.checker_programs.specs.Relevant.{Binds, Relevant, Bound, Taken, Given, PassedBy, PassedOn, HandedBy, HandedBack}
 use Rattle.checker_programs.specs.Texts.{Text}
 use Rattle.checker_programs.proofs.Bound.{chosen-binds, fires-binds}
-use Rattle.checker_programs.proofs.Short.{given, append-short, source-short, into-short, out-short}
+use Rattle.checker_model.proofs.Short.{given, append-short, source-short, into-short, out-short}
 use Rattle.hole_matching.specs.Alternatives.{bound_object, object_taken}
 use Rattle.hole_matching.specs.Holes.{Setting}
 use Rattle.hole_matching.specs.Matching as matching

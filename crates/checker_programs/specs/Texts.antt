@@ -2,17 +2,16 @@
 use Rattle.std.specs.Prelude.{ℕ, List, [], ◌∷◌, map, find, nat_eq, slice_get, Bool, cond, ◌&&◌, Option, None, Some}
 use Rattle.std.specs.Option.{option_map}
 use Rattle.c_objects.specs.Facts as objects
-use Rattle.c_objects.specs.Objects.{Object}
-use Rattle.c_objects.specs.ObjectOf.{object_of}
 use Rattle.c_paths.specs.Events.{Event}
 use Rattle.c_paths.specs.Facts.{Facts}
 use Rattle.c_paths.specs.Traces.{Definition}
 use Rattle.c_tree.specs.declared.place.Place.{Place}
 use Rattle.c_tree.specs.declared.token.Token.{Token}
-use Rattle.c_tree.specs.Node.{Node, node, Statement, Operation, Block, Call, Nodes, no_more, more}
+use Rattle.c_tree.specs.Node.{Node, node, Statement, Block, Nodes, no_more}
 use Rattle.c_typing.specs.Definition.{Table}
 use Rattle.c_typing.specs.Functions.{Defined}
 use Rattle.c_typing.specs.Options.{if_there, ◌>?◌}
+use Rattle.checker_model.specs.Calls.{actuals_of}
 use Rattle.checker_model.specs.Happenings.{Function, Happening, Site}
 use Rattle.function_graphs.specs.Closing.{closing_brace}
 use Rattle.function_graphs.specs.Known.{facts_of}
@@ -70,14 +69,6 @@ flow_facts ts f = facts_of (table_of ts f.place.file) f.place.file (functions_in
 -- an event of the function, with its unit
 abbrev pub happening : List Text → Function → Event → Happening
 happening ts f e = record { facts = objects_in ts f.place.file; tokens = tokens_of ts f.place.file; event = e }
-
-abbrev pub objects_of : objects.Facts → ℕ → Nodes → List (Option Object)
-objects_of u depth no_more = []
-objects_of u depth (more e es) = object_of u depth e ∷ objects_of u depth es
-
-abbrev pub actuals_of : objects.Facts → ℕ → Node → List (Option Object)
-actuals_of u depth (node i p (Operation (Call callee paren arguments))) = objects_of u depth arguments
-actuals_of u depth _ = []
 
 -- the function that a call in this file calls, if it has a body in the program
 abbrev pub callee_of : List Text → ℕ → Node → Option Defined

@@ -121,7 +121,11 @@ fn pointed(path: &Object, address: bool, steps: &[Selector], depth: u8) -> Optio
     steps_are_joined();
     let target = append(path, &[Selector::Deref], depth)?;
     let object = append(&target, steps, depth)?;
-    if address { addressed(&object) } else { Some(object) }
+    if address {
+        addressed(&object)
+    } else {
+        Some(object)
+    }
 }
 
 /// The object that becomes this one where an object is put in the place of a path, which is the way back from `rebase`. Where a path was

@@ -7,14 +7,14 @@ ghost use Rattle.c_unit.specs.Vars.{cvar_of};
 use c_unit::Var;
 
 /// Whether two variables are one.
-pub(crate) fn same_var(a: Var, b: Var) -> bool
+pub fn same_var(a: Var, b: Var) -> bool
     ensures { result ≡ same_var (cvar_of a) (cvar_of b) }
 {
     a == b
 }
 
 /// Whether a variable has static storage (ISO 9899:1990, 6.1.2.4).
-pub(crate) fn is_static_var(v: Var) -> bool
+pub fn is_static_var(v: Var) -> bool
     ensures { result ≡ is_static_var (cvar_of v) }
 {
     match v {

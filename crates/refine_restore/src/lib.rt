@@ -1,0 +1,10 @@
+//! Refine and restore: which states a callee begins with, and which its caller has behind the call, one object at a time.
+#![tactic(auto)]
+
+mod entries;
+mod returns;
+mod site;
+
+pub use entries::into_callee;
+pub use returns::{is_saved, out_of_callee};
+pub use site::Site;

@@ -1,0 +1,9 @@
+//! Kills and synonyms: which states an assignment takes away, and which it hands on, one object at a time.
+#![tactic(auto)]
+
+mod moves;
+mod sources;
+mod targets;
+
+pub use sources::source_before;
+pub use targets::targets_after;
