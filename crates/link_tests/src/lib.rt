@@ -1,0 +1,5 @@
+//! Tests of linking: which files make a program, and which body is one too many.
+#![tactic(auto)]
+
+#[cfg(test)]
+mod links;
