@@ -21,6 +21,7 @@ pub struct Site<'s, 'a> {
 }
 
 /// The actuals of a call.
+#[tactic(auto, using(c_tree::proofs::Rows::nodes_out))]
 pub(crate) fn actuals<'a>(call: &Tree<'a>) -> &'a [Tree<'a>]
     ensures { (u : Facts) (depth : ℕ) → objects_of u depth (nodes_in result.now) ≡ actuals_of u depth (node_of call.now) }
 {

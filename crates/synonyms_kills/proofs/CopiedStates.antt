@@ -168,7 +168,7 @@ module _ (depth : ℕ) (m : Move) (o : Object) (is : IsMove depth m) (io : IsObj
 
       distinct : (b : Bool) (c : Option Object) → stays m o ≡ b → copy_of depth m o ≡ c → AreDistinct (cond b (o ∷ []) [] ++ option_to_list c)
       distinct true None s e = (λ h. h, tt)
-      distinct true (Some p) s e = ((λ h. by h), (λ h. h), tt)
+      distinct true (Some p) s e = ((λ h. by h), ((λ h. h), tt))
         where
           by : (o ≡ p) ⊎ ⊥ → ⊥
           by (inl h) = apart p s (copy-is p e) h

@@ -27,7 +27,7 @@ pub(crate) struct Move {
 
 // To an object that is a path; nothing moves where there is none, or the address of one.
 fn moving(to: Option<Object>, from: Option<Object>) -> Option<Move>
-    ensures { option_map move_in result ≡ moving to.entry from.entry }
+    ensures { option_map move_in result ≡ moving to from }
 {
     let to = to?;
     if to.is_address() {

@@ -28,7 +28,7 @@ fn stays(change: &Move, object: &Object) -> bool
 
 // An object to which a state is copied, unless an index of it changes.
 fn if_copied(change: &Move, target: Object) -> Option<Object>
-    ensures { result ≡ if_copied (move_in change.now) target.entry }
+    ensures { result ≡ if_copied (move_in change.now) target }
 {
     match under(&change.to, &target) {
         Some(steps) => {
