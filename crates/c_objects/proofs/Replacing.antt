@@ -63,6 +63,7 @@ kept depth q o h = by-length depth q (λ short. by short (sym (short-up_to depth
   where
     by : length q.selectors ≤ depth → Some q ≡ Some o → (q ≡ o) × (length o.selectors ≤ depth)
     by short e = let same : q ≡ o = cc in (same, subst (λ z. length z.selectors ≤ depth) same short)
+
     no : None ≡ Some o → (q ≡ o) × (length o.selectors ≤ depth)
     no e = cc
 
@@ -148,11 +149,14 @@ module _ (depth : ℕ) (x : CVar) (ls : List Selector) where
     where
       none≢some : None ≡ Some d → ⊥
       none≢some q = cc
+
       moved : (r : List Selector) (c : Object) → o ≡ object o.address a.base (a.selectors ++ r) → found_by a.address o.address (Some r) ≡ Some c → up_to depth c ≡ Some d → Becomes a o d
       moved r c same f k = subst (λ q. Becomes a q d) (sym same) (found-becomes a.address o.address a.base a.selectors r c d ia (subst (IsObject depth) same io) f k)
+
       some : (r : List Selector) (q : Option Object) → o ≡ object o.address a.base (a.selectors ++ r) → found_by a.address o.address (Some r) ≡ q → (q >? up_to depth) ≡ Some d → Becomes a o d
       some r None same f k = absurd (none≢some k)
       some r (Some c) same f k = moved r c same f k
+
       by : (k : Option (List Selector)) → rest o (path a.base a.selectors) ≡ k → ((found_by a.address o.address (rest o (path a.base a.selectors))) >? up_to depth) ≡ Some d → Becomes a o d
       by None e k = absurd (none≢some (sym (ap (λ q. q >? up_to depth) (ap (found_by a.address o.address) e ∙ none-found a.address o.address)) ∙ k))
       by (Some r) e k = some r (found_by a.address o.address (Some r)) (rest-is o a.base a.selectors r e) refl (sym (ap (λ q. (found_by a.address o.address q) >? up_to depth) e) ∙ k)
@@ -165,6 +169,7 @@ module _ (depth : ℕ) (x : CVar) (ls : List Selector) where
       by : (b : Bool) → cond (false || b) None (Some (address_of v ss)) ≡ Some o → address_of v ss ≡ o
       by true e = cc
       by false e = cc
+
       no : None ≡ Some o → address_of v ss ≡ o
       no e = cc
 
@@ -253,8 +258,7 @@ module _ (depth : ℕ) (x : CVar) (ls : List Selector) where
 pub replaces : (depth : ℕ) (l a o q : Object) → l.address ≡ false → IsObject depth a → IsObject depth o
     → (replaced depth l a o ≡ Some q) ↔ (IsObject depth q × (rebase depth q l a ≡ Some o))
 replaces depth l a o q n ia io =
-    let is : l ≡ path l.base l.selectors = ap (λ b. object b l.base l.selectors) n in
-    (
+    let is : l ≡ path l.base l.selectors = ap (λ b. object b l.base l.selectors) n in (
       λ h. let b = replaced-becomes depth l.base l.selectors a o q ia io (sym (ap (λ z. replaced depth z a o) is) ∙ h) in (b.object, ap (λ z. rebase depth q z a) is ∙ b.same),
       λ b. ap (λ z. replaced depth z a o) is ∙ becomes-replaced depth l.base l.selectors a o q b.0 (sym (ap (λ z. rebase depth q z a) is) ∙ b.1),
     )

@@ -73,6 +73,7 @@ module _ (c : Checker) (h : Happening) (f : Function) where
     where
       unasked : is_exit h.event ≡ true → is_global_asked h.event false ≡ false
       unasked e = rw e refl
+
       none : (b : Bool) → cond (b || not false) None (first_some (global_rule (scene c.machine c.depth h f) h.event g) c.machine.rules) ≡ None
       none true = refl
       none false = refl
@@ -95,9 +96,11 @@ module _ (c : Checker) (h : Happening) (f : Function) where
     where
       report : Option Taken → Option Report
       report t = t >? report_of c h f (Some o)
+
       none : (b : Bool) → cond (b || not false) None (first_some (object_rule (scene c.machine c.depth h f) h.event g o x) c.machine.rules) ≡ None
       none true = refl
       none false = refl
+
       by : (b : Bool) → is_asked h.event false o ≡ b → Fires c h f true g o x r
       by true a = ap (λ b. report (object_if g o x b)) (asked-at-root o e ∙ sym a) ∙ p
       by false a = absurd (none≢some (sym (ap report (ap (object_if g o x) a ∙ none (nat_eq g stop))) ∙ p))

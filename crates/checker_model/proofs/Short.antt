@@ -96,6 +96,7 @@ replaced-short depth l a o q h = by a.address h
     pointed-short : (b : Bool) (r : List Selector) → pointed depth l b r ≡ Some q → IsShort depth q
     pointed-short false r k = append-short depth l q (Deref ∷ r) k
     pointed-short true r k = address-given-short depth l o q r k
+
     by : (b : Bool) → cond b (rest o (path a.base a.selectors) >? pointed depth l o.address) (rebase depth o a l) ≡ Some q → IsShort depth q
     by false k = rebase-short depth o a l q k
     by true k = let g = given (rest o (path a.base a.selectors)) (pointed depth l o.address) q k in pointed-short o.address g.0 g.2

@@ -5,5 +5,6 @@
 mod theorems;
 
 pub use theorems::{
-    actuals_reach_what_formals_give, ends_are_quiet, one_object_at_a_time, other_events_ignore_frames,
+    actuals_reach_what_formals_give, ends_are_quiet, one_object_at_a_time,
+    other_events_ignore_frames,
 };

@@ -25,5 +25,5 @@ returns c =
     let o = c.args.object.now in
     let all = are_targets u c.args.depth e o c.requires.object (omega (arith, same, steps, c.if-selectors-depth.false)) in
     if-ok _ _ c.targets.result
-      (λ list is. subst (AreTargets c.args.depth (move_of u c.args.depth e) o) (sym (is ∙ ap (λ m. targets c.args.depth m o) c.move_of-change.ensures)) all)
-      c.targets.ensures
+    (λ list is. subst (AreTargets c.args.depth (move_of u c.args.depth e) o) (sym (is ∙ ap (λ m. targets c.args.depth m o) c.move_of-change.ensures)) all)
+    c.targets.ensures
