@@ -1,0 +1,18 @@
+//! Reads checkers: their clauses, the first fault that they have, and the machine that they are.
+#![tactic(auto)]
+
+mod building;
+mod declared_holes;
+mod fault;
+mod first_fault;
+mod holes;
+mod limits;
+mod mentions;
+mod named;
+mod numbering;
+mod numbers;
+mod reading;
+mod rule_faults;
+
+pub use fault::{MetalFault, Which};
+pub use reading::{read_machine, read_machine_bytes, rule_place};
