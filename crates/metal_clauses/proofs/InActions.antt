@@ -7,9 +7,9 @@ use Rattle.c_grammar.specs.Found.{◌>>=◌, if_there}
 use Rattle.metal_grammar.specs.Words.{Literal}
 use Rattle.metal_grammar.specs.Written.{Row, lone, row}
 use Rattle.metal_grammar.specs.Steps.{take_literal, more_literals, read_literals, read_identifier, read_identifiers}
-use Rattle.metal_clauses.specs.Written.{row_from, no_literal}
+use Rattle.metal_written.specs.Written.{row_from, no_literal}
 use Rattle.c_grammar.proofs.Options.{parts}
-use Rattle.metal_clauses.proofs.InRows.{behind_all, behind-push, behind-lone}
+use Rattle.metal_written.proofs.Rows.{behind_all, behind-push, behind-lone}
 
 -- these literals, and those that follow
 abbrev pub with_literals : List Literal → List Symbol → Option (Row Literal × List Symbol) → Option (Row Literal × List Symbol)

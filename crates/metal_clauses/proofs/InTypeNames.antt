@@ -6,8 +6,8 @@ use Rattle.c_tree.specs.Symbol.{Symbol}
 use Rattle.c_tree.specs.Syntax.{Syntaxes, no_more, more, present, Declarator, Unnamed}
 use Rattle.c_tree.specs.Forget.{view_all, list_view}
 use Rattle.metal_grammar.specs.Patterns.{are_stars, is_plain_declarator}
-use Rattle.metal_clauses.specs.TypeWords.{are_plain_pointers}
-use Rattle.metal_clauses.proofs.Nodes.{list_out}
+use Rattle.metal_written.specs.TypeWords.{are_plain_pointers}
+use Rattle.metal_written.proofs.Nodes.{list_out}
 
 pub plain-unnamed : (ps : List Symbol) (es : Syntaxes) → is_plain_declarator (present (Declarator (Unnamed ps es))) ≡ are_plain_pointers ps es
 plain-unnamed ps no_more = refl

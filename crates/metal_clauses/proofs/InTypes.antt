@@ -11,7 +11,7 @@ use Rattle.c_grammar.specs.Specifiers.{is_type_word, is_storage, is_inline, type
 use Rattle.metal_grammar.specs.Grammar.{are_type_words}
 use Rattle.metal_grammar.specs.Steps.{is_type_symbol, keyword_in}
 use Rattle.metal_machines.specs.Kept.{all_of}
-use Rattle.metal_clauses.proofs.Nodes.{before, before-next, before-none, symbols_drop, symbols_end}
+use Rattle.metal_written.proofs.Nodes.{before, before-next, before-none, symbols_drop, symbols_end}
 
 abbrev pub specifiers_of : List Symbol → Syntaxes
 specifiers_of [] = no_more

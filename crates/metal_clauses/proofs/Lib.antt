@@ -1,16 +1,9 @@
-pub mod Nodes
 pub mod InRows
 pub mod InCuts
-pub mod Any
 pub mod InWords
 pub mod InActions
-pub mod InMessages
-pub mod InPieces
 pub mod InTypes
-pub mod InSizes
 pub mod Seats
-pub mod InPlaces
 pub mod InTurn
-pub mod InTexts
 pub mod InClauses
 pub mod InTypeNames

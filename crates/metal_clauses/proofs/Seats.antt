@@ -8,12 +8,12 @@ use Rattle.metal_grammar.specs.Words.{Spelling}
 use Rattle.metal_grammar.specs.Written.{members, Declares}
 use Rattle.metal_grammar.specs.Holes.{DeclaredHole, hole_type, holes_as, declared_holes, type_of_hole}
 use Rattle.metal_grammar.specs.Grammar.{Before, behind_content}
-use Rattle.metal_clauses.specs.declared.kinds.Seat.{Seat}
-use Rattle.metal_clauses.specs.declared.written.Declaration.{Declaration}
-use Rattle.metal_clauses.specs.Kinds.{seat_of}
-use Rattle.metal_clauses.specs.Written.{type_view, declaration_view}
+use Rattle.metal_written.specs.declared.kinds.Seat.{Seat}
+use Rattle.metal_written.specs.declared.written.Declaration.{Declaration}
+use Rattle.metal_written.specs.Kinds.{seat_of}
+use Rattle.metal_written.specs.Written.{type_view, declaration_view}
 use Rattle.metal_clauses.specs.Before.{or_else, IsAdded}
-use Rattle.metal_clauses.proofs.InRows.{members-row}
+use Rattle.metal_written.proofs.Rows.{members-row}
 
 -- what each name may be, by a list of holes
 abbrev pub seats_of : List DeclaredHole → ℕ → Option Seat

@@ -4,8 +4,8 @@ use Rattle.std.specs.Option.{option_map}
 use Rattle.indexmap.specs.IndexMap.{IndexMap, get}
 use Rattle.metal_grammar.specs.Grammar.{Before}
 use Rattle.metal_grammar.specs.Holes.{type_of_hole}
-use Rattle.metal_clauses.specs.declared.kinds.Seat.{Seat}
-use Rattle.metal_clauses.specs.Kinds.{seat_of}
+use Rattle.metal_written.specs.declared.kinds.Seat.{Seat}
+use Rattle.metal_written.specs.Kinds.{seat_of}
 
 -- each name's seat is that of its first declaration
 pub record Knows {S : Type 0} (seats : IndexMap ℕ Seat S) (section : Bool) (before : Before) : Type 0 where

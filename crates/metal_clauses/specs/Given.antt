@@ -8,8 +8,8 @@ use Rattle.c_grammar.specs.Names.{Names}
 use Rattle.c_expr.specs.declared.fault.ExprFault.{ExprFault}
 use Rattle.c_expr.specs.declared.fault.ExprFault.TheVariants.{NoTree}
 use Rattle.metal_grammar.specs.Written as text
-use Rattle.metal_clauses.specs.declared.written.Clause.{Clause}
-use Rattle.metal_clauses.specs.Written.{clause_view}
+use Rattle.metal_written.specs.declared.written.Clause.{Clause}
+use Rattle.metal_written.specs.Written.{clause_view}
 
 abbrev pub same : {A : Type 0} → A → A
 same x = x

@@ -1,13 +1,6 @@
-pub mod Written
 pub mod Given
 pub mod Steps
-pub mod TypeWords
-pub mod Sizes
 pub mod Cuts
-pub mod Kinds
 pub mod Before
 pub mod Places
 pub mod Read
-pub mod Placed
-pub mod Messages
-pub mod Texts

@@ -2,11 +2,11 @@
 use Rattle.std.specs.Prelude.{◌≡◌, ◌⊎◌, ℕ, List, Option, None, Some, Result, Ok, Err}
 use Rattle.metal_grammar.specs.Reading.{Clauses, AllRead, Unread}
 use Rattle.metal_grammar.specs.Written as text
-use Rattle.metal_clauses.specs.declared.written.Clause.{Clause}
+use Rattle.metal_written.specs.declared.written.Clause.{Clause}
 use Rattle.metal_clauses.specs.declared.fault.ClauseFault.{ClauseFault}
 use Rattle.metal_clauses.specs.declared.fault.ClauseFault.TheVariants as faults
 use Rattle.metal_clauses.specs.Places.{place_in}
-use Rattle.metal_clauses.specs.Written.{clause_view, clause_views}
+use Rattle.metal_written.specs.Written.{clause_view, clause_views}
 
 abbrev pub ReadsAll : Clauses → List Clause → Type 0
 ReadsAll read cs = read ≡ AllRead (clause_views cs)

@@ -5,15 +5,14 @@ ghost use Rattle.c_tree.specs.Symbol.{symbols_of};
 ghost use Rattle.metal_grammar.specs.Grammar.{are_identifiers, is_action};
 ghost use Rattle.metal_grammar.specs.Steps as steps;
 ghost use Rattle.metal_clauses.specs.Given.{Finds, Gives, same};
-ghost use Rattle.metal_clauses.specs.Written.{literals_row, identifier_view, identifiers_view, action_view, maybe_action_view};
+ghost use Rattle.metal_written.specs.Written.{literals_row, identifier_view, identifiers_view, action_view, maybe_action_view};
 ghost use Rattle.metal_clauses.specs.Steps.{action_opening, action_closing};
 
 use crate::front::{behind_sign, has_sign, take_literal, take_word};
-use crate::words::is_spelled;
-use crate::written::{Identifier, Literal, WrittenAction};
 use bumpalo::collections::into_bump_slice;
 use c_expr::{ExprFault, after_sign};
 use c_tree::{Arena, Punctuator, Token};
+use metal_written::{Identifier, Literal, WrittenAction, is_spelled};
 use mx_base::Names;
 
 /// All literals in front, one at least.
@@ -139,7 +138,7 @@ pub(crate) fn read_maybe_action<'a>(
 }
 
 /// Whether the words of these arguments are `mc_identifier`.
-#[tactic(auto, using(crate::proofs::Any::anys))]
+#[tactic(auto, using(metal_written::proofs::Any::anys))]
 fn are_identifiers(names: &Names, arguments: &[Identifier]) -> bool
     ensures { result ≡ are_identifiers names.now (map identifier_view arguments.now) }
 {

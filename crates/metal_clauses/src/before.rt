@@ -7,12 +7,11 @@ ghost use Rattle.metal_grammar.specs.Grammar.{Before as BeforeClause, nothing_be
 ghost use Rattle.metal_grammar.specs.Holes.{type_of_hole};
 ghost use Rattle.metal_grammar.specs.Written.{Declares};
 ghost use Rattle.metal_clauses.specs.Before.{Knows, IsAdded};
-ghost use Rattle.metal_clauses.specs.Kinds.{seat_of};
-ghost use Rattle.metal_clauses.specs.Written.{content_view, declaration_view};
+ghost use Rattle.metal_written.specs.Kinds.{seat_of};
+ghost use Rattle.metal_written.specs.Written.{content_view, declaration_view};
 
-use crate::kinds::{Seat, seat_of};
-use crate::written::{Content, Declaration};
 use indexmap::IndexMap;
+use metal_written::{Content, Declaration, Seat, seat_of};
 use mx_base::Names;
 use std::alloc::{AllocError, Global};
 

@@ -7,8 +7,8 @@ ghost use Rattle.metal_grammar.specs.Reading as reading;
 ghost use Rattle.metal_clauses.specs.Before.{Knows};
 ghost use Rattle.metal_clauses.specs.Given.{Finds, IsReady, KeepsReady, GivesClause};
 ghost use Rattle.metal_clauses.specs.Read.{GivesBetween, ReadsAll, IsUnread};
-ghost use Rattle.metal_clauses.specs.Sizes.{HasSizes, ClausesHaveSizes, size_of_all};
-ghost use Rattle.metal_clauses.specs.Written.{maybe_head_view};
+ghost use Rattle.metal_written.specs.Sizes.{HasSizes, ClausesHaveSizes, size_of_all};
+ghost use Rattle.metal_written.specs.Written.{maybe_head_view};
 ghost use Rattle.metal_clauses.specs.Steps.{is_nothing};
 
 use crate::before::Before;
@@ -18,11 +18,10 @@ use crate::fault::ClauseFault;
 use crate::front::take_word;
 use crate::patterns::PatternReader;
 use crate::well_formed::is_content;
-use crate::words::is_spelled;
-use crate::written::{Clause, Head};
 use bumpalo::collections::into_bump_slice;
 use c_expr::{ExprFault, after_sign};
 use c_tree::{Arena, Place, Punctuator, Token};
+use metal_written::{Clause, Head, is_spelled};
 use mx_base::Names;
 use std::alloc::Global;
 

@@ -8,15 +8,14 @@ ghost use Rattle.metal_grammar.specs.Phrases.{word, maybe_phrase, type_phrase};
 ghost use Rattle.metal_grammar.specs.Rules.{size};
 ghost use Rattle.metal_grammar.specs.Steps as steps;
 ghost use Rattle.metal_clauses.specs.Given.{Gives};
-ghost use Rattle.metal_clauses.specs.Written.{type_view, name_row, declaration_view};
+ghost use Rattle.metal_written.specs.Written.{type_view, name_row, declaration_view};
 
 use crate::front::take_word;
 use crate::types::read_type;
-use crate::words::is_spelled;
-use crate::written::Declaration;
 use bumpalo::collections::into_bump_slice;
 use c_expr::{ExprFault, after_sign};
 use c_tree::{Arena, Punctuator, Token};
+use metal_written::{Declaration, is_spelled};
 use mx_base::Names;
 
 /// One name or more, with commas between.

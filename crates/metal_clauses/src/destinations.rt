@@ -5,14 +5,13 @@ ghost use Rattle.std.specs.Prelude.{◌≡◌, ◌≤◌, length, IfSome};
 ghost use Rattle.metal_grammar.specs.Grammar.{is_destination};
 ghost use Rattle.metal_grammar.specs.Steps as steps;
 ghost use Rattle.metal_clauses.specs.Given.{Finds};
-ghost use Rattle.metal_clauses.specs.Written.{destination_view};
+ghost use Rattle.metal_written.specs.Written.{destination_view};
 
 use crate::front::take_word;
 use crate::states::read_state;
-use crate::words::is_spelled;
-use crate::written::Destination;
 use c_expr::after_sign;
 use c_tree::{Punctuator, Token};
+use metal_written::{Destination, is_spelled};
 use mx_base::Names;
 
 /// What follows the first word of a split and its `=`.

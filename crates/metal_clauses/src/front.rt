@@ -5,11 +5,11 @@ ghost use Rattle.c_tree.specs.Symbol.{symbols_of};
 ghost use Rattle.c_grammar.specs.Symbols.{take_symbol};
 ghost use Rattle.metal_grammar.specs.Steps as steps;
 ghost use Rattle.metal_clauses.specs.Given.{Finds, same, token_symbol};
-ghost use Rattle.metal_clauses.specs.Written.{literal_view};
+ghost use Rattle.metal_written.specs.Written.{literal_view};
 
-use crate::written::Literal;
 use c_expr::{after_sign, is_sign};
 use c_tree::{Punctuator, Token, TokenKind};
+use metal_written::Literal;
 
 /// The word in front that is no keyword, by the number of its name.
 pub(crate) fn take_word<'a>(tokens: &'a [Token]) -> Option<(u32, &'a [Token])>

@@ -5,15 +5,15 @@ ghost use Rattle.c_tree.specs.Symbol.{symbols_of};
 ghost use Rattle.c_tree.specs.declared.punctuator.Punctuator.TheVariants as marks;
 ghost use Rattle.metal_grammar.specs.Steps as steps;
 ghost use Rattle.metal_clauses.specs.Given.{Gives, Finds, IsReady, StaysReady};
-ghost use Rattle.metal_clauses.specs.Written.{item_view, alternative_view, alternatives_row};
+ghost use Rattle.metal_written.specs.Written.{item_view, alternative_view, alternatives_row};
 ghost use Rattle.metal_clauses.specs.Steps.{special_item};
 
 use crate::callouts::read_callout;
 use crate::front::{behind_sign, has_sign, take_word};
-use crate::written::{WrittenAlternative, WrittenItem};
 use bumpalo::collections::into_bump_slice;
 use c_expr::{COMMA_LEVEL, ExprFault, TypeNames, after_sign, expression_in_front, keep};
 use c_tree::{Arena, Punctuator, Token};
+use metal_written::{WrittenAlternative, WrittenItem};
 use std::alloc::Global;
 
 /// The height of the highest pattern.

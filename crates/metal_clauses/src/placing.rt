@@ -5,12 +5,12 @@ ghost use Rattle.c_tree.specs.Forget.{view, list_view, primary_view, operation_v
 ghost use Rattle.metal_grammar.specs.Grammar.{Before as BeforeClause};
 ghost use Rattle.metal_grammar.specs.Holes.{Operand, name_may_stand, are_placed, are_placed_in_primary, are_placed_in_operation, are_placed_in_initializer, are_placed_in_elements, are_placed_in_arguments, are_placed_in_path, are_placed_in_designator};
 ghost use Rattle.metal_clauses.specs.Before.{Knows};
-ghost use Rattle.metal_clauses.specs.Kinds.{position_of};
+ghost use Rattle.metal_written.specs.Kinds.{position_of};
 ghost use Rattle.c_tree.specs.Symbol.{symbol_of};
 
 use crate::before::Before;
-use crate::kinds::{Position, may_stand};
 use c_tree::{Initializer, Kind, Operation, Part, Primary, Token, TokenKind, Tree, Trees};
+use metal_written::{Position, may_stand};
 
 /// Whether a name, if it is a hole, may stand there.
 fn name_may_stand(before: &Before, position: Position, name: &Token) -> bool
@@ -24,7 +24,7 @@ fn name_may_stand(before: &Before, position: Position, name: &Token) -> bool
 
 /// Whether each hole of an expression stands where it may.
 #[cycle(placed)]
-#[tactic(auto, using(crate::proofs::Nodes::lists))]
+#[tactic(auto, using(metal_written::proofs::Nodes::lists))]
 pub(crate) fn are_placed(before: &Before, position: Position, tree: &Tree) -> bool
     ensures { (b : BeforeClause) → Knows before.now.seats before.now.section b → result ≡ are_placed b.holes (position_of position) (view tree.now) }
 {
@@ -37,7 +37,7 @@ pub(crate) fn are_placed(before: &Before, position: Position, tree: &Tree) -> bo
 }
 
 #[cycle(placed)]
-#[tactic(auto, using(crate::proofs::Nodes::lists))]
+#[tactic(auto, using(metal_written::proofs::Nodes::lists))]
 fn are_placed_in_primary(before: &Before, position: Position, kind: &Primary) -> bool
     ensures { (b : BeforeClause) → Knows before.now.seats before.now.section b → result ≡ are_placed_in_primary b.holes (position_of position) (primary_view kind.now) }
 {
@@ -51,7 +51,7 @@ fn are_placed_in_primary(before: &Before, position: Position, kind: &Primary) ->
 }
 
 #[cycle(placed)]
-#[tactic(auto, using(crate::proofs::Nodes::lists))]
+#[tactic(auto, using(metal_written::proofs::Nodes::lists))]
 fn are_placed_in_operation(before: &Before, kind: &Operation) -> bool
     ensures { (b : BeforeClause) → Knows before.now.seats before.now.section b → result ≡ are_placed_in_operation b.holes (operation_view kind.now) }
 {
@@ -83,7 +83,7 @@ fn are_placed_in_operation(before: &Before, kind: &Operation) -> bool
 }
 
 #[cycle(placed)]
-#[tactic(auto, using(crate::proofs::Nodes::lists))]
+#[tactic(auto, using(metal_written::proofs::Nodes::lists))]
 fn are_placed_in_initializer(before: &Before, kind: &Initializer) -> bool
     ensures { (b : BeforeClause) → Knows before.now.seats before.now.section b → result ≡ are_placed_in_initializer b.holes (initializer_view kind.now) }
 {
@@ -98,7 +98,7 @@ fn are_placed_in_initializer(before: &Before, kind: &Initializer) -> bool
 }
 
 #[cycle(placed)]
-#[tactic(auto, using(crate::proofs::Nodes::lists))]
+#[tactic(auto, using(metal_written::proofs::Nodes::lists))]
 fn is_operand(before: &Before, tree: &Tree) -> bool
     ensures { (b : BeforeClause) → Knows before.now.seats before.now.section b → result ≡ are_placed b.holes Operand (view tree.now) }
 {
@@ -106,7 +106,7 @@ fn is_operand(before: &Before, tree: &Tree) -> bool
 }
 
 #[cycle(placed)]
-#[tactic(auto, using(crate::proofs::Nodes::lists))]
+#[tactic(auto, using(metal_written::proofs::Nodes::lists))]
 fn are_placed_in_elements(before: &Before, elements: &Trees) -> bool
     ensures { (b : BeforeClause) → Knows before.now.seats before.now.section b → result ≡ are_placed_in_elements b.holes (list_view elements.now) }
 {
@@ -120,7 +120,7 @@ fn are_placed_in_elements(before: &Before, elements: &Trees) -> bool
 
 /// A hole for arguments may be the last of them.
 #[cycle(placed)]
-#[tactic(auto, using(crate::proofs::Nodes::lists))]
+#[tactic(auto, using(metal_written::proofs::Nodes::lists))]
 fn are_placed_in_arguments(before: &Before, arguments: &Trees) -> bool
     ensures { (b : BeforeClause) → Knows before.now.seats before.now.section b → result ≡ are_placed_in_arguments b.holes (list_view arguments.now) }
 {
@@ -140,7 +140,7 @@ fn are_placed_in_arguments(before: &Before, arguments: &Trees) -> bool
 }
 
 #[cycle(placed)]
-#[tactic(auto, using(crate::proofs::Nodes::lists))]
+#[tactic(auto, using(metal_written::proofs::Nodes::lists))]
 fn are_placed_in_path(before: &Before, path: &Trees) -> bool
     ensures { (b : BeforeClause) → Knows before.now.seats before.now.section b → result ≡ are_placed_in_path b.holes (list_view path.now) }
 {
@@ -153,7 +153,7 @@ fn are_placed_in_path(before: &Before, path: &Trees) -> bool
 }
 
 #[cycle(placed)]
-#[tactic(auto, using(crate::proofs::Nodes::lists))]
+#[tactic(auto, using(metal_written::proofs::Nodes::lists))]
 fn are_placed_in_designator(before: &Before, tree: &Tree) -> bool
     ensures { (b : BeforeClause) → Knows before.now.seats before.now.section b → result ≡ are_placed_in_designator b.holes (view tree.now) }
 {

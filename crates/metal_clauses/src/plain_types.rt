@@ -4,7 +4,7 @@ ghost use Rattle.std.specs.Prelude.{◌≡◌};
 ghost use Rattle.c_tree.specs.Symbol.{symbols_of};
 ghost use Rattle.c_tree.specs.Forget.{view, maybe_view, list_view, primary_view, operation_view, initializer_view};
 ghost use Rattle.metal_grammar.specs.Patterns.{is_plain_word, are_plain_words, are_stars, is_plain_declarator, is_plain_type, has_plain_types, primary_has_plain_types, operation_has_plain_types, initializer_has_plain_types, all_have_plain_types, path_has_plain_types, designator_has_plain_types};
-ghost use Rattle.metal_clauses.specs.TypeWords.{are_plain_pointers, are_plain_specs};
+ghost use Rattle.metal_written.specs.TypeWords.{are_plain_pointers, are_plain_specs};
 
 use c_expr::{is_sign, is_type_word};
 use c_tree::{
@@ -32,7 +32,7 @@ fn is_plain_word(item: &Tree) -> bool
     }
 }
 
-#[tactic(auto, using(crate::proofs::Nodes::lists))]
+#[tactic(auto, using(metal_written::proofs::Nodes::lists))]
 fn are_plain_words(items: &Trees) -> bool
     ensures { result ≡ are_plain_words (list_view items.now) }
 {
@@ -44,7 +44,7 @@ fn are_plain_words(items: &Trees) -> bool
     true
 }
 
-#[tactic(auto, using(crate::proofs::Nodes::tokens))]
+#[tactic(auto, using(metal_written::proofs::Nodes::tokens))]
 fn are_stars(tokens: &[Token]) -> bool
     ensures { result ≡ are_stars (symbols_of tokens.now) }
 {
@@ -57,7 +57,7 @@ fn are_stars(tokens: &[Token]) -> bool
 }
 
 /// Whether these are stars alone, with nothing behind.
-#[tactic(auto, using(crate::proofs::Nodes::list_out))]
+#[tactic(auto, using(metal_written::proofs::Nodes::list_out))]
 fn are_plain_pointers(pointers: &[Token], suffixes: &Trees) -> bool
     ensures { result ≡ are_plain_pointers (symbols_of pointers.now) (list_view suffixes.now) }
 {
@@ -85,7 +85,7 @@ fn is_plain_declarator(declarator: Option<&Tree>) -> bool
 }
 
 /// Whether these are specifiers of plain words.
-#[tactic(auto, using(crate::proofs::Nodes::list_out))]
+#[tactic(auto, using(metal_written::proofs::Nodes::list_out))]
 fn are_plain_specs(specs: &Tree) -> bool
     ensures { result ≡ are_plain_specs (view specs.now) }
 {
@@ -114,7 +114,7 @@ fn is_plain_type(tree: &Tree) -> bool
 
 /// Whether each type name in an expression is plain.
 #[cycle(plain)]
-#[tactic(auto, using(crate::proofs::Nodes::lists))]
+#[tactic(auto, using(metal_written::proofs::Nodes::lists))]
 pub(crate) fn has_plain_types(tree: &Tree) -> bool
     ensures { result ≡ has_plain_types (view tree.now) }
 {
@@ -127,7 +127,7 @@ pub(crate) fn has_plain_types(tree: &Tree) -> bool
 }
 
 #[cycle(plain)]
-#[tactic(auto, using(crate::proofs::Nodes::lists))]
+#[tactic(auto, using(metal_written::proofs::Nodes::lists))]
 fn primary_has_plain_types(kind: &Primary) -> bool
     ensures { result ≡ primary_has_plain_types (primary_view kind.now) }
 {
@@ -141,7 +141,7 @@ fn primary_has_plain_types(kind: &Primary) -> bool
 }
 
 #[cycle(plain)]
-#[tactic(auto, using(crate::proofs::Nodes::lists))]
+#[tactic(auto, using(metal_written::proofs::Nodes::lists))]
 fn operation_has_plain_types(kind: &Operation) -> bool
     ensures { result ≡ operation_has_plain_types (operation_view kind.now) }
 {
@@ -169,7 +169,7 @@ fn operation_has_plain_types(kind: &Operation) -> bool
 }
 
 #[cycle(plain)]
-#[tactic(auto, using(crate::proofs::Nodes::lists))]
+#[tactic(auto, using(metal_written::proofs::Nodes::lists))]
 fn initializer_has_plain_types(kind: &Initializer) -> bool
     ensures { result ≡ initializer_has_plain_types (initializer_view kind.now) }
 {
@@ -184,7 +184,7 @@ fn initializer_has_plain_types(kind: &Initializer) -> bool
 }
 
 #[cycle(plain)]
-#[tactic(auto, using(crate::proofs::Nodes::lists))]
+#[tactic(auto, using(metal_written::proofs::Nodes::lists))]
 fn all_have_plain_types(trees: &Trees) -> bool
     ensures { result ≡ all_have_plain_types (list_view trees.now) }
 {
@@ -197,7 +197,7 @@ fn all_have_plain_types(trees: &Trees) -> bool
 }
 
 #[cycle(plain)]
-#[tactic(auto, using(crate::proofs::Nodes::lists))]
+#[tactic(auto, using(metal_written::proofs::Nodes::lists))]
 fn path_has_plain_types(path: &Trees) -> bool
     ensures { result ≡ path_has_plain_types (list_view path.now) }
 {
@@ -210,7 +210,7 @@ fn path_has_plain_types(path: &Trees) -> bool
 }
 
 #[cycle(plain)]
-#[tactic(auto, using(crate::proofs::Nodes::lists))]
+#[tactic(auto, using(metal_written::proofs::Nodes::lists))]
 fn designator_has_plain_types(tree: &Tree) -> bool
     ensures { result ≡ designator_has_plain_types (view tree.now) }
 {

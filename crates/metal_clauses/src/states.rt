@@ -4,12 +4,12 @@ ghost use Rattle.std.specs.Prelude.{◌≤◌, length, IfSome};
 ghost use Rattle.c_tree.specs.Symbol.{symbols_of};
 ghost use Rattle.metal_grammar.specs.Steps as steps;
 ghost use Rattle.metal_clauses.specs.Given.{Finds};
-ghost use Rattle.metal_clauses.specs.Written.{state_view};
+ghost use Rattle.metal_written.specs.Written.{state_view};
 
 use crate::front::take_word;
-use crate::written::StateName;
 use c_expr::after_sign;
 use c_tree::{Punctuator, Token};
+use metal_written::StateName;
 
 /// The state in front.
 pub(crate) fn read_state<'a>(tokens: &'a [Token]) -> Option<(StateName, &'a [Token])>

@@ -7,15 +7,15 @@ ghost use Rattle.c_grammar.specs.Symbols.{is_sign, run_of, after_run};
 ghost use Rattle.metal_grammar.specs.Grammar.{are_type_words, is_type};
 ghost use Rattle.metal_grammar.specs.Steps as steps;
 ghost use Rattle.metal_clauses.specs.Given.{Finds};
-ghost use Rattle.metal_clauses.specs.Written.{type_view};
+ghost use Rattle.metal_written.specs.Written.{type_view};
 ghost use Rattle.c_grammar.specs.Specifiers.{is_basic};
-ghost use Rattle.metal_clauses.specs.TypeWords.{has_type_words};
+ghost use Rattle.metal_written.specs.TypeWords.{has_type_words};
 ghost use Rattle.metal_machines.specs.Kept.{all_of};
 
 use crate::front::take_word;
-use crate::written::WrittenType;
 use c_expr::{SpecifierPlace, after_keyword, fit, is_sign, is_type_word};
 use c_tree::{Arena, Keyword, Kind, Part, Punctuator, StructOrUnion, Token, TokenKind, Tree};
+use metal_written::WrittenType;
 use std::alloc::AllocError;
 
 /// Whether the token is a word of basic types.

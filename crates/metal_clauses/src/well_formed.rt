@@ -3,19 +3,19 @@
 ghost use Rattle.std.specs.Prelude.{◌≡◌, IfOk};
 ghost use Rattle.metal_grammar.specs.Grammar as grammar;
 ghost use Rattle.metal_clauses.specs.Before.{Knows};
-ghost use Rattle.metal_clauses.specs.Written.{item_view, alternative_view, alternatives_row, rule_view, rules_row, declaration_view, content_view};
+ghost use Rattle.metal_written.specs.Written.{item_view, alternative_view, alternatives_row, rule_view, rules_row, declaration_view, content_view};
 
 use crate::actions::is_action;
 use crate::before::Before;
-use crate::callouts::is_callout;
 use crate::destinations::is_destination;
-use crate::kinds::{Position, may_have};
 use crate::placing::are_placed;
 use crate::plain_types::has_plain_types;
 use crate::types::is_type;
-use crate::words::is_spelled;
-use crate::written::{Content, Declaration, Section, WrittenAlternative, WrittenItem, WrittenRule};
 use c_tree::Arena;
+use metal_written::{
+    Content, Declaration, Position, Section, WrittenAlternative, WrittenItem, WrittenRule, has_end,
+    has_pattern, is_callout, is_spelled, may_have,
+};
 use mx_base::Names;
 use std::alloc::AllocError;
 
@@ -62,54 +62,8 @@ fn is_item(names: &Names, before: &Before, item: &WrittenItem) -> bool
     }
 }
 
-/// Whether the item is a pattern.
-fn is_pattern(item: &WrittenItem) -> bool
-    ensures { result ≡ grammar.is_pattern (item_view item.now) }
-{
-    match item {
-        WrittenItem::Pattern { .. } => true,
-        _ => false,
-    }
-}
-
-/// Whether a pattern is among the items.
-#[tactic(auto, using(crate::proofs::Any::anys))]
-fn has_pattern(alternative: &WrittenAlternative) -> bool
-    ensures { result ≡ grammar.some grammar.is_pattern (alternative_view alternative.now) }
-{
-    for item in alternative.items {
-        if is_pattern(item) {
-            return true;
-        }
-    }
-    false
-}
-
-/// Whether the item is the end of a path.
-fn is_end(item: &WrittenItem) -> bool
-    ensures { result ≡ grammar.is_end (item_view item.now) }
-{
-    match item {
-        WrittenItem::Dollars { .. } => true,
-        _ => false,
-    }
-}
-
-/// Whether the alternative stands at the end of a path.
-#[tactic(auto, using(crate::proofs::Any::anys))]
-pub fn has_end(alternative: &WrittenAlternative) -> bool
-    ensures { result ≡ grammar.some grammar.is_end (alternative_view alternative.now) }
-{
-    for item in alternative.items {
-        if is_end(item) {
-            return true;
-        }
-    }
-    false
-}
-
 /// Whether each item is one.
-#[tactic(auto, using(crate::proofs::Any::anys))]
+#[tactic(auto, using(metal_written::proofs::Any::anys))]
 fn are_items(names: &Names, before: &Before, alternative: &WrittenAlternative) -> bool
     ensures { (b : grammar.Before) → Knows before.now.seats before.now.section b → result ≡ grammar.each (grammar.is_item names.now b.holes) (alternative_view alternative.now) }
 {
@@ -129,7 +83,7 @@ fn is_alternative(names: &Names, before: &Before, alternative: &WrittenAlternati
 }
 
 /// Whether each alternative is one.
-#[tactic(auto, using(crate::proofs::Any::anys))]
+#[tactic(auto, using(metal_written::proofs::Any::anys))]
 fn are_alternatives(names: &Names, before: &Before, rule: &WrittenRule) -> bool
     ensures { (b : grammar.Before) → Knows before.now.seats before.now.section b → result ≡ grammar.each (grammar.is_alternative names.now b.holes) (alternatives_row rule.now.alternatives) }
 {
@@ -151,7 +105,7 @@ fn is_rule(names: &Names, before: &Before, rule: &WrittenRule) -> bool
 }
 
 /// Whether each rule is one.
-#[tactic(auto, using(crate::proofs::Any::anys))]
+#[tactic(auto, using(metal_written::proofs::Any::anys))]
 fn are_rules(names: &Names, before: &Before, section: Section<'_>) -> bool
     ensures { (b : grammar.Before) → Knows before.now.seats before.now.section b → result ≡ grammar.each (grammar.is_rule names.now b.holes) (rules_row section.entry.rules) }
 {

@@ -8,7 +8,7 @@ use Rattle.metal_machines.specs.Machine as machines
 use Rattle.metal_grammar.specs.Holes as holes
 use Rattle.metal_grammar.specs.Steps.{keyword_in}
 use Rattle.metal_tree.specs.Views.{starred}
-use Rattle.metal_clauses.proofs.InRows.{members-row}
+use Rattle.metal_written.proofs.Rows.{members-row}
 use Rattle.metal_reader.specs.Numbers.{is_kind}
 
 pub starred_pointers : (n : ℕ) (t : machines.NamedType) → starred n t ≡ holes.pointers n t

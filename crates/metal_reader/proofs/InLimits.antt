@@ -6,10 +6,10 @@ use Rattle.metal_grammar.specs.Written.{Content}
 use Rattle.metal_grammar.specs.Phrases.{clause_tokens}
 use Rattle.metal_grammar.specs.Rules.{behind_clause}
 use Rattle.metal_grammar.specs.Faults.{passing}
-use Rattle.metal_clauses.specs.declared.written.Clause.{Clause}
-use Rattle.metal_clauses.specs.Sizes.{ClauseHasSizes, ClausesHaveSizes, size_of_all}
-use Rattle.metal_clauses.specs.Written.{content_view, clause_view, clause_views}
-use Rattle.metal_clauses.proofs.Any.{mapped-drop, mapped-end}
+use Rattle.metal_written.specs.declared.written.Clause.{Clause}
+use Rattle.metal_written.specs.Sizes.{ClauseHasSizes, ClausesHaveSizes, size_of_all}
+use Rattle.metal_written.specs.Written.{content_view, clause_view, clause_views}
+use Rattle.metal_written.proofs.Any.{mapped-drop, mapped-end}
 
 -- the clause that stands there, and those behind it
 pub sizes-next : (cs : List Clause) (i : ℕ) (d : Clause) → i < length cs → ClausesHaveSizes (drop i cs) → ClauseHasSizes (get_or cs i d) × ClausesHaveSizes (drop (i + 1) cs)

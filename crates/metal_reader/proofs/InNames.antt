@@ -7,13 +7,13 @@ use Rattle.metal_grammar.specs.Written.{Row}
 use Rattle.metal_grammar.specs.Phrases.{word, maybe_phrase, head_phrase, row_phrase, type_phrase, declaration_phrase, content_phrase, sign_if, clause_tokens}
 use Rattle.metal_grammar.specs.Rules.{is_among, size, names_from, declared_names, behind_clause, behind_head, names_of_content}
 use Rattle.metal_grammar.specs.Faults.{repeated}
-use Rattle.metal_clauses.specs.declared.written.Declaration.{Declaration}
-use Rattle.metal_clauses.specs.declared.written.Content.TheVariants as contents
-use Rattle.metal_clauses.specs.declared.written.Clause.{Clause}
-use Rattle.metal_clauses.specs.Sizes.{ClauseHasSizes, HasSizes}
-use Rattle.metal_clauses.specs.Written.{row_from, type_view, declaration_view, content_view, clause_view, clause_views, maybe_head_view}
-use Rattle.metal_clauses.proofs.InSizes.{size-two}
-use Rattle.metal_clauses.proofs.Any.{mapped-drop, mapped-end}
+use Rattle.metal_written.specs.declared.written.Declaration.{Declaration}
+use Rattle.metal_written.specs.declared.written.Content.TheVariants as contents
+use Rattle.metal_written.specs.declared.written.Clause.{Clause}
+use Rattle.metal_written.specs.Sizes.{ClauseHasSizes, HasSizes}
+use Rattle.metal_written.specs.Written.{row_from, type_view, declaration_view, content_view, clause_view, clause_views, maybe_head_view}
+use Rattle.metal_written.proofs.InSizes.{size-two}
+use Rattle.metal_written.proofs.Any.{mapped-drop, mapped-end}
 use Rattle.metal_reader.specs.declared.limits.Declared.{Declared}
 use Rattle.metal_reader.specs.DeclaredNames.{declared_name, declared_pair, every_other}
 use Rattle.metal_reader.proofs.InHoles.{map_joined}

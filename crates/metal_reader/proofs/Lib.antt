@@ -1,11 +1,7 @@
-pub mod Firsts
-pub mod Positions
 pub mod InLimits
 pub mod InHoles
 pub mod Distinct
-pub mod Variables
 pub mod InNames
-pub mod Lacking
 pub mod Few
 pub mod Refusing
 pub mod Order

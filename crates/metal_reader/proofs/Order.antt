@@ -8,7 +8,7 @@ use Rattle.metal_reader.specs.declared.fault.Which.{Which}
 use Rattle.metal_reader.specs.declared.fault.Which.TheVariants as which
 use Rattle.metal_reader.specs.Faults.{counted, fault_in}
 use Rattle.metal_reader.specs.FirstFaults.{what}
-use Rattle.metal_reader.specs.RuleFaults.{first_of}
+use Rattle.metal_rules.specs.RuleFaults.{first_of}
 
 -- This is refused for want of memory, or for this fault.
 abbrev pub Tells : ℕ → MetalFault → Option Fault → Type 0

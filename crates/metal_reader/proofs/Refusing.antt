@@ -23,7 +23,7 @@ use Rattle.metal_clauses.specs.declared.fault.ClauseFault.{ClauseFault}
 use Rattle.metal_clauses.specs.declared.fault.ClauseFault.TheVariants as clause
 use Rattle.metal_clauses.specs.Places.{place_in}
 use Rattle.metal_clauses.specs.Read.{IsUnread}
-use Rattle.metal_clauses.specs.Texts.{AreBelow}
+use Rattle.metal_written.specs.Texts.{AreBelow}
 use Rattle.metal_reader.specs.declared.fault.MetalFault.{MetalFault}
 use Rattle.metal_reader.specs.declared.fault.MetalFault.TheVariants as faults
 use Rattle.metal_reader.specs.ClauseFaults.{metal_fault}

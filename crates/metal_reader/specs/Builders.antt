@@ -1,6 +1,6 @@
 -- What rules are built with.
 use Rattle.metal_grammar.specs.Meaning as meaning
-use Rattle.metal_clauses.specs.Texts.{AreRight}
+use Rattle.metal_written.specs.Texts.{AreRight}
 use Rattle.metal_reader.specs.declared.building.Builder.{Builder}
 use Rattle.metal_reader.specs.Numbers.{numbering_in, IsNumbering}
 

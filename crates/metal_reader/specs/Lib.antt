@@ -3,7 +3,6 @@ pub mod Places
 pub mod Faults
 pub mod DeclaredNames
 pub mod Limits
-pub mod RuleFaults
 pub mod Small
 pub mod Numbers
 pub mod DeclaredHoles

@@ -5,8 +5,8 @@ use Rattle.metal_grammar.specs.Meaning as meaning
 use Rattle.metal_grammar.specs.Rules.{is_among, targets_of, PlacedRule}
 use Rattle.metal_grammar.specs.Faults.{any_of, is_misnamed}
 use Rattle.metal_tree.specs.Parts.{state_names}
-use Rattle.metal_clauses.specs.declared.written.StateName.{StateName}
-use Rattle.metal_clauses.specs.Written.{state_view}
+use Rattle.metal_written.specs.declared.written.StateName.{StateName}
+use Rattle.metal_written.specs.Written.{state_view}
 use Rattle.metal_reader.specs.declared.numbers.Numbering.{Numbering}
 
 -- a name more, unless it is there

@@ -3,8 +3,8 @@
 ghost use Rattle.std.specs.Prelude.{◌≡◌, IfOk, map};
 ghost use Rattle.metal_grammar.specs.Meaning as meaning;
 ghost use Rattle.metal_grammar.specs.Written.{members};
-ghost use Rattle.metal_clauses.specs.Placed.{placed_view, placed_views};
-ghost use Rattle.metal_clauses.specs.Written.{item_view, alternative_view, callout_view, identifier_view, maybe_action_view};
+ghost use Rattle.metal_written.specs.Placed.{placed_view, placed_views};
+ghost use Rattle.metal_written.specs.Written.{item_view, alternative_view, callout_view, identifier_view, maybe_action_view};
 ghost use Rattle.metal_tree.specs.Views as machines;
 ghost use Rattle.metal_reader.specs.Builders.{numbers, IsRight};
 ghost use Rattle.metal_reader.specs.DeclaredHoles.{declared_views};
@@ -13,15 +13,15 @@ ghost use Rattle.metal_reader.specs.Numbers.{variables_in, IsNamed, AreNamed};
 ghost use Rattle.metal_reader.specs.Places.{HasPlaces};
 
 use crate::declared_holes::DeclaredHole;
-use crate::holes::with_holes;
 use crate::numbers::Numbering;
 use bumpalo::collections::into_bump_slice;
 use c_tree::{Arena, Place};
-use metal_clauses::{
+use metal_rules::with_holes;
+use metal_tree::{Action, Alternative, Callout, CalloutRow, HoleDecl, Item, Pattern, Rule};
+use metal_written::{
     Identifier, PlacedRule, Texts, WrittenAction, WrittenAlternative, WrittenCallout, WrittenItem,
     hole_asked, literal_asked, message_with, row_of,
 };
-use metal_tree::{Action, Alternative, Callout, CalloutRow, HoleDecl, Item, Pattern, Rule};
 use mx_base::Names;
 use std::alloc::AllocError;
 

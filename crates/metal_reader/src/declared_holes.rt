@@ -5,16 +5,16 @@ ghost use Rattle.c_tree.specs.Symbol.{symbol_of, symbols_of};
 ghost use Rattle.metal_grammar.specs.Holes as grammar;
 ghost use Rattle.metal_grammar.specs.Rules as rules;
 ghost use Rattle.metal_grammar.specs.Steps.{keyword_in};
-ghost use Rattle.metal_clauses.specs.Kinds.{kind_type};
-ghost use Rattle.metal_clauses.specs.Written.{type_view, declaration_view, content_view, clause_views};
+ghost use Rattle.metal_written.specs.Kinds.{kind_type};
+ghost use Rattle.metal_written.specs.Written.{type_view, declaration_view, content_view, clause_views};
 ghost use Rattle.metal_tree.specs.Views.{hole_type_view};
 ghost use Rattle.metal_reader.specs.DeclaredHoles.{declared_views, hole_named};
 ghost use Rattle.metal_reader.specs.Machines.{hole_types_view};
 
 use bumpalo::collections::into_bump_slice;
 use c_tree::{Arena, Keyword, Token, TokenKind};
-use metal_clauses::{Clause, Content, Declaration, HoleKind, WrittenType, kind_of_hole};
 use metal_tree::{BaseType, HoleType, NamedType};
+use metal_written::{Clause, Content, Declaration, HoleKind, WrittenType, kind_of_hole};
 use mx_base::Names;
 use std::alloc::AllocError;
 

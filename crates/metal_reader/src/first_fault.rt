@@ -3,9 +3,9 @@
 ghost use Rattle.std.specs.Prelude.{◌≡◌, IfOk, List, map, filter, ◌<◌, ◌^◌, ◌≤◌};
 ghost use Rattle.metal_grammar.specs.FirstFault as grammar;
 ghost use Rattle.metal_reader.specs.FirstFaults.{Says, faults_before_rules, what};
-ghost use Rattle.metal_clauses.specs.Placed.{placed_view, placed_views};
-ghost use Rattle.metal_clauses.specs.Sizes.{ClausesHaveSizes, size_of_all};
-ghost use Rattle.metal_clauses.specs.Written.{clause_views, literals_row, maybe_action_view};
+ghost use Rattle.metal_written.specs.Placed.{placed_view, placed_views};
+ghost use Rattle.metal_written.specs.Sizes.{ClausesHaveSizes, size_of_all};
+ghost use Rattle.metal_written.specs.Written.{clause_views, literals_row, maybe_action_view};
 ghost use Rattle.metal_grammar.specs.Faults as faults;
 ghost use Rattle.metal_grammar.specs.Faults.{passing};
 ghost use Rattle.metal_grammar.specs.Holes.{DeclaredHole as DeclaredIn};
@@ -19,11 +19,11 @@ use crate::declared_holes::DeclaredHole;
 use crate::fault::{MetalFault, Which};
 use crate::limits::{passing, repeated};
 use crate::numbering::{names_of, variables_among};
-use crate::rule_faults::{
+use c_tree::{Arena, Place};
+use metal_rules::{
     is_bad_source, is_bad_split, lacks_variable, names_two_variables, unknown_callout,
 };
-use c_tree::{Arena, Place};
-use metal_clauses::{Clause, PlacedRule, WrittenAction};
+use metal_written::{Clause, PlacedRule, WrittenAction};
 use std::alloc::AllocError;
 
 /// Refuses a text with more of these than a checker may have.

@@ -5,14 +5,10 @@ mod building;
 mod declared_holes;
 mod fault;
 mod first_fault;
-mod holes;
 mod limits;
-mod mentions;
-mod named;
 mod numbering;
 mod numbers;
 mod reading;
-mod rule_faults;
 
 pub use fault::{MetalFault, Which};
 pub use reading::{read_machine, read_machine_bytes, rule_place};

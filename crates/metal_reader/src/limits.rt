@@ -4,15 +4,15 @@ ghost use Rattle.std.specs.Prelude.{◌≡◌, ◌+◌, ◌*◌, ◌++◌, ◌<�
 ghost use Rattle.std.specs.Option.{option_map};
 ghost use Rattle.metal_grammar.specs.Faults.{passing, repeated};
 ghost use Rattle.metal_grammar.specs.Rules.{declared_names, names_of_content, behind_head, is_among};
-ghost use Rattle.metal_clauses.specs.Sizes.{ClauseHasSizes, ClausesHaveSizes, size_of_all};
-ghost use Rattle.metal_clauses.specs.Written.{content_view, clause_view, clause_views};
+ghost use Rattle.metal_written.specs.Sizes.{ClauseHasSizes, ClausesHaveSizes, size_of_all};
+ghost use Rattle.metal_written.specs.Written.{content_view, clause_view, clause_views};
 ghost use Rattle.metal_reader.specs.DeclaredNames.{declared_name, declared_pair, every_other};
 ghost use Rattle.metal_reader.specs.Limits.{counting, limit_of};
 
 use crate::fault::Which;
 use bumpalo::collections::into_bump_slice;
 use c_tree::Arena;
-use metal_clauses::{Clause, Content, head_size};
+use metal_written::{Clause, Content, head_size};
 use std::alloc::AllocError;
 
 /// The most state variables of a checker.

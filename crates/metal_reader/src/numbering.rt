@@ -5,8 +5,8 @@ ghost use Rattle.metal_grammar.specs.Meaning as meaning;
 ghost use Rattle.metal_grammar.specs.Faults.{any_of, is_misnamed};
 ghost use Rattle.metal_grammar.specs.Rules as rules;
 ghost use Rattle.metal_grammar.specs.Rules.{is_among, targets_of};
-ghost use Rattle.metal_clauses.specs.Placed.{placed_view, placed_views};
-ghost use Rattle.metal_clauses.specs.Written.{state_view, destination_view};
+ghost use Rattle.metal_written.specs.Placed.{placed_view, placed_views};
+ghost use Rattle.metal_written.specs.Written.{state_view, destination_view};
 ghost use Rattle.metal_machines.specs.Limits.{most_holes, most_rules};
 ghost use Rattle.metal_tree.specs.Parts.{state_names};
 ghost use Rattle.metal_tree.specs.Views.{source_view, target_view, dest_view};
@@ -15,18 +15,17 @@ ghost use Rattle.metal_reader.specs.Small.{are_few};
 ghost use Rattle.metal_reader.specs.Numbers.{is_kind, IsNumbering, added, added_if, numbering_in, variables_in};
 
 use crate::declared_holes::DeclaredHole;
-use crate::holes::number_among;
 use crate::numbers::Numbering;
-use crate::rule_faults::is_stop;
 use bumpalo::collections::into_bump_slice;
 use c_tree::Arena;
-use metal_clauses::{Destination, PlacedRule, StateName, is_spelled};
+use metal_rules::{is_stop, number_among};
 use metal_tree::{Dest, Source, States, Target};
+use metal_written::{Destination, PlacedRule, StateName, is_spelled};
 use mx_base::Names;
 use std::alloc::AllocError;
 
 /// Adds a name, unless it is there.
-#[tactic(auto, using(crate::proofs::Positions::among))]
+#[tactic(auto, using(metal_rules::proofs::Positions::among))]
 fn add<'a>(names: &mut Vec<u32, &'a Arena>, name: u32) -> Result<(), AllocError>
     ensures { IfOk result (λ _. names.new.items ≡ added names.old.items name) }
 {
@@ -269,7 +268,7 @@ pub(crate) fn numbering_of<'a>(
 }
 
 /// The number of a name among these, and 0 where it is none of them.
-#[tactic(auto, using(crate::proofs::Positions::within))]
+#[tactic(auto, using(metal_rules::proofs::Positions::within))]
 fn number_in(names: &[u32], name: u32) -> usize
     ensures number { result ≡ meaning.number_in names.now name }
     ensures within { result ≤ length names.now }

@@ -3,8 +3,8 @@
 ghost use Rattle.std.specs.Prelude.{◌≡◌, true};
 ghost use Rattle.metal_reader.specs.Small.{is_small};
 
-use metal_clauses::StateName;
 use metal_tree::States;
+use metal_written::StateName;
 
 /// What gives names their numbers.
 #[derive(Clone, Copy)]

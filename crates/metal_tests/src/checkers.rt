@@ -3,7 +3,7 @@
 use bumpalo::Bump;
 use c_lexer::{LexFault, Mode, Tokens, lex};
 use c_tree::Place;
-use metal_reader::{MetalFault, Which, read_machine, rule_place};
+use metal_reader::{MetalFault, Which, read_machine, read_machine_bytes, rule_place};
 use metal_tree::{Dest, Machine, Piece, Source, Target};
 use mx_base::Names;
 use std::alloc::{AllocError, Global};

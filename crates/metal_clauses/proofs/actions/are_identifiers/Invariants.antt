@@ -1,6 +1,6 @@
 use Rattle.std.proofs.Common.{◌≡◌, drop, map}
 use Rattle.metal_grammar.specs.Grammar.{are_identifiers}
-use Rattle.metal_clauses.specs.Written.{identifier_view}
+use Rattle.metal_written.specs.Written.{identifier_view}
 use Rattle.metal_clauses.proofs.actions.are_identifiers.Given as goal
 
 abbrev pub invariant-loop-argument : goal.invariant-loop-argument

@@ -1,8 +1,8 @@
 use Rattle.std.proofs.Common.{◌≡◌, ℕ, ◌+◌, ◌<◌, ◌≤◌, length, List, map, Option, Some, ap, ◌∙◌, sym, arith}
 use Rattle.c_tree.specs.Symbol.{Symbol, symbols_of}
-use Rattle.metal_clauses.specs.declared.written.Identifier.{Identifier}
-use Rattle.metal_clauses.specs.Written.{identifier_view}
-use Rattle.metal_clauses.proofs.InRows.{map-push}
+use Rattle.metal_written.specs.declared.written.Identifier.{Identifier}
+use Rattle.metal_written.specs.Written.{identifier_view}
+use Rattle.metal_written.proofs.Rows.{map-push}
 use Rattle.metal_clauses.proofs.InActions.{arguments-next, arguments-end, arguments-fail, arguments-over}
 use Rattle.metal_clauses.proofs.actions.read_identifiers.Goals as goal
 

@@ -1,7 +1,7 @@
 use Rattle.std.proofs.Common.{◌≡◌, ◌≤◌, ℕ, suc, length, map}
 use Rattle.c_tree.specs.Symbol.{symbols_of}
 use Rattle.metal_grammar.specs.Steps.{read_identifiers}
-use Rattle.metal_clauses.specs.Written.{identifier_view}
+use Rattle.metal_written.specs.Written.{identifier_view}
 use Rattle.metal_clauses.proofs.InActions.{with_arguments}
 use Rattle.metal_clauses.proofs.actions.read_identifiers.Given as goal
 

@@ -1,7 +1,7 @@
 use Rattle.std.proofs.Common.{◌≡◌, ◌+◌, length, map, ap, ◌∙◌, sym, arith}
 use Rattle.c_tree.specs.Symbol.{symbols_of}
-use Rattle.metal_clauses.specs.Written.{literal_view, literal_views}
-use Rattle.metal_clauses.proofs.InRows.{map-push, pushed-some}
+use Rattle.metal_written.specs.Written.{literal_view, literal_views}
+use Rattle.metal_written.proofs.Rows.{map-push, pushed-some}
 use Rattle.metal_clauses.proofs.InActions.{literals-next}
 use Rattle.metal_clauses.proofs.actions.read_literals.Goals as goal
 

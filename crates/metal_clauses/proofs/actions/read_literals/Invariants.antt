@@ -1,7 +1,7 @@
 use Rattle.std.proofs.Common.{◌≡◌, ◌<◌, ◌≤◌, length}
 use Rattle.c_tree.specs.Symbol.{symbols_of}
 use Rattle.metal_grammar.specs.Steps.{read_literals}
-use Rattle.metal_clauses.specs.Written.{literal_views}
+use Rattle.metal_written.specs.Written.{literal_views}
 use Rattle.metal_clauses.proofs.InActions.{with_literals}
 use Rattle.metal_clauses.proofs.actions.read_literals.Given as goal
 

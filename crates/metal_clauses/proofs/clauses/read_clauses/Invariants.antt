@@ -3,8 +3,8 @@ use Rattle.c_tree.specs.Symbol.{symbols_of}
 use Rattle.metal_grammar.specs.Grammar.{nothing_before}
 use Rattle.metal_grammar.specs.Reading.{read_clauses, read_text}
 use Rattle.metal_clauses.specs.Before.{Knows}
-use Rattle.metal_clauses.specs.Sizes.{ClausesHaveSizes, size_of_all}
-use Rattle.metal_clauses.specs.Written.{clause_views}
+use Rattle.metal_written.specs.Sizes.{ClausesHaveSizes, size_of_all}
+use Rattle.metal_written.specs.Written.{clause_views}
 use Rattle.metal_clauses.proofs.InTurn.{behind_all, with_all, left_clauses}
 use Rattle.metal_clauses.proofs.clauses.read_clauses.Given as goal
 

@@ -1,6 +1,6 @@
 use Rattle.std.proofs.Common.{sym, arith}
-use Rattle.metal_clauses.specs.Written.{type_view}
-use Rattle.metal_clauses.proofs.InSizes.{type-size, declared-size}
+use Rattle.metal_written.specs.Written.{type_view}
+use Rattle.metal_written.proofs.InSizes.{type-size, declared-size}
 use Rattle.metal_clauses.proofs.declarations.read_declared.Goals as goal
 
 pub returns-clause-before : goal.returns-clause-before

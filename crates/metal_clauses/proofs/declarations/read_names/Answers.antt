@@ -3,7 +3,7 @@ use Rattle.c_tree.specs.declared.punctuator.Punctuator.TheVariants as marks
 use Rattle.c_tree.specs.Symbol.{Symbol, symbols_of}
 use Rattle.metal_grammar.specs.Written.{Row}
 use Rattle.metal_grammar.specs.Steps.{take_word}
-use Rattle.metal_clauses.specs.Written.{row_from}
+use Rattle.metal_written.specs.Written.{row_from}
 use Rattle.metal_clauses.proofs.InRows.{row-next, row-end, row-fails, row-over}
 use Rattle.metal_clauses.proofs.declarations.read_names.Goals as goal
 

@@ -3,11 +3,12 @@ use Rattle.c_tree.specs.declared.punctuator.Punctuator.TheVariants as marks
 use Rattle.c_tree.specs.Symbol.{Symbol, symbols_of}
 use Rattle.metal_grammar.specs.Written as text
 use Rattle.metal_grammar.specs.Steps.{read_rule}
-use Rattle.metal_clauses.specs.declared.written.WrittenRule.{WrittenRule}
-use Rattle.metal_clauses.specs.Sizes.{HaveSizes}
-use Rattle.metal_clauses.specs.Written.{row_from, no_rule, rule_view, rules_row}
-use Rattle.metal_clauses.proofs.InRows.{map-push, row-next, row-end, row-gives, row-over}
-use Rattle.metal_clauses.proofs.InSizes.{sizes-turn}
+use Rattle.metal_written.specs.declared.written.WrittenRule.{WrittenRule}
+use Rattle.metal_written.specs.Sizes.{HaveSizes}
+use Rattle.metal_written.specs.Written.{row_from, no_rule, rule_view, rules_row}
+use Rattle.metal_written.proofs.Rows.{map-push}
+use Rattle.metal_clauses.proofs.InRows.{row-next, row-end, row-gives, row-over}
+use Rattle.metal_written.proofs.InSizes.{sizes-turn}
 use Rattle.metal_clauses.proofs.sections.read_rules.Goals as goal
 
 pub returns-in_err-rule-clause-found : goal.returns-in_err-rule-clause-found

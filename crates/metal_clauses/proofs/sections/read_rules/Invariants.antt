@@ -2,9 +2,9 @@ use Rattle.std.proofs.Common.{◌≡◌, ◌≤◌, ◌+◌, ◌*◌, suc, [], l
 use Rattle.c_tree.specs.declared.punctuator.Punctuator.TheVariants as marks
 use Rattle.c_tree.specs.Symbol.{symbols_of}
 use Rattle.metal_grammar.specs.Steps.{read_row, read_rule}
-use Rattle.metal_clauses.specs.Sizes.{HaveSizes}
-use Rattle.metal_clauses.specs.Written.{rule_view}
-use Rattle.metal_clauses.proofs.InRows.{ending_with}
+use Rattle.metal_written.specs.Sizes.{HaveSizes}
+use Rattle.metal_written.specs.Written.{rule_view}
+use Rattle.metal_written.proofs.Rows.{ending_with}
 use Rattle.metal_clauses.proofs.sections.read_rules.Given as goal
 
 abbrev pub invariant-loop-fuel : goal.invariant-loop-fuel

@@ -1,6 +1,6 @@
 use Rattle.std.proofs.Common.{◌≡◌, drop}
 use Rattle.c_tree.specs.Symbol.{symbols_of}
-use Rattle.metal_clauses.proofs.Nodes.{before}
+use Rattle.metal_written.proofs.Nodes.{before}
 use Rattle.metal_clauses.proofs.InTypes.{specifiers_of}
 use Rattle.metal_clauses.proofs.types.are_basic.Given as goal
 

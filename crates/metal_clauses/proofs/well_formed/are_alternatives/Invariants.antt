@@ -2,7 +2,7 @@ use Rattle.std.proofs.Common.{◌≡◌, drop, map}
 use Rattle.metal_grammar.specs.Grammar.{Before, each, is_alternative}
 use Rattle.metal_machines.specs.Kept.{all_of}
 use Rattle.metal_clauses.specs.Before.{Knows}
-use Rattle.metal_clauses.specs.Written.{alternative_view, alternatives_row}
+use Rattle.metal_written.specs.Written.{alternative_view, alternatives_row}
 use Rattle.metal_clauses.proofs.well_formed.are_alternatives.Given as goal
 
 abbrev pub invariant-loop-alternative : goal.invariant-loop-alternative

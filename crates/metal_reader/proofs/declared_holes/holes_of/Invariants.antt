@@ -1,6 +1,6 @@
 use Rattle.std.proofs.Common.{◌≡◌, take}
 use Rattle.metal_grammar.specs.Rules.{holes_of}
-use Rattle.metal_clauses.specs.Written.{clause_views}
+use Rattle.metal_written.specs.Written.{clause_views}
 use Rattle.metal_reader.specs.DeclaredHoles.{declared_views}
 use Rattle.metal_reader.proofs.declared_holes.holes_of.Given as goal
 

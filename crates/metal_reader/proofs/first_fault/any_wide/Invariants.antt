@@ -1,7 +1,7 @@
 use Rattle.std.proofs.Common.{◌≡◌, drop, map, Bool, false}
 use Rattle.metal_grammar.specs.Faults.{any_wide}
 use Rattle.metal_grammar.specs.Written.{members}
-use Rattle.metal_clauses.specs.Written.{literal_views, literals_row}
+use Rattle.metal_written.specs.Written.{literal_views, literals_row}
 use Rattle.metal_reader.proofs.first_fault.any_wide.Given as goal
 
 abbrev pub invariant-loop-literal : goal.invariant-loop-literal

@@ -1,7 +1,7 @@
 use Rattle.std.proofs.Common.{◌≡◌, ◌+◌, ◌<◌, ◌^◌, ◌++◌, drop, map}
 use Rattle.metal_grammar.specs.Rules.{declared_names}
-use Rattle.metal_clauses.specs.Sizes.{ClausesHaveSizes, size_of_all}
-use Rattle.metal_clauses.specs.Written.{clause_views}
+use Rattle.metal_written.specs.Sizes.{ClausesHaveSizes, size_of_all}
+use Rattle.metal_written.specs.Written.{clause_views}
 use Rattle.metal_reader.specs.DeclaredNames.{declared_pair}
 use Rattle.metal_reader.proofs.limits.declared_names.Given as goal
 

@@ -1,8 +1,8 @@
 use Rattle.std.proofs.Common.{◌≡◌, ◌+◌, ◌<◌, ◌≤◌, ◌^◌, drop}
 use Rattle.metal_grammar.specs.Faults.{passing}
 use Rattle.metal_reader.specs.Limits.{counting, limit_of}
-use Rattle.metal_clauses.specs.Sizes.{ClausesHaveSizes, size_of_all}
-use Rattle.metal_clauses.specs.Written.{clause_views}
+use Rattle.metal_written.specs.Sizes.{ClausesHaveSizes, size_of_all}
+use Rattle.metal_written.specs.Written.{clause_views}
 use Rattle.metal_reader.proofs.limits.passing.Given as goal
 
 abbrev pub invariant-loop-clause : goal.invariant-loop-clause

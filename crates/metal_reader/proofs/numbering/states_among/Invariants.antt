@@ -1,6 +1,6 @@
 use Rattle.std.proofs.Common.{◌≡◌, take, map}
 use Rattle.metal_grammar.specs.Meaning.{states_among}
-use Rattle.metal_clauses.specs.Written.{state_view}
+use Rattle.metal_written.specs.Written.{state_view}
 use Rattle.metal_reader.proofs.numbering.states_among.Given as goal
 
 abbrev pub invariant-loop-state : goal.invariant-loop-state

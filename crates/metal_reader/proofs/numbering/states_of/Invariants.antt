@@ -1,6 +1,6 @@
 use Rattle.std.proofs.Common.{◌≡◌, true, take, map}
 use Rattle.metal_grammar.specs.Meaning.{states_among}
-use Rattle.metal_clauses.specs.Written.{state_view}
+use Rattle.metal_written.specs.Written.{state_view}
 use Rattle.metal_tree.specs.Parts.{state_names}
 use Rattle.metal_reader.specs.Small.{are_few}
 use Rattle.metal_reader.proofs.numbering.states_of.Given as goal

@@ -1,7 +1,7 @@
 use Rattle.c_tree.specs.Symbol.{symbols_of}
 use Rattle.metal_grammar.proofs.Known.{texts_are_known}
 use Rattle.metal_grammar.proofs.Machines.{texts_are_read}
-use Rattle.metal_clauses.specs.Written.{clause_views}
+use Rattle.metal_written.specs.Written.{clause_views}
 use Rattle.metal_reader.proofs.Refusing.{is_machine, is_refused, refuses, unread}
 use Rattle.metal_reader.proofs.reading.machine_of_tokens.Goals as goal
 

@@ -2,8 +2,8 @@ use Rattle.std.proofs.Common.{◌≡◌, ◌≤◌, ◌+◌, ◌*◌, suc, [], l
 use Rattle.c_tree.specs.declared.punctuator.Punctuator.TheVariants as marks
 use Rattle.c_tree.specs.Symbol.{symbols_of}
 use Rattle.metal_grammar.specs.Steps.{read_row, read_alternative, read_item}
-use Rattle.metal_clauses.specs.Written.{item_view}
-use Rattle.metal_clauses.proofs.InRows.{ending_with}
+use Rattle.metal_written.specs.Written.{item_view}
+use Rattle.metal_written.proofs.Rows.{ending_with}
 use Rattle.metal_clauses.proofs.patterns.PatternReader.read_alternative.Given as goal
 
 abbrev pub invariant-loop-fuel : goal.invariant-loop-fuel

@@ -3,9 +3,10 @@ use Rattle.c_tree.specs.declared.punctuator.Punctuator.TheVariants as marks
 use Rattle.c_tree.specs.Symbol.{Symbol, symbols_of}
 use Rattle.metal_grammar.specs.Written as text
 use Rattle.metal_grammar.specs.Steps.{read_alternative}
-use Rattle.metal_clauses.specs.declared.written.WrittenAlternative.{WrittenAlternative}
-use Rattle.metal_clauses.specs.Written.{row_from, no_alternative, alternative_view, alternatives_row}
-use Rattle.metal_clauses.proofs.InRows.{map-push, row-next, row-end, row-gives, row-over}
+use Rattle.metal_written.specs.declared.written.WrittenAlternative.{WrittenAlternative}
+use Rattle.metal_written.specs.Written.{row_from, no_alternative, alternative_view, alternatives_row}
+use Rattle.metal_written.proofs.Rows.{map-push}
+use Rattle.metal_clauses.proofs.InRows.{row-next, row-end, row-gives, row-over}
 use Rattle.metal_clauses.proofs.patterns.PatternReader.read_alternatives.Goals as goal
 
 pub returns-in_err-alternative-clause-found : goal.returns-in_err-alternative-clause-found

@@ -1,6 +1,6 @@
 use Rattle.std.proofs.Common.{◌≡◌, take, map}
 use Rattle.metal_grammar.specs.Meaning.{item_of}
-use Rattle.metal_clauses.specs.Written as written
+use Rattle.metal_written.specs.Written as written
 use Rattle.metal_tree.specs.Views.{item_view}
 use Rattle.metal_reader.specs.Builders.{numbers}
 use Rattle.metal_reader.proofs.building.Builder.alternative.Given as goal

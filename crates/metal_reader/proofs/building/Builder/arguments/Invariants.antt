@@ -1,6 +1,6 @@
 use Rattle.std.proofs.Common.{◌≡◌, take, map}
 use Rattle.metal_grammar.specs.Meaning.{number_in}
-use Rattle.metal_clauses.specs.Written.{identifier_view}
+use Rattle.metal_written.specs.Written.{identifier_view}
 use Rattle.metal_reader.proofs.building.Builder.arguments.Given as goal
 
 abbrev pub invariant-loop-identifier : goal.invariant-loop-identifier

@@ -1,7 +1,7 @@
 use Rattle.std.proofs.Common.{◌≡◌, take, map}
 use Rattle.metal_grammar.specs.Meaning.{item_of}
 use Rattle.metal_grammar.specs.Written.{members}
-use Rattle.metal_clauses.specs.Written.{alternative_view}
+use Rattle.metal_written.specs.Written.{alternative_view}
 use Rattle.metal_tree.specs.Views.{items_view}
 use Rattle.metal_reader.specs.Builders.{numbers}
 use Rattle.metal_reader.proofs.building.Builder.pattern.Given as goal

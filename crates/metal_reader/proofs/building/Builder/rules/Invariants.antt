@@ -1,6 +1,6 @@
 use Rattle.std.proofs.Common.{◌≡◌, take, drop, map}
 use Rattle.metal_grammar.specs.Meaning.{rule_of}
-use Rattle.metal_clauses.specs.Placed.{placed_views}
+use Rattle.metal_written.specs.Placed.{placed_views}
 use Rattle.metal_tree.specs.Views.{rule_views}
 use Rattle.metal_reader.specs.Builders.{numbers}
 use Rattle.metal_reader.specs.Numbers.{AreNamed, variables_in}

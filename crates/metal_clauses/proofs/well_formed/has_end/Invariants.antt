@@ -1,8 +1,0 @@
-use Rattle.std.proofs.Common.{◌≡◌, drop, map}
-use Rattle.metal_grammar.specs.Grammar.{some, is_end}
-use Rattle.metal_grammar.specs.Faults.{any_of}
-use Rattle.metal_clauses.specs.Written.{item_view, alternative_view}
-use Rattle.metal_clauses.proofs.well_formed.has_end.Given as goal
-
-abbrev pub invariant-loop-item : goal.invariant-loop-item
-invariant-loop-item l = any_of is_end (map item_view (drop l.item-index l.item-items)) ≡ some is_end (alternative_view l.alternative)

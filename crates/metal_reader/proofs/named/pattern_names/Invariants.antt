@@ -1,8 +1,0 @@
-use Rattle.std.proofs.Common.{◌≡◌, drop, map}
-use Rattle.metal_grammar.specs.Faults.{any_of}
-use Rattle.metal_grammar.specs.Rules.{is_among, pattern_names_of, pattern_names}
-use Rattle.metal_clauses.specs.Written.{item_view, alternative_view}
-use Rattle.metal_reader.proofs.named.pattern_names.Given as goal
-
-abbrev pub invariant-loop-item : goal.invariant-loop-item
-invariant-loop-item l = any_of (λ x. is_among (pattern_names_of x) l.name) (map item_view (drop l.item-index l.item-items)) ≡ is_among (pattern_names (alternative_view l.alternative)) l.name

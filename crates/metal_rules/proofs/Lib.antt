@@ -1,0 +1,4 @@
+pub mod Firsts
+pub mod Positions
+pub mod Variables
+pub mod Lacking
