@@ -1,0 +1,10 @@
+pub mod Rows
+pub mod Nodes
+pub mod Any
+pub mod InWords
+pub mod InMessages
+pub mod MessageTexts
+pub mod InPieces
+pub mod InSizes
+pub mod InPlaces
+pub mod InTexts

@@ -1,0 +1,12 @@
+use Rattle.mx_base.specs.Names.{AddsAtMost, HasNoRepeats}
+use Rattle.metal_written.specs.Texts.{AreRight}
+use Rattle.metal_written.proofs.InTexts.{FirstKnown}
+use Rattle.metal_written.proofs.texts.Texts.of_tokens.Given as goal
+
+abbrev pub invariant-loop-token : goal.invariant-loop-token
+invariant-loop-token l = record {
+  right : AreRight l.names l.texts;
+  adds : AddsAtMost l.fn.names l.names l.token-index;
+  distinct : HasNoRepeats l.names;
+  known : FirstKnown l.names l.token-index l.tokens;
+}
