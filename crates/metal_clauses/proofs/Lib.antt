@@ -1,3 +1,4 @@
 pub mod InCuts
 pub mod InTurn
+pub mod InReading
 pub mod InClauses

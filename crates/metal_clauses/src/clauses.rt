@@ -12,7 +12,7 @@ ghost use Rattle.metal_written.specs.Written.{maybe_head_view};
 ghost use Rattle.metal_parts.specs.Steps.{is_nothing};
 
 use crate::contents::read_content;
-use crate::cuts::clause_len;
+use crate::cuts::{clause_len, tokens_behind};
 use crate::fault::ClauseFault;
 use crate::patterns::PatternReader;
 use bumpalo::collections::into_bump_slice;
@@ -156,7 +156,7 @@ pub fn read_clauses<'a>(
     let mut depth = 0;
     let mut more = true;
     while more {
-        let end = from + clause_len(depth, &tokens[from..]);
+        let end = from + clause_len(depth, tokens_behind(from, tokens));
         let clause = read_between(&mut reader, names, &before, file, tokens, from, end)?;
         before.go_behind(names, clause.content)?;
         clauses.push(clause)?;
