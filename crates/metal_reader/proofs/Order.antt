@@ -4,8 +4,8 @@ use Rattle.metal_grammar.specs.FirstFault.{Fault, TooMany, Twice, UnknownCallout
 use Rattle.metal_clauses.specs.Places.{place_in}
 use Rattle.metal_reader.specs.declared.fault.MetalFault.{MetalFault}
 use Rattle.metal_reader.specs.declared.fault.MetalFault.TheVariants as faults
-use Rattle.metal_reader.specs.declared.fault.Which.{Which}
-use Rattle.metal_reader.specs.declared.fault.Which.TheVariants as which
+use Rattle.metal_declared.specs.declared.which.Which.{Which}
+use Rattle.metal_declared.specs.declared.which.Which.TheVariants as which
 use Rattle.metal_reader.specs.Faults.{counted, fault_in}
 use Rattle.metal_reader.specs.FirstFaults.{what}
 use Rattle.metal_rules.specs.RuleFaults.{first_of}

@@ -2,7 +2,7 @@
 use Rattle.metal_grammar.specs.Meaning as meaning
 use Rattle.metal_written.specs.Texts.{AreRight}
 use Rattle.metal_reader.specs.declared.building.Builder.{Builder}
-use Rattle.metal_reader.specs.Numbers.{numbering_in, IsNumbering}
+use Rattle.metal_numbers.specs.Numbers.{numbering_in, IsNumbering}
 
 abbrev pub numbers : Builder → meaning.Numbering
 numbers b = numbering_in b.names.now b.numbering

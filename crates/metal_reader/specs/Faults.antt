@@ -9,8 +9,8 @@ use Rattle.c_lexer.specs.declared.fault.LexFault.TheVariants.{NoMemory}
 use Rattle.metal_grammar.specs.Words.{Spelling}
 use Rattle.metal_grammar.specs.FirstFault as text
 use Rattle.metal_grammar.specs.Definition.{IsFirstFault}
-use Rattle.metal_reader.specs.declared.fault.Which.{Which}
-use Rattle.metal_reader.specs.declared.fault.Which.TheVariants as which
+use Rattle.metal_declared.specs.declared.which.Which.{Which}
+use Rattle.metal_declared.specs.declared.which.Which.TheVariants as which
 use Rattle.metal_reader.specs.declared.fault.MetalFault.{MetalFault}
 use Rattle.metal_reader.specs.declared.fault.MetalFault.TheVariants as faults
 use Rattle.metal_clauses.specs.Places.{place_in}

@@ -7,15 +7,15 @@ ghost use Rattle.metal_written.specs.Placed.{placed_view, placed_views};
 ghost use Rattle.metal_written.specs.Written.{item_view, alternative_view, callout_view, identifier_view, maybe_action_view};
 ghost use Rattle.metal_tree.specs.Views as machines;
 ghost use Rattle.metal_reader.specs.Builders.{numbers, IsRight};
-ghost use Rattle.metal_reader.specs.DeclaredHoles.{declared_views};
+ghost use Rattle.metal_declared.specs.DeclaredHoles.{declared_views};
 ghost use Rattle.metal_reader.specs.Machines.{pieces_view};
-ghost use Rattle.metal_reader.specs.Numbers.{variables_in, IsNamed, AreNamed};
+ghost use Rattle.metal_numbers.specs.Numbers.{variables_in, IsNamed, AreNamed};
 ghost use Rattle.metal_reader.specs.Places.{HasPlaces};
 
-use crate::declared_holes::DeclaredHole;
-use crate::numbers::Numbering;
 use bumpalo::collections::into_bump_slice;
 use c_tree::{Arena, Place};
+use metal_declared::DeclaredHole;
+use metal_numbers::Numbering;
 use metal_rules::with_holes;
 use metal_tree::{Action, Alternative, Callout, CalloutRow, HoleDecl, Item, Pattern, Rule};
 use metal_written::{
@@ -37,7 +37,7 @@ pub(crate) struct Builder<'a, 'n> {
 }
 
 /// The holes of a machine.
-#[tactic(auto, using(crate::proofs::InHoles::additions))]
+#[tactic(auto, using(metal_declared::proofs::InHoles::additions))]
 pub(crate) fn holes_of<'a>(
     arena: &'a Arena,
     holes: &[DeclaredHole<'a>],
@@ -95,7 +95,7 @@ impl<'a, 'n> Builder<'a, 'n> {
     }
 
     /// An alternative.
-    #[tactic(auto, using(crate::proofs::InHoles::additions))]
+    #[tactic(auto, using(metal_declared::proofs::InHoles::additions))]
     fn alternative(
         &self,
         alternative: &WrittenAlternative<'a>,
@@ -113,7 +113,7 @@ impl<'a, 'n> Builder<'a, 'n> {
     }
 
     /// The pattern of a rule.
-    #[tactic(auto, using(crate::proofs::InHoles::additions))]
+    #[tactic(auto, using(metal_declared::proofs::InHoles::additions))]
     fn pattern(&self, alternatives: &[WrittenAlternative<'a>]) -> Result<Pattern<'a>, AllocError>
         requires right { IsRight self.now }
         ensures { IfOk result (λ made. map machines.items_view made.alternatives.now ≡ map (λ items. map (meaning.item_of (numbers self.now)) (members (alternative_view items))) alternatives.now) }
@@ -128,7 +128,7 @@ impl<'a, 'n> Builder<'a, 'n> {
     }
 
     /// The numbers of the holes that these arguments name.
-    #[tactic(auto, using(crate::proofs::InHoles::additions))]
+    #[tactic(auto, using(metal_declared::proofs::InHoles::additions))]
     fn arguments(&self, identifiers: &[Identifier]) -> Result<&'a [u8], AllocError>
         ensures { IfOk result (λ made. made.now ≡ map (λ argument. meaning.number_in self.now.numbering.holes.now argument.1) (map identifier_view identifiers.now)) }
     {
@@ -177,7 +177,7 @@ impl<'a, 'n> Builder<'a, 'n> {
     }
 
     /// The rules of a machine.
-    #[tactic(auto, using(crate::proofs::InHoles::additions))]
+    #[tactic(auto, using(metal_declared::proofs::InHoles::additions))]
     pub(crate) fn rules(&self, rules: &[PlacedRule<'a>]) -> Result<&'a [Rule<'a>], AllocError>
         requires right { IsRight self.now }
         requires named { AreNamed (variables_in self.now.numbering) (placed_views rules.now) }

@@ -7,19 +7,9 @@ ghost use Rattle.metal_reader.specs.ClauseFaults.{metal_fault};
 use c_lexer::LexFault;
 use c_tree::Place;
 use metal_clauses::ClauseFault;
+use metal_declared::Which;
 use std::alloc::{AllocError, AllocFailed};
 use thiserror::Error;
-
-/// What a checker has too many of.
-#[derive(Clone, Copy, Debug, PartialEq, Eq)]
-pub enum Which {
-    /// State variables: at most 8.
-    Variables,
-    /// Holes, the state variables among them: at most 16.
-    Holes,
-    /// Rules: at most 1000.
-    Rules,
-}
 
 /// Why a text is no checker. Of several faults the first one in this order is told, and of rules the first one that has any.
 #[derive(Debug, Drop, Error)]

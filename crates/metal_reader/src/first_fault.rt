@@ -11,15 +11,14 @@ ghost use Rattle.metal_grammar.specs.Faults.{passing};
 ghost use Rattle.metal_grammar.specs.Holes.{DeclaredHole as DeclaredIn};
 ghost use Rattle.metal_grammar.specs.Rules.{variables_among};
 ghost use Rattle.metal_grammar.specs.Written.{members};
-ghost use Rattle.metal_reader.specs.DeclaredHoles.{declared_views};
-ghost use Rattle.metal_reader.specs.Limits.{counting, limit_of};
+ghost use Rattle.metal_declared.specs.DeclaredHoles.{declared_views};
+ghost use Rattle.metal_declared.specs.Limits.{counting, limit_of};
 
 use crate::building::Builder;
-use crate::declared_holes::DeclaredHole;
-use crate::fault::{MetalFault, Which};
-use crate::limits::{passing, repeated};
-use crate::numbering::{names_of, variables_among};
+use crate::fault::MetalFault;
 use c_tree::{Arena, Place};
+use metal_declared::{DeclaredHole, Which, passing, repeated};
+use metal_numbers::{names_of, variables_among};
 use metal_rules::{
     is_bad_source, is_bad_split, lacks_variable, names_two_variables, unknown_callout,
 };
@@ -71,7 +70,7 @@ pub(crate) fn check_declarations(
 }
 
 /// Whether a literal of the message has the prefix `L`.
-#[tactic(auto, using(metal_clauses::proofs::Any::anys))]
+#[tactic(auto, using(metal_written::proofs::Any::anys))]
 fn any_wide(action: WrittenAction<'_>) -> bool
     ensures { result ≡ faults.any_wide (members (literals_row action.entry.literals)) }
 {

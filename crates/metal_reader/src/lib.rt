@@ -2,13 +2,10 @@
 #![tactic(auto)]
 
 mod building;
-mod declared_holes;
 mod fault;
 mod first_fault;
-mod limits;
-mod numbering;
-mod numbers;
 mod reading;
 
-pub use fault::{MetalFault, Which};
+pub use fault::MetalFault;
+pub use metal_declared::Which;
 pub use reading::{read_machine, read_machine_bytes, rule_place};

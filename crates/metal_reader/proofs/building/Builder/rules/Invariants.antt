@@ -3,7 +3,7 @@ use Rattle.metal_grammar.specs.Meaning.{rule_of}
 use Rattle.metal_written.specs.Placed.{placed_views}
 use Rattle.metal_tree.specs.Views.{rule_views}
 use Rattle.metal_reader.specs.Builders.{numbers}
-use Rattle.metal_reader.specs.Numbers.{AreNamed, variables_in}
+use Rattle.metal_numbers.specs.Numbers.{AreNamed, variables_in}
 use Rattle.metal_reader.specs.Places.{HasPlaces}
 use Rattle.metal_reader.proofs.building.Builder.rules.Given as goal
 
