@@ -1,12 +1,15 @@
 -- Names, each where it stands first, as they are collected.
-use Rattle.std.proofs.Common.{◌≡◌, ℕ, suc, ◌+◌, ◌<◌, ◌≤◌, Bool, true, false, cond, not, nat_eq, ◌||◌, List, [], ◌∷◌, ◌++◌, length, get_or, take, map, filter, filter_map, Option, None, Some, ap, refl, ◌∙◌, sym, append-nil, arith}
+use Rattle.std.proofs.Common.{◌≡◌, ℕ, ◌+◌, ◌<◌, Bool, true, false, cond, not, nat_eq, ◌||◌, List, [], ◌∷◌, ◌++◌, length, get_or, take, map, filter, filter_map, Option, None, Some, ap, refl, ◌∙◌, sym, append_assoc, append-nil}
 use Rattle.std.specs.List.{cons_option}
 use Rattle.std.proofs.lemmas.List.{take_more, take_all}
 use Rattle.metal_grammar.specs.Rules.{is_among}
-use Rattle.metal_grammar.specs.Meaning.{distinct}
+use Rattle.metal_grammar.specs.Words.{Spelling}
+use Rattle.metal_grammar.specs.Meaning.{distinct, global_name, name_for, globals_among, states_among}
 use Rattle.metal_grammar.proofs.Numbered.{equal, same, differs}
 use Rattle.metal_numbers.specs.Numbers.{added, added_if}
-use Rattle.metal_declared.proofs.InHoles.{viewed_more}
+use Rattle.metal_written.specs.declared.written.StateName.{StateName}
+use Rattle.metal_written.specs.Written.{state_view}
+use Rattle.metal_declared.proofs.InHoles.{map_joined, viewed_more}
 use Rattle.metal_numbers.proofs.Choosing.{filtered-joined}
 
 -- all names but one
@@ -67,28 +70,15 @@ distinct_more f view xs i d h =
     ∙ ap distinct (found-joined f (map view (take i xs)) (view (get_or xs i d) ∷ []))
     ∙ added-found (filter_map f (map view (take i xs))) (f (view (get_or xs i d)))
 
-pub ruleset distincts = (take_all, distinct_more)
+-- one state more
+pub globals_more : (spelling : Spelling) (states : List StateName) (i : ℕ) (d : StateName) → i < length states
+    → globals_among spelling (map state_view (take (i + 1) states)) ≡ added_if (globals_among spelling (map state_view (take i states))) (global_name spelling (state_view (get_or states i d)))
+globals_more spelling states i d h = distinct_more (global_name spelling) state_view states i d h
 
-few-step : (b : Bool) (x : ℕ) (xs ys : List ℕ) → length xs ≤ length ys → length (cond b (x ∷ xs) xs) ≤ suc (length ys)
-few-step true x xs ys h = omega (arith, h)
-few-step false x xs ys h = omega (arith, h)
+pub states_more : (spelling : Spelling) (states : List StateName) (variable i : ℕ) (d : StateName) → i < length states
+    → states_among spelling (map state_view (take (i + 1) states)) variable ≡ added_if (states_among spelling (map state_view (take i states)) variable) (name_for spelling variable (state_view (get_or states i d)))
+states_more spelling states variable i d h = distinct_more (name_for spelling variable) state_view states i d h
 
-filter-few : (p : ℕ → Bool) (xs : List ℕ) → length (filter p xs) ≤ length xs
-filter-few p [] = omega arith
-filter-few p (x ∷ xs) = few-step (p x) x (filter p xs) xs (filter-few p xs)
+pub ruleset distincts = (take_all, globals_more, states_more)
 
-distinct-few : (xs : List ℕ) → length (distinct xs) ≤ length xs
-distinct-few [] = omega arith
-distinct-few (x ∷ xs) = let a = distinct-few xs in let b = filter-few (λ m. not (nat_eq m x)) (distinct xs) in omega (arith, a, b)
-
-option-few : (o : Option ℕ) (xs : List ℕ) (n : ℕ) → length xs ≤ n → length (cons_option o xs) ≤ suc n
-option-few None xs n h = omega (arith, h)
-option-few (Some k) xs n h = omega (arith, h)
-
-found-few : {A : Type 0} (f : A → Option ℕ) (xs : List A) → length (filter_map f xs) ≤ length xs
-found-few f [] = omega arith
-found-few f (x ∷ xs) = option-few (f x) (filter_map f xs) (length xs) (found-few f xs)
-
--- there are no more of them than of what they were found among
-pub distinct_few : {A : Type 0} (f : A → Option ℕ) (xs : List A) → length (distinct (filter_map f xs)) ≤ length xs
-distinct_few f xs = let a = distinct-few (filter_map f xs) in let b = found-few f xs in omega (arith, a, b)
+pub ruleset mentions = (map_joined, append_assoc)

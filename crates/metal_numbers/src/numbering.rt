@@ -223,7 +223,7 @@ pub fn variables_among<'a>(
 }
 
 /// The states of each of these variables.
-#[tactic(auto, using(metal_declared::proofs::InHoles::additions))]
+#[tactic(auto, using(metal_declared::proofs::InHoles::additions, crate::proofs::FewStates::fews))]
 fn states_of<'a>(
     arena: &'a Arena,
     names: &Names,
