@@ -1,6 +1,5 @@
 pub mod InRows
 pub mod InCuts
-pub mod InWords
 pub mod InActions
 pub mod InTypes
 pub mod Seats

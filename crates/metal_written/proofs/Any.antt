@@ -1,7 +1,6 @@
 -- Whether something holds of one of many, or of all: loops that go over a slice, and the lists that definitions have.
-use Rattle.std.proofs.Common.{◌≡◌, ℕ, zero, suc, ◌+◌, ◌<◌, ◌≤◌, Bool, true, false, nat_eq, ◌||◌, ◌&&◌, List, [], ◌∷◌, ◌++◌, length, get_or, drop, map, flat_map, ap, refl, ◌∙◌, sym, add-one, drop-cons, arith}
+use Rattle.std.proofs.Common.{◌≡◌, ℕ, ◌+◌, ◌<◌, ◌≤◌, Bool, true, false, ◌||◌, ◌&&◌, List, [], ◌∷◌, ◌++◌, length, get_or, drop, map, flat_map, ap, refl, ◌∙◌, sym, add-one, drop-cons, arith}
 use Rattle.std.proofs.lemmas.List.{drop_all, length-map}
-use Rattle.metal_grammar.specs.Written.{Row, lone, row, members}
 use Rattle.metal_grammar.specs.Grammar.{each, some}
 use Rattle.metal_grammar.specs.Faults.{any_of}
 use Rattle.metal_grammar.specs.Rules.{is_among}

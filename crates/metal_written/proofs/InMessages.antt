@@ -1,8 +1,7 @@
 -- The bytes and pieces of messages, one byte after the other.
 use Rattle.std.proofs.Common.{◌≡◌, ℕ, suc, ◌+◌, ◌<◌, ◌≤◌, Bool, true, false, cond, not, nat_eq, ◌&&◌, ◌||◌, List, [], ◌∷◌, ◌++◌, length, get_or, drop, map, flat_map, Option, None, Some, ap, refl, ◌∙◌, sym, add-one, drop-cons}
 use Rattle.std.proofs.lemmas.List.{drop_all}
-use Rattle.std.specs.Option.{option_map}
-use Rattle.metal_grammar.specs.Message.{push, escape, unescaped}
+use Rattle.metal_grammar.specs.Message.{push, unescaped}
 use Rattle.metal_written.specs.Messages.{is_bad, counts}
 use Rattle.metal_written.proofs.Any.{mapped-drop, mapped-end}
 

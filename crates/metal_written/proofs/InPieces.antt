@@ -1,5 +1,5 @@
 -- The pieces of messages, one byte after the other.
-use Rattle.std.proofs.Common.{◌≡◌, ℕ, suc, ◌+◌, ◌<◌, ◌≤◌, Bool, true, false, cond, not, nat_eq, ◌&&◌, ◌||◌, List, [], ◌∷◌, ◌++◌, length, get_or, drop, map, Option, None, Some, ap, refl, ◌∙◌, sym, add-one, drop-cons, arith}
+use Rattle.std.proofs.Common.{◌≡◌, ℕ, suc, ◌+◌, ◌<◌, ◌≤◌, Bool, true, false, cond, not, nat_eq, ◌==◌, ◌&&◌, List, [], ◌∷◌, ◌++◌, length, get_or, drop, Option, None, Some, ap, refl, ◌∙◌, sym, subst, add-one, drop-cons, arith}
 use Rattle.std.proofs.lemmas.Bool.Decides.{nat_tests}
 use Rattle.std.proofs.lemmas.List.{drop_all}
 use Rattle.std.specs.Option.{option_map}
@@ -124,3 +124,38 @@ pieces-end behind text hs i pieces bytes whole h w =
     by : (b : Bool) → behind_pieces pieces bytes (cond b (Some []) None) ≡ cond b (Some (ended pieces bytes)) None
     by true = ap Some (ended-none pieces bytes)
     by false = refl
+
+-- a byte that may stand there, and one that may not
+pub text-good : (behind may next : Bool) (text hs left : List ℕ) (argument : Option ℕ) (i : ℕ) (old new : List Piece) (bytes new_bytes : List ℕ) (whole : Option (List Piece)) → i < length text
+    → argument ≡ first_of hs → may ≡ true
+    → IsStep old bytes new new_bytes may (directive_of behind argument (get_or text i 0)) → left ≡ cond (behind && nat_eq (get_or text i 0) 115) (later_arguments hs) hs
+    → next ≡ (not behind && nat_eq (get_or text i 0) 37)
+    → behind_pieces old bytes (pieces_from behind (drop i text) hs) ≡ whole
+    → behind_pieces new new_bytes (pieces_from next (drop (i + 1) text) left) ≡ whole
+text-good behind may next text hs left argument i old new bytes new_bytes whole h a m s l n w =
+    let step : IsStep old bytes new new_bytes true (directive_of behind (first_of hs) (get_or text i 0))
+    = subst (λ b. IsStep old bytes new new_bytes b (directive_of behind (first_of hs) (get_or text i 0))) m (subst (λ x. IsStep old bytes new new_bytes may (directive_of behind x (get_or text i 0))) a s) in
+    text-next behind true next text hs left i 0 old new bytes new_bytes whole h step l n w
+
+pub text-bad : (behind may : Bool) (text hs : List ℕ) (argument : Option ℕ) (i : ℕ) (old new : List Piece) (bytes new_bytes : List ℕ) (whole : Option (List Piece)) → i < length text
+    → argument ≡ first_of hs → may ≡ false
+    → IsStep old bytes new new_bytes may (directive_of behind argument (get_or text i 0))
+    → behind_pieces old bytes (pieces_from behind (drop i text) hs) ≡ whole
+    → None ≡ whole
+text-bad behind may text hs argument i old new bytes new_bytes whole h a m s w =
+    let step : IsStep old bytes new new_bytes false (directive_of behind (first_of hs) (get_or text i 0))
+    = subst (λ b. IsStep old bytes new new_bytes b (directive_of behind (first_of hs) (get_or text i 0))) m (subst (λ x. IsStep old bytes new new_bytes may (directive_of behind x (get_or text i 0))) a s) in
+    text-next behind false (not behind && nat_eq (get_or text i 0) 37) text hs (cond (behind && nat_eq (get_or text i 0) 115) (later_arguments hs) hs) i 0 old new bytes new_bytes whole h step refl refl w
+
+-- behind all bytes
+pub pieces-done : (behind : Bool) (text hs : List ℕ) (i : ℕ) (pieces : List Piece) (bytes : List ℕ) (whole : Option (List Piece)) → length text ≤ i
+    → behind ≡ false → are_none_left hs ≡ true
+    → behind_pieces pieces bytes (pieces_from behind (drop i text) hs) ≡ whole
+    → Some (ended pieces bytes) ≡ whole
+pieces-done behind text hs i pieces bytes whole h b n w =
+    let by : (x y : Bool) → x ≡ false → y ≡ true → cond (not x && y) (Some (ended pieces bytes)) None ≡ Some (ended pieces bytes) = λ x y f g. rw (f, g) refl in
+    sym (pieces-end behind text hs i pieces bytes whole h w ∙ by behind (are_none_left hs) b n)
+
+pub none-left : (hs : List ℕ) → (length hs == 0) ≡ true → are_none_left hs ≡ true
+none-left [] h = refl
+none-left (b ∷ hs) h = let e : (length (b ∷ hs) == 0) ≡ false = grind arith in cc

@@ -54,11 +54,11 @@ pub record RulesLeft (rs : List WrittenRule) (i number position : ℕ) (source :
   pub room_left : position + size_of_rules (drop i rs) ≤ room
   pub count_left : number + length (drop i rs) ≡ count
 
-pub rules-turn : (rs : List WrittenRule) (i : ℕ) (d : WrittenRule) (number position : ℕ) (source : text.StateName) (ps pushed : List PlacedRule) (p : PlacedRule) (whole : List rules.PlacedRule) (room count : ℕ) → i < length rs
+rules-turn-at : (rs : List WrittenRule) (i : ℕ) (d : WrittenRule) (number position : ℕ) (source : text.StateName) (ps pushed : List PlacedRule) (p : PlacedRule) (whole : List rules.PlacedRule) (room count : ℕ) → i < length rs
     → placed_view p ≡ record { number = number; position = position; source = source; rule = rule_view (get_or rs i d) } → pushed ≡ ps ++ (p ∷ [])
     → placed_views ps ++ rules_in number position source (map rule_view (drop i rs)) ≡ whole → HaveSizes (drop i rs) → position + size_of_rules (drop i rs) ≤ room → number + length (drop i rs) ≡ count
     → RulesLeft rs (i + 1) (number + 1) (position + ((get_or rs i d).size + 1)) source pushed whole room count
-rules-turn rs i d number position source ps pushed p whole room count h e n w z r k =
+rules-turn-at rs i d number position source ps pushed p whole room count h e n w z r k =
     let here = rules-sizes-next rs i d h z in
     let total = rules-total-next rs i d h in
     let a = length-drop i rs in
@@ -69,6 +69,17 @@ rules-turn rs i d number position source ps pushed p whole room count h e n w z 
       room_left = omega (arith, total, r);
       count_left = omega (arith, k, a, b, h);
     }
+
+-- the same where the rule that stands there is known
+pub rules-turn : (rs : List WrittenRule) (i : ℕ) (x : WrittenRule) (number position : ℕ) (source : text.StateName) (ps pushed : List PlacedRule) (p : PlacedRule) (whole : List rules.PlacedRule) (room count : ℕ) → i < length rs → x ≡ get_or rs i x
+    → placed_view p ≡ record { number = number; position = position; source = source; rule = rule_view x } → pushed ≡ ps ++ (p ∷ [])
+    → placed_views ps ++ rules_in number position source (map rule_view (drop i rs)) ≡ whole → HaveSizes (drop i rs) → position + size_of_rules (drop i rs) ≤ room → number + length (drop i rs) ≡ count
+    → RulesLeft rs (i + 1) (number + 1) (position + (x.size + 1)) source pushed whole room count
+rules-turn rs i x number position source ps pushed p whole room count h e =
+    subst (λ y. placed_view p ≡ record { number = number; position = position; source = source; rule = rule_view y } → pushed ≡ ps ++ (p ∷ [])
+    → placed_views ps ++ rules_in number position source (map rule_view (drop i rs)) ≡ whole → HaveSizes (drop i rs) → position + size_of_rules (drop i rs) ≤ room → number + length (drop i rs) ≡ count
+    → RulesLeft rs (i + 1) (number + 1) (position + (y.size + 1)) source pushed whole room count) (sym e)
+    (rules-turn-at rs i x number position source ps pushed p whole room count h)
 
 pub rules-end : (rs : List WrittenRule) (i number position : ℕ) (source : text.StateName) (ps : List PlacedRule) (whole : List rules.PlacedRule) → length rs ≤ i
     → placed_views ps ++ rules_in number position source (map rule_view (drop i rs)) ≡ whole → placed_views ps ≡ whole
@@ -141,18 +152,21 @@ pub record ClauseHere (c : Clause) (number position : ℕ) : Type 0 where
   pub sizes : ClauseHasSizes c
   pub room : position + c.size < 2 ^ 31
 
-pub clause-here : (cs : List Clause) (i : ℕ) (d : Clause) (number position : ℕ) (ps : List PlacedRule) (whole : List rules.PlacedRule) → i < length cs → ClausesLeft cs i number position ps whole → ClauseHere (get_or cs i d) number position
-clause-here cs i d number position ps whole h l =
+clause-here-at : (cs : List Clause) (i : ℕ) (d : Clause) (number position : ℕ) (ps : List PlacedRule) (whole : List rules.PlacedRule) → i < length cs → ClausesLeft cs i number position ps whole → ClauseHere (get_or cs i d) number position
+clause-here-at cs i d number position ps whole h l =
     let s = sizes-next cs i d h l.sizes in
     let t = total-next cs i d h in
     let r = l.room in
     record { few = (few-next cs i d number position h s.0.0 l.few).0; sizes = s.0; room = omega (arith, t, r) }
 
-pub clause-turn : (cs : List Clause) (i : ℕ) (d : Clause) (number next position : ℕ) (ps new : List PlacedRule) (whole : List rules.PlacedRule) → i < length cs → ClausesLeft cs i number position ps whole
+pub clause-here : (cs : List Clause) (i : ℕ) (x : Clause) (number position : ℕ) (ps : List PlacedRule) (whole : List rules.PlacedRule) → i < length cs → x ≡ get_or cs i x → ClausesLeft cs i number position ps whole → ClauseHere x number position
+clause-here cs i x number position ps whole h e l = subst (λ y. ClauseHere y number position) (sym e) (clause-here-at cs i x number position ps whole h l)
+
+clause-turn-at : (cs : List Clause) (i : ℕ) (d : Clause) (number next position : ℕ) (ps new : List PlacedRule) (whole : List rules.PlacedRule) → i < length cs → ClausesLeft cs i number position ps whole
     → next ≡ number + rules.count_of_rules (content_view (get_or cs i d).content)
     → placed_views new ≡ placed_views ps ++ rules.rules_of_content number (rules.behind_head position (clause_view (get_or cs i d))) (content_view (get_or cs i d).content)
     → ClausesLeft cs (i + 1) next (position + (get_or cs i d).size) new whole
-clause-turn cs i d number next position ps new whole h l n p =
+clause-turn-at cs i d number next position ps new whole h l n p =
     let s = sizes-next cs i d h l.sizes in
     let t = total-next cs i d h in
     let r = l.room in
@@ -162,6 +176,16 @@ clause-turn cs i d number next position ps new whole h l n p =
       sizes = s.1;
       room = omega (arith, t, r);
     })
+
+pub clause-turn : (cs : List Clause) (i : ℕ) (x : Clause) (number next position : ℕ) (ps new : List PlacedRule) (whole : List rules.PlacedRule) → i < length cs → x ≡ get_or cs i x → ClausesLeft cs i number position ps whole
+    → next ≡ number + rules.count_of_rules (content_view x.content)
+    → placed_views new ≡ placed_views ps ++ rules.rules_of_content number (rules.behind_head position (clause_view x)) (content_view x.content)
+    → ClausesLeft cs (i + 1) next (position + x.size) new whole
+clause-turn cs i x number next position ps new whole h e l =
+    subst (λ y. next ≡ number + rules.count_of_rules (content_view y.content)
+    → placed_views new ≡ placed_views ps ++ rules.rules_of_content number (rules.behind_head position (clause_view y)) (content_view y.content)
+    → ClausesLeft cs (i + 1) next (position + y.size) new whole) (sym e)
+    (clause-turn-at cs i x number next position ps new whole h l)
 
 -- a number that is given is also another that is the same
 pub number-moved : {E : Type 0} (r : Result ℕ E) (m n : ℕ) → m ≡ n → IfOk r (λ x. x ≡ m) → IfOk r (λ x. x ≡ n)

@@ -1,7 +1,9 @@
 pub mod Rows
 pub mod Nodes
 pub mod Any
+pub mod InWords
 pub mod InMessages
+pub mod MessageTexts
 pub mod InPieces
 pub mod InSizes
 pub mod InPlaces

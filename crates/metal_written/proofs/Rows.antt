@@ -1,5 +1,5 @@
 -- One or more things, one after the other.
-use Rattle.std.proofs.Common.{◌≡◌, ℕ, ◌<◌, List, [], ◌∷◌, ◌++◌, map, length, Option, None, Some, ap, refl, sym, subst, arith}
+use Rattle.std.proofs.Common.{◌≡◌, ◌<◌, List, [], ◌∷◌, ◌++◌, map, length, Option, None, Some, ap, refl, sym, subst, arith}
 use Rattle.c_tree.specs.Symbol.{Symbol}
 use Rattle.metal_grammar.specs.Written.{Row, lone, row, members}
 use Rattle.metal_written.specs.Written.{row_from}

@@ -1,5 +1,6 @@
-use Rattle.std.proofs.Common.{◌≡◌, ◌<◌, ◌++◌, length, map, ap, refl, sym, arith}
+use Rattle.std.proofs.Common.{◌<◌, ◌++◌, length, map, ap, refl, sym, arith}
 use Rattle.std.proofs.lemmas.List.{length-map}
+use Rattle.metal_written.specs.declared.placed.PlacedRule.{PlacedRule}
 use Rattle.metal_written.specs.Placed.{placed_views}
 use Rattle.metal_written.specs.Written.{no_rule, rule_view, state_view}
 use Rattle.metal_written.proofs.InPlaces.{rules-row, rules-turn}
@@ -20,5 +21,6 @@ loop-rule-init c =
 pub loop-rule-preserved : goal.loop-rule-preserved
 loop-rule-preserved c =
     let l = c.loop-rule in
-    let t = rules-turn c.args.section.rules.now l.rule-index _ l.number l.at (state_view c.args.section.source) l.placed.items c.push.new.self.items _ _ _ _ (omega arith) refl c.in_ok-push.ensures.items l.invariant.placed l.invariant.sizes l.invariant.room l.invariant.count in
+    let placed : PlacedRule = record { number = l.number; position = l.at; source = c.args.section.source; rule = c.rule-item.result } in
+    let t = rules-turn c.args.section.rules.now l.rule-index c.rule-item.result l.number l.at (state_view c.args.section.source) l.placed.items c.push.new.self.items placed _ _ _ (omega arith) c.rule-item.is refl c.in_ok-push.ensures.items l.invariant.placed l.invariant.sizes l.invariant.room l.invariant.count in
     record { placed = t.placed; sizes = t.sizes; room = t.room_left; count = t.count_left }

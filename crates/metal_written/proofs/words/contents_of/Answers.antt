@@ -1,6 +1,6 @@
 use Rattle.std.proofs.Common.{◌≡◌, ◌+◌, ◌-◌, cond, length, drop, ap, ◌∙◌, arith, length-drop}
 use Rattle.metal_grammar.specs.Words.{all_but_last}
-use Rattle.metal_clauses.proofs.InWords.{all-but-last}
+use Rattle.metal_written.proofs.InWords.{all-but-last}
 use Rattle.metal_written.proofs.words.contents_of.Goals as goal
 
 pub returns : goal.returns

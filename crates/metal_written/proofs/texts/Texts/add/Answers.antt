@@ -1,4 +1,4 @@
-use Rattle.std.proofs.Common.{◌≡◌, ℕ, cond, ap, ◌∙◌, subst, sym}
+use Rattle.std.proofs.Common.{ℕ, cond, ◌∙◌, subst, sym}
 use Rattle.indexmap.specs.IndexMap.{get}
 use Rattle.mx_base.specs.Names.{IsNumberOf}
 use Rattle.mx_base.proofs.NameLaws.{adds_none}

@@ -1,4 +1,4 @@
-use Rattle.std.proofs.Common.{arith, ◌+◌}
+use Rattle.std.proofs.Common.{arith}
 use Rattle.mx_base.proofs.NameLaws.{adds_none, adds_both, length_adds}
 use Rattle.metal_written.proofs.InTexts.{first-grows, first-next, first-all, below-at, below-grows}
 use Rattle.metal_written.proofs.texts.Texts.of_tokens.Goals as goal
