@@ -30,12 +30,15 @@ few-at (s ∷ ss) zero d h l = below (length s.names.now) 3000 (few-both (nat_le
 few-at (s ∷ ss) (suc i) d h l = few-at ss i d (few-both (nat_le (length s.names.now) 3000) (are_few ss) h).1 (omega (arith, l))
 
 -- the numbers of states fit
-pub few_states : (n : Numbering) (i : ℕ) (d : States) → i < length n.states.now → length (get_or n.states.now i d).names.now ≤ 3000
+few_states : (n : Numbering) (i : ℕ) (d : States) → i < length n.states.now → length (get_or n.states.now i d).names.now ≤ 3000
 few_states n i d l =
     let holes = nat_le (length n.holes.now) 16 in
     let globals = nat_le (length n.globals.now) 3000 in
     let states = are_few n.states.now in
     few-at n.states.now i d (few-both (holes && globals) states n.small).1 l
+
+pub state_fits : (n : Numbering) (i k : ℕ) (d : States) → i < length n.states.now → k ≤ length (get_or n.states.now i d).names.now → k ≤ 3000
+state_fits n i k d l h = let few = few_states n i d l in omega (arith, few, h)
 
 within : (a b : ℕ) → a ≤ b → nat_le a b ≡ true
 within a b h = grind (arith, nat_tests)

@@ -18,14 +18,15 @@ use crate::numbers::Numbering;
 use bumpalo::collections::into_bump_slice;
 use c_tree::Arena;
 use metal_declared::DeclaredHole;
-use metal_rules::{is_stop, number_among};
+use metal_names::number_among;
+use metal_rules::is_stop;
 use metal_tree::{Dest, Source, States, Target};
 use metal_written::{Destination, PlacedRule, StateName, is_spelled};
 use mx_base::Names;
 use std::alloc::AllocError;
 
 /// Adds a name, unless it is there.
-#[tactic(auto, using(metal_rules::proofs::Positions::among))]
+#[tactic(auto, using(metal_names::proofs::Positions::among))]
 fn add<'a>(names: &mut Vec<u32, &'a Arena>, name: u32) -> Result<(), AllocError>
     ensures { IfOk result (λ _. names.new.items ≡ added names.old.items name) }
 {
@@ -268,7 +269,7 @@ pub fn numbering_of<'a>(
 }
 
 /// The number of a name among these, and 0 where it is none of them.
-#[tactic(auto, using(metal_rules::proofs::Positions::within))]
+#[tactic(auto, using(metal_names::proofs::Positions::within))]
 fn number_in(names: &[u32], name: u32) -> usize
     ensures number { result ≡ meaning.number_in names.now name }
     ensures within { result ≤ length names.now }

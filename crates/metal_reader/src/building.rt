@@ -16,7 +16,7 @@ use bumpalo::collections::into_bump_slice;
 use c_tree::{Arena, Place};
 use metal_declared::DeclaredHole;
 use metal_numbers::Numbering;
-use metal_rules::with_holes;
+use metal_names::with_holes;
 use metal_tree::{Action, Alternative, Callout, CalloutRow, HoleDecl, Item, Pattern, Rule};
 use metal_written::{
     Identifier, PlacedRule, Texts, WrittenAction, WrittenAlternative, WrittenCallout, WrittenItem,

@@ -1,4 +1,3 @@
 pub mod Firsts
-pub mod Positions
 pub mod Variables
 pub mod Lacking

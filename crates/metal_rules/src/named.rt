@@ -5,7 +5,7 @@ ghost use Rattle.metal_grammar.specs.Rules.{is_among, variable_of, targets_of, p
 ghost use Rattle.metal_written.specs.Placed.{placed_view};
 ghost use Rattle.metal_written.specs.Written.{item_view, alternative_view, rule_view, state_view, destination_view, maybe_action_view};
 
-use crate::mentions::mentions;
+use metal_names::mentions;
 use metal_written::{
     Destination, PlacedRule, StateName, WrittenAction, WrittenAlternative, WrittenItem,
     WrittenRule, hole_asked,
@@ -22,7 +22,7 @@ pub fn is_of(state: StateName, variable: u32) -> bool
 }
 
 /// Whether a target is a state of this variable.
-#[tactic(auto, using(metal_clauses::proofs::Any::appended))]
+#[tactic(auto, using(metal_written::proofs::Any::appended))]
 fn leads_to(destination: Destination, variable: u32) -> bool
     ensures { result ≡ is_among (flat_map variable_of (targets_of (destination_view destination))) variable }
 {
@@ -37,7 +37,7 @@ fn leads_to(destination: Destination, variable: u32) -> bool
 }
 
 /// Whether the source or a target is a state of this variable.
-#[tactic(auto, using(metal_clauses::proofs::Any::appended))]
+#[tactic(auto, using(metal_written::proofs::Any::appended))]
 pub fn states_name(rule: &PlacedRule, variable: u32) -> bool
     ensures { result ≡ is_among (variables_of_states (placed_view rule.now)) variable }
 {
@@ -55,7 +55,7 @@ fn item_mentions(item: &WrittenItem, name: u32) -> bool
 }
 
 /// Whether a pattern of the alternative names this.
-#[tactic(auto, using(metal_clauses::proofs::Any::anys))]
+#[tactic(auto, using(metal_written::proofs::Any::anys))]
 pub fn pattern_names(alternative: &WrittenAlternative, name: u32) -> bool
     ensures { result ≡ is_among (pattern_names (alternative_view alternative.now)) name }
 {
@@ -81,7 +81,7 @@ fn item_asks(item: &WrittenItem, name: u32) -> bool
 }
 
 /// Whether a callout of the alternative asks of this.
-#[tactic(auto, using(metal_clauses::proofs::Any::anys))]
+#[tactic(auto, using(metal_written::proofs::Any::anys))]
 pub fn callout_names(alternative: &WrittenAlternative, name: u32) -> bool
     ensures { result ≡ is_among (callout_names (alternative_view alternative.now)) name }
 {
@@ -94,7 +94,7 @@ pub fn callout_names(alternative: &WrittenAlternative, name: u32) -> bool
 }
 
 /// Whether a pattern of the rule names this.
-#[tactic(auto, using(metal_clauses::proofs::Any::anys))]
+#[tactic(auto, using(metal_written::proofs::Any::anys))]
 fn some_pattern_names(rule: &WrittenRule, name: u32) -> bool
     ensures { result ≡ is_among (all_pattern_names (rule_view rule.now)) name }
 {
@@ -107,7 +107,7 @@ fn some_pattern_names(rule: &WrittenRule, name: u32) -> bool
 }
 
 /// Whether a callout of the rule asks of this.
-#[tactic(auto, using(metal_clauses::proofs::Any::anys))]
+#[tactic(auto, using(metal_written::proofs::Any::anys))]
 pub fn some_callout_names(rule: &WrittenRule, name: u32) -> bool
     ensures { result ≡ is_among (all_callout_names (rule_view rule.now)) name }
 {
@@ -120,7 +120,7 @@ pub fn some_callout_names(rule: &WrittenRule, name: u32) -> bool
 }
 
 /// Whether the message of an action asks of this.
-#[tactic(auto, using(metal_clauses::proofs::Any::anys))]
+#[tactic(auto, using(metal_written::proofs::Any::anys))]
 pub fn action_names(action: Option<WrittenAction>, name: u32) -> bool
     ensures { result ≡ is_among (action_names_of (maybe_action_view action.entry)) name }
 {
@@ -136,7 +136,7 @@ pub fn action_names(action: Option<WrittenAction>, name: u32) -> bool
 }
 
 /// Whether the rule names this outside its states.
-#[tactic(auto, using(metal_clauses::proofs::Any::appended))]
+#[tactic(auto, using(metal_written::proofs::Any::appended))]
 pub fn names_outside(rule: &WrittenRule, name: u32) -> bool
     ensures { result ≡ is_among (all_pattern_names (rule_view rule.now) ++ all_callout_names (rule_view rule.now) ++ action_names_of (maybe_action_view rule.now.action)) name }
 {

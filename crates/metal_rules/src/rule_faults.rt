@@ -8,7 +8,7 @@ ghost use Rattle.metal_written.specs.Placed.{placed_view};
 ghost use Rattle.metal_rules.specs.RuleFaults.{first_of, needed, some_lacks, lacks_other};
 ghost use Rattle.metal_written.specs.Written.{item_view, rule_view, state_view, destination_view, alternative_view};
 
-use crate::holes::number_among;
+use metal_names::number_among;
 use crate::named::{
     action_names, callout_names, is_of, names_outside, pattern_names, some_callout_names,
     states_name,
@@ -62,7 +62,7 @@ pub fn unknown_callout(names: &Names, rule: &WrittenRule) -> Option<u32>
 }
 
 /// Whether a rule names this, in its states or outside them.
-#[tactic(auto, using(metal_clauses::proofs::Any::appended))]
+#[tactic(auto, using(metal_written::proofs::Any::appended))]
 fn rule_names(rule: &PlacedRule, name: u32) -> bool
     ensures { result ≡ is_among (faults.mentioned (placed_view rule.now)) name }
 {
@@ -117,7 +117,7 @@ fn are_alike(state: StateName, other: StateName) -> bool
 }
 
 /// Whether an alternative of the rule stands at the end of a path.
-#[tactic(auto, using(metal_clauses::proofs::Any::anys))]
+#[tactic(auto, using(metal_written::proofs::Any::anys))]
 fn some_end(rule: &WrittenRule) -> bool
     ensures { result ≡ faults.some_end (rule_view rule.now) }
 {
@@ -247,7 +247,7 @@ pub fn is_bad_source(names: &Names, variables: &[u32], rule: &PlacedRule) -> boo
 }
 
 /// Whether the states, a callout or the message of a rule need what this names.
-#[tactic(auto, using(metal_clauses::proofs::Any::appended))]
+#[tactic(auto, using(metal_written::proofs::Any::appended))]
 fn needs(rule: &PlacedRule, name: u32) -> bool
     ensures { result ≡ is_among (needed (placed_view rule.now)) name }
 {
@@ -264,7 +264,7 @@ fn is_excused(source: StateName, alternative: &WrittenAlternative, name: u32) ->
 }
 
 /// Whether an alternative neither binds this name, which `is_hole` says is a hole or not, nor needs to.
-#[tactic(auto, using(metal_clauses::proofs::Any::anys))]
+#[tactic(auto, using(metal_written::proofs::Any::anys))]
 fn some_lacks(rule: &PlacedRule, is_hole: bool, name: u32) -> bool
     ensures { result ≡ some_lacks is_hole (placed_view rule.now) name }
 {
@@ -291,7 +291,7 @@ fn item_asks_of_other(holes: &[u32], item: &WrittenItem) -> bool
 }
 
 /// Whether a callout of the alternative asks of a name that is no hole.
-#[tactic(auto, using(metal_clauses::proofs::Any::anys))]
+#[tactic(auto, using(metal_written::proofs::Any::anys))]
 fn alternative_asks_of_other(holes: &[u32], alternative: &WrittenAlternative) -> bool
     ensures { result ≡ faults.any_of (λ name. not (is_among holes.now name)) (callout_names (alternative_view alternative.now)) }
 {
@@ -304,7 +304,7 @@ fn alternative_asks_of_other(holes: &[u32], alternative: &WrittenAlternative) ->
 }
 
 /// Whether a callout of the rule asks of a name that is no hole. The alternative that asks doesn't bind it.
-#[tactic(auto, using(metal_clauses::proofs::Any::anys))]
+#[tactic(auto, using(metal_written::proofs::Any::anys))]
 fn asks_of_other(holes: &[u32], rule: &WrittenRule) -> bool
     ensures { result ≡ faults.any_of (λ name. not (is_among holes.now name)) (all_callout_names (rule_view rule.now)) }
 {

@@ -19,9 +19,9 @@ loop-variable-preserved c =
     let few = subst (λ names. length names ≤ 3000) (sym here) (states_few c.args.names.now mentioned _ c.requires) in
     record {
       states =
-          ap (map state_names) c.push.ensures.items ∙ map_joined state_names items (record { names = found } ∷ [])
+          ap (map state_names) c.in_ok-push.ensures.items ∙ map_joined state_names items (record { names = found } ∷ [])
           ∙ ap (λ ys. ys ++ (found.now ∷ [])) c.loop-variable.invariant.states
           ∙ ap (λ names. map among (take index variables) ++ (names ∷ [])) here
           ∙ sym (viewed_more among variables index _ c.loop-variable-test.true);
-      few = ap are_few c.push.ensures.items ∙ few_push items (record { names = found }) c.loop-variable.invariant.few few;
+      few = ap are_few c.in_ok-push.ensures.items ∙ few_push items (record { names = found }) c.loop-variable.invariant.few few;
     }

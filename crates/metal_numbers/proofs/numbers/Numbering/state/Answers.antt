@@ -1,15 +1,14 @@
 use Rattle.std.proofs.Common.{◌≡◌, ◌≤◌, ◌<◌, ap, ◌∙◌, sym, subst, arith, slice_index_or}
 use Rattle.metal_grammar.specs.Meaning.{number_in}
 use Rattle.metal_tree.specs.Parts.{state_names}
-use Rattle.metal_numbers.proofs.FewStates.{few_states}
+use Rattle.metal_numbers.proofs.FewStates.{state_fits}
 use Rattle.metal_numbers.proofs.States.{state_at, state_within}
 use Rattle.metal_numbers.proofs.numbers.Numbering.state.Goals as goal
 
 pub overflow_cast-result : goal.overflow_cast-result
 overflow_cast-result c =
-    let few = few_states c.args.self.now c.number_in-number.result _ c.if-number-self.true in
-    let within = c.number_in.ensures.within in
-    omega (arith, few, within)
+    let low = state_fits c.args.self.now c.number_in-number.result c.number_in.result _ c.if-number-self.true c.number_in.ensures.within in
+    omega (arith, low)
 
 pub returns-then-number-self : goal.returns-then-number-self
 returns-then-number-self c =

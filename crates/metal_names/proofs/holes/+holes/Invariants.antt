@@ -3,7 +3,7 @@ use Rattle.c_tree.specs.Forget.{list_view, view_all}
 use Rattle.metal_grammar.specs.Meaning.{number_among}
 use Rattle.metal_grammar.specs.Patterns.{all_with_holes, path_with_holes}
 use Rattle.metal_written.proofs.Nodes.{before}
-use Rattle.metal_rules.proofs.holes.+holes.Given as goal
+use Rattle.metal_names.proofs.holes.+holes.Given as goal
 
 abbrev pub invariant-all_with_holes-loop-tree : goal.invariant-all_with_holes-loop-tree
 invariant-all_with_holes-loop-tree l = before l.all.items (all_with_holes (number_among l.holes) (view_all (drop l.tree-index l.tree-items))) ≡ all_with_holes (number_among l.holes) (list_view l.trees)

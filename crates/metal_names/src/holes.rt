@@ -43,7 +43,7 @@ fn name_as_hole<'a>(holes: &[u32], name: &'a Token) -> Primary<'a>
 
 /// The expression with its holes, of which these are the names, fewer than 256. Ids and places stay.
 #[cycle(holes)]
-#[tactic(auto, using(metal_clauses::proofs::Nodes::lists))]
+#[tactic(auto, using(metal_written::proofs::Nodes::lists))]
 pub fn with_holes<'a>(
     arena: &'a Arena,
     holes: &[u32],
@@ -57,7 +57,7 @@ pub fn with_holes<'a>(
 }
 
 #[cycle(holes)]
-#[tactic(auto, using(metal_clauses::proofs::Nodes::lists))]
+#[tactic(auto, using(metal_written::proofs::Nodes::lists))]
 fn node_with_holes<'a>(
     arena: &'a Arena,
     holes: &[u32],
@@ -80,7 +80,7 @@ fn node_with_holes<'a>(
 }
 
 #[cycle(holes)]
-#[tactic(auto, using(metal_clauses::proofs::Nodes::lists))]
+#[tactic(auto, using(metal_written::proofs::Nodes::lists))]
 fn primary_with_holes<'a>(
     arena: &'a Arena,
     holes: &[u32],
@@ -108,7 +108,7 @@ fn primary_with_holes<'a>(
 }
 
 #[cycle(holes)]
-#[tactic(auto, using(metal_clauses::proofs::Nodes::lists))]
+#[tactic(auto, using(metal_written::proofs::Nodes::lists))]
 fn operation_with_holes<'a>(
     arena: &'a Arena,
     holes: &[u32],
@@ -175,7 +175,7 @@ fn operation_with_holes<'a>(
 }
 
 #[cycle(holes)]
-#[tactic(auto, using(metal_clauses::proofs::Nodes::lists))]
+#[tactic(auto, using(metal_written::proofs::Nodes::lists))]
 fn initializer_with_holes<'a>(
     arena: &'a Arena,
     holes: &[u32],
@@ -201,7 +201,7 @@ fn initializer_with_holes<'a>(
 }
 
 #[cycle(holes)]
-#[tactic(auto, using(metal_clauses::proofs::Nodes::lists))]
+#[tactic(auto, using(metal_written::proofs::Nodes::lists))]
 fn all_with_holes<'a>(
     arena: &'a Arena,
     holes: &[u32],
@@ -220,7 +220,7 @@ fn all_with_holes<'a>(
 }
 
 #[cycle(holes)]
-#[tactic(auto, using(metal_clauses::proofs::Nodes::lists))]
+#[tactic(auto, using(metal_written::proofs::Nodes::lists))]
 fn path_with_holes<'a>(
     arena: &'a Arena,
     holes: &[u32],
@@ -239,7 +239,7 @@ fn path_with_holes<'a>(
 }
 
 #[cycle(holes)]
-#[tactic(auto, using(metal_clauses::proofs::Nodes::lists))]
+#[tactic(auto, using(metal_written::proofs::Nodes::lists))]
 fn designator_with_holes<'a>(
     arena: &'a Arena,
     holes: &[u32],

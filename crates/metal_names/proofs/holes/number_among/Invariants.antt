@@ -1,7 +1,7 @@
 use Rattle.std.proofs.Common.{◌≡◌, ◌≤◌, ◌-◌, length, drop}
 use Rattle.metal_grammar.specs.Meaning.{number_among}
-use Rattle.metal_rules.proofs.Positions.{shifted}
-use Rattle.metal_rules.proofs.holes.number_among.Given as goal
+use Rattle.metal_names.proofs.Positions.{shifted}
+use Rattle.metal_names.proofs.holes.number_among.Given as goal
 
 abbrev pub invariant-loop-index : goal.invariant-loop-index
 invariant-loop-index l = record {

@@ -20,7 +20,7 @@ fn is_word(token: &Token, name: u32) -> bool
 
 /// Whether the name stands in an expression.
 #[cycle(mentions)]
-#[tactic(auto, using(metal_clauses::proofs::Nodes::mentioned))]
+#[tactic(auto, using(metal_written::proofs::Nodes::mentioned))]
 pub fn mentions(tree: &Tree, name: u32) -> bool
     ensures { result ≡ is_among (names_in (view tree.now)) name }
 {
@@ -33,7 +33,7 @@ pub fn mentions(tree: &Tree, name: u32) -> bool
 }
 
 #[cycle(mentions)]
-#[tactic(auto, using(metal_clauses::proofs::Nodes::mentioned))]
+#[tactic(auto, using(metal_written::proofs::Nodes::mentioned))]
 fn primary_mentions(kind: &Primary, name: u32) -> bool
     ensures { result ≡ is_among (names_in_primary (primary_view kind.now)) name }
 {
@@ -47,7 +47,7 @@ fn primary_mentions(kind: &Primary, name: u32) -> bool
 }
 
 #[cycle(mentions)]
-#[tactic(auto, using(metal_clauses::proofs::Nodes::mentioned))]
+#[tactic(auto, using(metal_written::proofs::Nodes::mentioned))]
 fn operation_mentions(kind: &Operation, name: u32) -> bool
     ensures { result ≡ is_among (names_in_operation (operation_view kind.now)) name }
 {
@@ -76,7 +76,7 @@ fn operation_mentions(kind: &Operation, name: u32) -> bool
 }
 
 #[cycle(mentions)]
-#[tactic(auto, using(metal_clauses::proofs::Nodes::mentioned))]
+#[tactic(auto, using(metal_written::proofs::Nodes::mentioned))]
 fn initializer_mentions(kind: &Initializer, name: u32) -> bool
     ensures { result ≡ is_among (names_in_initializer (initializer_view kind.now)) name }
 {
@@ -91,7 +91,7 @@ fn initializer_mentions(kind: &Initializer, name: u32) -> bool
 }
 
 #[cycle(mentions)]
-#[tactic(auto, using(metal_clauses::proofs::Nodes::mentioned))]
+#[tactic(auto, using(metal_written::proofs::Nodes::mentioned))]
 fn one_mentions(trees: &Trees, name: u32) -> bool
     ensures { result ≡ is_among (names_in_all (list_view trees.now)) name }
 {
@@ -104,7 +104,7 @@ fn one_mentions(trees: &Trees, name: u32) -> bool
 }
 
 #[cycle(mentions)]
-#[tactic(auto, using(metal_clauses::proofs::Nodes::mentioned))]
+#[tactic(auto, using(metal_written::proofs::Nodes::mentioned))]
 fn path_mentions(path: &Trees, name: u32) -> bool
     ensures { result ≡ is_among (names_in_path (list_view path.now)) name }
 {
@@ -117,7 +117,7 @@ fn path_mentions(path: &Trees, name: u32) -> bool
 }
 
 #[cycle(mentions)]
-#[tactic(auto, using(metal_clauses::proofs::Nodes::mentioned))]
+#[tactic(auto, using(metal_written::proofs::Nodes::mentioned))]
 fn designator_mentions(tree: &Tree, name: u32) -> bool
     ensures { result ≡ is_among (names_in_designator (view tree.now)) name }
 {

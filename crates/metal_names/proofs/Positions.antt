@@ -1,9 +1,8 @@
 -- The position of a name among others, and of a text among names.
-use Rattle.std.proofs.Common.{◌≡◌, ℕ, zero, suc, ◌+◌, ◌<◌, ◌≤◌, Bool, true, false, cond, nat_eq, ◌||◌, List, [], ◌∷◌, length, get_or, drop, Option, None, Some, ap, refl, ◌∙◌, sym, add-one, drop-cons, arith}
+use Rattle.std.proofs.Common.{◌≡◌, ℕ, suc, ◌+◌, ◌<◌, ◌≤◌, Bool, true, false, cond, nat_eq, ◌||◌, List, [], ◌∷◌, length, get_or, drop, Option, None, Some, ap, refl, ◌∙◌, sym, add-one, drop-cons, arith}
 use Rattle.std.proofs.lemmas.Bool.Decides.{nat_tests}
 use Rattle.std.proofs.lemmas.List.{drop_all}
 use Rattle.metal_grammar.specs.Meaning.{number_among, one_more}
-use Rattle.metal_grammar.specs.Words.{Spelling, is_spelled, name_spelled}
 use Rattle.metal_grammar.specs.Rules.{is_among}
 
 -- a position behind so many
@@ -23,7 +22,7 @@ same m n h = grind (arith, nat_tests)
 
 pub shift-start : (o : Option ℕ) → shifted 0 o ≡ o
 shift-start None = refl
-shift-start (Some k) = refl
+shift-start (Some k) = let e : k + 0 ≡ k = omega arith in ap Some e
 
 pub shift-next : (names : List ℕ) (i name : ℕ) → i < length names → (get_or names i 0 ≡ name → ⊥) → shifted (i + 1) (number_among (drop (i + 1) names) name) ≡ shifted i (number_among (drop i names) name)
 shift-next names i name h n =
