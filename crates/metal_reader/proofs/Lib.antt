@@ -1,4 +1,3 @@
 pub mod Few
 pub mod Refusing
 pub mod Order
-pub mod Made

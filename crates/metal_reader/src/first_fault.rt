@@ -14,9 +14,9 @@ ghost use Rattle.metal_grammar.specs.Written.{members};
 ghost use Rattle.metal_declared.specs.DeclaredHoles.{declared_views};
 ghost use Rattle.metal_declared.specs.Limits.{counting, limit_of};
 
-use crate::building::Builder;
 use crate::fault::MetalFault;
 use c_tree::{Arena, Place};
+use metal_building::Builder;
 use metal_declared::{DeclaredHole, Which, passing, repeated};
 use metal_numbers::{names_of, variables_among};
 use metal_rules::{

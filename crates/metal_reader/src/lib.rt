@@ -1,7 +1,6 @@
 //! Reads checkers: their clauses, the first fault that they have, and the machine that they are.
 #![tactic(auto)]
 
-mod building;
 mod fault;
 mod first_fault;
 mod reading;

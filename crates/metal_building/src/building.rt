@@ -1,4 +1,4 @@
-//! Makes the machine of a text without a fault.
+//! The holes and the rules of a machine.
 
 ghost use Rattle.std.specs.Prelude.{◌≡◌, IfOk, map};
 ghost use Rattle.metal_grammar.specs.Meaning as meaning;
@@ -6,11 +6,11 @@ ghost use Rattle.metal_grammar.specs.Written.{members};
 ghost use Rattle.metal_written.specs.Placed.{placed_view, placed_views};
 ghost use Rattle.metal_written.specs.Written.{item_view, alternative_view, callout_view, identifier_view, maybe_action_view};
 ghost use Rattle.metal_tree.specs.Views as machines;
-ghost use Rattle.metal_reader.specs.Builders.{numbers, IsRight};
+ghost use Rattle.metal_building.specs.Builders.{numbers, IsRight};
 ghost use Rattle.metal_declared.specs.DeclaredHoles.{declared_views};
-ghost use Rattle.metal_reader.specs.Machines.{pieces_view};
+ghost use Rattle.metal_building.specs.Machines.{pieces_view};
 ghost use Rattle.metal_numbers.specs.Numbers.{variables_in, IsNamed, AreNamed};
-ghost use Rattle.metal_reader.specs.Places.{HasPlaces};
+ghost use Rattle.metal_building.specs.Places.{HasPlaces};
 
 use bumpalo::collections::into_bump_slice;
 use c_tree::{Arena, Place};
@@ -27,7 +27,7 @@ use std::alloc::AllocError;
 
 /// What rules are built with.
 #[derive(Clone, Copy)]
-pub(crate) struct Builder<'a, 'n> {
+pub struct Builder<'a, 'n> {
     pub arena: &'a Arena,
     pub names: &'n Names,
     pub texts: &'n Texts,
@@ -38,7 +38,7 @@ pub(crate) struct Builder<'a, 'n> {
 
 /// The holes of a machine.
 #[tactic(auto, using(metal_declared::proofs::InHoles::additions))]
-pub(crate) fn holes_of<'a>(
+pub fn holes_of<'a>(
     arena: &'a Arena,
     holes: &[DeclaredHole<'a>],
 ) -> Result<&'a [HoleDecl<'a>], AllocError>
@@ -140,7 +140,7 @@ impl<'a, 'n> Builder<'a, 'n> {
     }
 
     /// The action of a rule, if it has one that is a message.
-    pub(crate) fn action(
+    pub fn action(
         &self,
         action: Option<WrittenAction<'a>>,
     ) -> Result<Option<Action<'a>>, AllocError>
@@ -178,7 +178,7 @@ impl<'a, 'n> Builder<'a, 'n> {
 
     /// The rules of a machine.
     #[tactic(auto, using(metal_declared::proofs::InHoles::additions))]
-    pub(crate) fn rules(&self, rules: &[PlacedRule<'a>]) -> Result<&'a [Rule<'a>], AllocError>
+    pub fn rules(&self, rules: &[PlacedRule<'a>]) -> Result<&'a [Rule<'a>], AllocError>
         requires right { IsRight self.now }
         requires named { AreNamed (variables_in self.now.numbering) (placed_views rules.now) }
         ensures made { IfOk result (λ made. machines.rule_views made.now ≡ map (meaning.rule_of (numbers self.now)) (placed_views rules.now)) }

@@ -1,7 +1,7 @@
 -- What rules are built with.
 use Rattle.metal_grammar.specs.Meaning as meaning
 use Rattle.metal_written.specs.Texts.{AreRight}
-use Rattle.metal_reader.specs.declared.building.Builder.{Builder}
+use Rattle.metal_building.specs.declared.building.Builder.{Builder}
 use Rattle.metal_numbers.specs.Numbers.{numbering_in, IsNumbering}
 
 abbrev pub numbers : Builder → meaning.Numbering
