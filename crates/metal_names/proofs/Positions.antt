@@ -1,5 +1,5 @@
 -- The position of a name among others, and of a text among names.
-use Rattle.std.proofs.Common.{◌≡◌, ℕ, suc, ◌+◌, ◌<◌, ◌≤◌, Bool, true, false, cond, nat_eq, ◌||◌, List, [], ◌∷◌, length, get_or, drop, Option, None, Some, ap, refl, ◌∙◌, sym, add-one, drop-cons, arith}
+use Rattle.std.proofs.Common.{◌≡◌, ℕ, suc, ◌+◌, ◌<◌, ◌≤◌, Bool, true, false, cond, nat_eq, ◌||◌, List, [], ◌∷◌, length, get_or, drop, Option, None, Some, is_some, ap, refl, ◌∙◌, sym, add-one, drop-cons, arith}
 use Rattle.std.proofs.lemmas.Bool.Decides.{nat_tests}
 use Rattle.std.proofs.lemmas.List.{drop_all}
 use Rattle.metal_grammar.specs.Meaning.{number_among, one_more}
@@ -72,3 +72,13 @@ among-some (n ∷ ns) name k h = by (nat_eq n name) (number_among ns name) (amon
     by false (Some j) w e = w j refl
 
 pub ruleset among = (among-none, among-some)
+
+-- a name has a position where it is among them
+pub counted : (names : List ℕ) (name : ℕ) → is_some (number_among names name) ≡ is_among names name
+counted [] name = refl
+counted (n ∷ ns) name = by (nat_eq n name) (number_among ns name) (counted ns name)
+  where
+    by : (b : Bool) (o : Option ℕ) → is_some o ≡ is_among ns name → is_some (cond b (Some 0) (one_more o)) ≡ (b || is_among ns name)
+    by true o e = refl
+    by false None e = e
+    by false (Some j) e = e

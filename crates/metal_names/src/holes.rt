@@ -4,6 +4,7 @@ ghost use Rattle.std.specs.Prelude.{◌≡◌, ◌<◌, length, IfOk};
 ghost use Rattle.c_tree.specs.Forget.{view, list_view, primary_view, operation_view, initializer_view};
 ghost use Rattle.metal_grammar.specs.Meaning.{number_among};
 ghost use Rattle.metal_grammar.specs.Patterns.{name_as_hole, with_holes, primary_with_holes, operation_with_holes, initializer_with_holes, all_with_holes, path_with_holes, designator_with_holes};
+ghost use Rattle.metal_grammar.specs.Rules.{is_among};
 ghost use Rattle.c_tree.specs.Symbol.{symbol_of};
 
 use bumpalo::collections::into_bump_slice;
@@ -23,6 +24,13 @@ pub fn number_among(names: &[u32], name: u32) -> Option<usize>
         index += 1;
     }
     None
+}
+
+/// Whether the name is one of these.
+pub fn is_among(names: &[u32], name: u32) -> bool
+    ensures { result ≡ is_among names.now name }
+{
+    number_among(names, name).is_some()
 }
 
 /// A name, as a hole if it is one.

@@ -4,5 +4,5 @@
 mod holes;
 mod mentioned;
 
-pub use holes::{number_among, with_holes};
+pub use holes::{is_among, number_among, with_holes};
 pub use mentioned::mentions;

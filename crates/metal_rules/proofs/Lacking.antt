@@ -1,12 +1,11 @@
 -- Whether an alternative of a rule lacks a name: by names first, and by alternatives first.
-use Rattle.std.proofs.Common.{◌≡◌, ℕ, Bool, true, false, not, nat_eq, ◌||◌, ◌&&◌, List, [], ◌∷◌, ◌++◌, flat_map, ap, refl, ◌∙◌, sym}
-use Rattle.metal_grammar.specs.Written.{Row, lone, row, members, Alternative}
-use Rattle.metal_grammar.specs.Grammar.{some}
-use Rattle.metal_grammar.specs.Rules.{is_among, PlacedRule, pattern_names, callout_names, all_callout_names, action_names_of, variable_of, variables_of_states, has_end}
-use Rattle.metal_grammar.specs.Faults.{any_of, is_bound, is_excused, lacks, lacks_variable}
+use Rattle.std.proofs.Common.{◌≡◌, ℕ, Bool, true, false, not, ◌||◌, ◌&&◌, List, [], ◌∷◌, ◌++◌, ◌<◌, length, get_or, drop, flat_map, ap, refl, ◌∙◌, sym}
+use Rattle.metal_grammar.specs.Written.{members, Alternative}
+use Rattle.metal_grammar.specs.Rules.{is_among, PlacedRule, pattern_names, callout_names, all_callout_names, action_names_of, variable_of, targets_of, variables_of_states, has_end}
+use Rattle.metal_grammar.specs.Faults.{any_of, is_bound, is_excused, lacks_variable}
 use Rattle.metal_grammar.proofs.RulesKept.{some_members}
-use Rattle.metal_rules.specs.RuleFaults.{needed, some_lacks, lacks_other}
-use Rattle.metal_rules.proofs.Variables.{equal_tests, some_has, one_has, any_over, any_past}
+use Rattle.metal_rules.specs.RuleFaults.{needed, some_lacks, needed_hole, is_other, lacks_other, told_lacks}
+use Rattle.metal_rules.proofs.Variables.{equal_tests, some_has, one_has, any_over}
 use Rattle.metal_written.proofs.Any.{any-append, among-flat}
 use Rattle.metal_written.proofs.Nodes.{among-append}
 
@@ -116,37 +115,30 @@ module _ (holes : List ℕ) (r : PlacedRule) where
   abbrev told : List ℕ
   told = action_names_of r.rule.action
 
-  -- a hole that is needed, and that some alternative lacks
-  abbrev needed_hole : ℕ → Bool
-  needed_hole hole = is_among (needed r) hole && some_lacks true r hole
-
-  abbrev no_hole : ℕ → Bool
-  no_hole name = not (is_among holes name)
-
   in-states : (n : ℕ) → is_among states n ≡ true → is_among (needed r) n ≡ true
-  in-states n h = among-append states (asked ++ told) n ∙ left _ _ h
+  in-states n h = among-append (states ++ asked) told n ∙ left _ _ (among-append states asked n ∙ left _ _ h)
 
   in-asked : (n : ℕ) → is_among asked n ≡ true → is_among (needed r) n ≡ true
-  in-asked n h = among-append states (asked ++ told) n ∙ right _ _ (among-append asked told n ∙ left _ _ h)
+  in-asked n h = among-append (states ++ asked) told n ∙ left _ _ (among-append states asked n ∙ right _ _ h)
 
   in-told : (n : ℕ) → is_among told n ≡ true → is_among (needed r) n ≡ true
-  in-told n h = among-append states (asked ++ told) n ∙ right _ _ (among-append asked told n ∙ right _ _ h)
+  in-told n h = among-append (states ++ asked) told n ∙ right _ _ h
 
   found : (n : ℕ) → is_among (needed r) n ≡ true → lacked holes r n ≡ true → any_of (lacked holes r) (needed r) ≡ true
   found n h t = some_has (lacked holes r) (needed r) n h t
 
   other : (n : ℕ) → lacks_other holes r n ≡ true → lacked holes r n ≡ true
-  other n h = let p = parts (no_hole n) (some_lacks false r n) h in other_lacks holes r n (negated (is_among holes n) p.0) ∙ p.1
+  other n h = let p = parts (is_other holes n) (some_lacks false r n) h in other_lacks holes r n (negated (is_among holes n) p.0) ∙ p.1
 
-  from-hole : any_of needed_hole holes ≡ true → any_of (lacked holes r) (needed r) ≡ true
+  from-hole : any_of (needed_hole r) holes ≡ true → any_of (lacked holes r) (needed r) ≡ true
   from-hole h =
-      let o = one_has needed_hole holes h in
+      let o = one_has (needed_hole r) holes h in
       let p = parts (is_among (needed r) o.one) (some_lacks true r o.one) o.passes in
       found o.one p.0 (hole_lacks holes r o.one o.among ∙ p.1)
 
-  from-asked : any_of no_hole asked ≡ true → any_of (lacked holes r) (needed r) ≡ true
+  from-asked : any_of (is_other holes) asked ≡ true → any_of (lacked holes r) (needed r) ≡ true
   from-asked h =
-      let o = one_has no_hole asked h in
+      let o = one_has (is_other holes) asked h in
       found o.one (in-asked o.one o.among) (other_lacks holes r o.one (negated (is_among holes o.one) o.passes) ∙ asked-lacks r o.one o.among)
 
   from-other : any_of (lacks_other holes r) (states ++ told) ≡ true → any_of (lacked holes r) (needed r) ≡ true
@@ -155,42 +147,60 @@ module _ (holes : List ℕ) (r : PlacedRule) where
       chosen-of (is_among states o.one) (is_among told o.one) (sym (among-append states told o.one) ∙ o.among)
       (λ e. found o.one (in-states o.one e) (other o.one o.passes)) (λ e. found o.one (in-told o.one e) (other o.one o.passes))
 
-  sorted : (n : ℕ) → is_among holes n ≡ false → some_lacks false r n ≡ true → is_among (needed r) n ≡ true → (any_of no_hole asked || any_of (lacks_other holes r) (states ++ told)) ≡ true
+  sorted : (n : ℕ) → is_among holes n ≡ false → some_lacks false r n ≡ true → is_among (needed r) n ≡ true → (any_of (is_other holes) asked || any_of (lacks_other holes r) (states ++ told)) ≡ true
   sorted n e t i =
-      chosen-of (is_among states n) (is_among (asked ++ told) n) (sym (among-append states (asked ++ told) n) ∙ i)
-      (λ h. right _ _ (some_has (lacks_other holes r) (states ++ told) n (among-append states told n ∙ left _ _ h) (both _ _ (ap not e) t)))
-      (λ h. chosen-of (is_among asked n) (is_among told n) (sym (among-append asked told n) ∙ h)
-      (λ k. left _ _ (some_has no_hole asked n k (ap not e)))
-      (λ k. right _ _ (some_has (lacks_other holes r) (states ++ told) n (among-append states told n ∙ right _ _ k) (both _ _ (ap not e) t))))
+      chosen-of (is_among (states ++ asked) n) (is_among told n) (sym (among-append (states ++ asked) told n) ∙ i)
+      (λ h. chosen-of (is_among states n) (is_among asked n) (sym (among-append states asked n) ∙ h)
+      (λ k. right _ _ (some_has (lacks_other holes r) (states ++ told) n (among-append states told n ∙ left _ _ k) (both _ _ (ap not e) t)))
+      (λ k. left _ _ (some_has (is_other holes) asked n k (ap not e))))
+      (λ h. right _ _ (some_has (lacks_other holes r) (states ++ told) n (among-append states told n ∙ right _ _ h) (both _ _ (ap not e) t)))
 
   hole-or-not : (n : ℕ) (b : Bool) → is_among holes n ≡ b → is_among (needed r) n ≡ true → lacked holes r n ≡ true
-      → (any_of needed_hole holes || (any_of no_hole asked || any_of (lacks_other holes r) (states ++ told))) ≡ true
-  hole-or-not n true e i t = left _ _ (some_has needed_hole holes n e (both _ _ i (sym (hole_lacks holes r n e) ∙ t)))
+      → (any_of (needed_hole r) holes || (any_of (is_other holes) asked || any_of (lacks_other holes r) (states ++ told))) ≡ true
+  hole-or-not n true e i t = left _ _ (some_has (needed_hole r) holes n e (both _ _ i (sym (hole_lacks holes r n e) ∙ t)))
   hole-or-not n false e i t = right _ _ (sorted n e (sym (other_lacks holes r n e) ∙ t) i)
 
 -- The names that a rule needs: holes one by one, names that callouts ask of, and the others.
 pub lacks_by_kind : (holes : List ℕ) (r : PlacedRule) →
-    (any_of (λ hole. is_among (needed r) hole && some_lacks true r hole) holes
-    || (any_of (λ name. not (is_among holes name)) (all_callout_names r.rule) || any_of (lacks_other holes r) (variables_of_states r ++ action_names_of r.rule.action)))
+    (any_of (needed_hole r) holes
+    || (any_of (is_other holes) (all_callout_names r.rule) || any_of (lacks_other holes r) (variables_of_states r ++ action_names_of r.rule.action)))
     ≡ lacks_variable holes r
 lacks_by_kind holes r =
     equal_tests _ _
     (λ h.
-    chosen-of (any_of (needed_hole holes r) holes) (any_of (no_hole holes r) (asked holes r) || any_of (lacks_other holes r) (states holes r ++ told holes r)) h (from-hole holes r)
-    (λ k. chosen-of (any_of (no_hole holes r) (asked holes r)) (any_of (lacks_other holes r) (states holes r ++ told holes r)) k (from-asked holes r) (from-other holes r)))
+    chosen-of (any_of (needed_hole r) holes) (any_of (is_other holes) (asked holes r) || any_of (lacks_other holes r) (states holes r ++ told holes r)) h (from-hole holes r)
+    (λ k. chosen-of (any_of (is_other holes) (asked holes r)) (any_of (lacks_other holes r) (states holes r ++ told holes r)) k (from-asked holes r) (from-other holes r)))
     (λ h. let o = one_has (lacked holes r) (needed r) h in hole-or-not holes r o.one (is_among holes o.one) refl o.among o.passes)
     ∙ sym (by_names holes r)
 
-once-step : (is : ℕ → Bool) (source told : List ℕ) (n : ℕ) (b : Bool) → is_among source n ≡ b → is_among told n ≡ true → is n ≡ true → (any_of is source || any_of (λ n. not (is_among source n) && is n) told) ≡ true
-once-step is source told n true e i t = left _ _ (some_has is source n e t)
-once-step is source told n false e i t = right _ _ (some_has (λ n. not (is_among source n) && is n) told n i (both _ _ (ap not e) t))
+module _ (holes : List ℕ) (r : PlacedRule) where
+  -- one of the three kinds after the other
+  pub by-hole : any_of (needed_hole r) holes ≡ true → lacks_variable holes r ≡ true
+  by-hole h = sym (lacks_by_kind holes r) ∙ left _ _ h
+
+  pub by-asked : any_of (is_other holes) (all_callout_names r.rule) ≡ true → lacks_variable holes r ≡ true
+  by-asked h = sym (lacks_by_kind holes r) ∙ right _ _ (left _ _ h)
+
+  pub by-neither : any_of (needed_hole r) holes ≡ false → any_of (is_other holes) (all_callout_names r.rule) ≡ false
+      → any_of (lacks_other holes r) (variables_of_states r ++ action_names_of r.rule.action) ≡ lacks_variable holes r
+  by-neither h k =
+      let others = any_of (lacks_other holes r) (variables_of_states r ++ action_names_of r.rule.action) in
+      sym (ap (λ b. b || (any_of (is_other holes) (all_callout_names r.rule) || others)) h ∙ ap (λ b. b || others) k) ∙ lacks_by_kind holes r
+
+  -- the next hole is such a one
+  pub needed-here : (i d : ℕ) → i < length holes → is_among (needed r) (get_or holes i d) ≡ true → some_lacks true r (get_or holes i d) ≡ true → any_of (needed_hole r) (drop i holes) ≡ true
+  needed-here i d h p q = any_over (needed_hole r) holes i d h ∙ left _ _ (both _ _ p q)
+
+once-step : (is : ℕ → Bool) (source rest : List ℕ) (n : ℕ) (b : Bool) → is_among source n ≡ b → is_among rest n ≡ true → is n ≡ true → (any_of is source || any_of (λ n. not (is_among source n) && is n) rest) ≡ true
+once-step is source rest n true e i t = left _ _ (some_has is source n e t)
+once-step is source rest n false e i t = right _ _ (some_has (λ n. not (is_among source n) && is n) rest n i (both _ _ (ap not e) t))
 
 -- the variable of the source is asked once
-pub told_once : (is : ℕ → Bool) (source told : List ℕ) → (any_of is source || any_of (λ n. not (is_among source n) && is n) told) ≡ (any_of is source || any_of is told)
-told_once is source told = equal_tests _ _
-    (λ h. chosen-of (any_of is source) (any_of (λ n. not (is_among source n) && is n) told) h (λ e. left _ _ e)
-    (λ e. let o = one_has (λ n. not (is_among source n) && is n) told e in right _ _ (some_has is told o.one o.among (parts (not (is_among source o.one)) (is o.one) o.passes).1)))
-    (λ h. chosen-of (any_of is source) (any_of is told) h (λ e. left _ _ e) (λ e. let o = one_has is told e in once-step is source told o.one (is_among source o.one) refl o.among o.passes))
+pub told_once : (is : ℕ → Bool) (source rest : List ℕ) → (any_of is source || any_of (λ n. not (is_among source n) && is n) rest) ≡ (any_of is source || any_of is rest)
+told_once is source rest = equal_tests _ _
+    (λ h. chosen-of (any_of is source) (any_of (λ n. not (is_among source n) && is n) rest) h (λ e. left _ _ e)
+    (λ e. let o = one_has (λ n. not (is_among source n) && is n) rest e in right _ _ (some_has is rest o.one o.among (parts (not (is_among source o.one)) (is o.one) o.passes).1)))
+    (λ h. chosen-of (any_of is source) (any_of is rest) h (λ e. left _ _ e) (λ e. let o = one_has is rest e in once-step is source rest o.one (is_among source o.one) refl o.among o.passes))
 
 three-step : (s t m n : Bool) → (s || m) ≡ (s || n) → ((s || t) || m) ≡ ((s || t) || n)
 three-step true t m n e = refl
@@ -198,11 +208,15 @@ three-step false true m n e = refl
 three-step false false m n e = e
 
 -- the parts in turn: the source, the targets, and the message
-pub three : (is : ℕ → Bool) (source targets told : List ℕ) → ((any_of is source || any_of is targets) || any_of (λ n. not (is_among source n) && is n) told) ≡ any_of is ((source ++ targets) ++ told)
-three is source targets told =
-    three-step (any_of is source) (any_of is targets) _ _ (told_once is source told)
-    ∙ sym (any-append is (source ++ targets) told ∙ ap (λ b. b || any_of is told) (any-append is source targets))
+pub three : (is : ℕ → Bool) (source targets rest : List ℕ) → ((any_of is source || any_of is targets) || any_of (λ n. not (is_among source n) && is n) rest) ≡ any_of is ((source ++ targets) ++ rest)
+three is source targets rest =
+    three-step (any_of is source) (any_of is targets) _ _ (told_once is source rest)
+    ∙ sym (any-append is (source ++ targets) rest ∙ ap (λ b. b || any_of is rest) (any-append is source targets))
 
-pub ruleset others = (three, any-append)
+pub three-lack : (holes : List ℕ) (r : PlacedRule) →
+    ((any_of (lacks_other holes r) (variable_of r.source) || any_of (lacks_other holes r) (flat_map variable_of (targets_of r.rule.destination)))
+    || any_of (told_lacks holes r) (action_names_of r.rule.action))
+    ≡ any_of (lacks_other holes r) (variables_of_states r ++ action_names_of r.rule.action)
+three-lack holes r = three (lacks_other holes r) (variable_of r.source) (flat_map variable_of (targets_of r.rule.destination)) (action_names_of r.rule.action)
 
-pub ruleset lacking_kinds = (lacks_by_kind, any_over, any_past)
+pub ruleset others = (three-lack, any-append)

@@ -1,3 +1,4 @@
+pub mod Members
 pub mod Firsts
 pub mod Variables
 pub mod Lacking

@@ -1,10 +1,10 @@
 -- Whether a list has two names of another one, and whether one has a name of another.
-use Rattle.std.proofs.Common.{◌≡◌, ℕ, suc, ◌+◌, ◌<◌, ◌≤◌, Bool, true, false, cond, not, nat_eq, ◌||◌, ◌&&◌, List, [], ◌∷◌, ◌++◌, length, get_or, drop, filter, Option, None, Some, ap, refl, ◌∙◌, sym, subst, add-one, drop-cons}
+use Rattle.std.proofs.Common.{◌≡◌, ℕ, suc, ◌+◌, ◌<◌, ◌≤◌, Bool, true, false, cond, not, nat_eq, ◌||◌, ◌&&◌, List, [], ◌∷◌, length, get_or, drop, filter, None, Some, ap, refl, ◌∙◌, sym, add-one, drop-cons}
 use Rattle.std.proofs.lemmas.List.{drop_all}
 use Rattle.metal_grammar.specs.Rules.{is_among}
 use Rattle.metal_grammar.specs.Faults.{any_of, differ, is_other_among}
 use Rattle.metal_grammar.proofs.Numbered.{equal, same, differs}
-use Rattle.metal_rules.specs.RuleFaults.{first_of}
+use Rattle.metal_rules.specs.RuleFaults.{first_of, another_named}
 
 pub equal_tests : (a b : Bool) → (a ≡ true → b ≡ true) → (b ≡ true → a ≡ true) → a ≡ b
 equal_tests true b f g = sym (f refl)
@@ -170,10 +170,6 @@ parts false b e = cc
 both : (a b : Bool) → a ≡ true → b ≡ false → (a && not b) ≡ true
 both a b e g = rw (e, g) refl
 
--- a variable that is named and isn't the first
-abbrev another_named : List ℕ → ℕ → ℕ → Bool
-another_named ms f v = is_among ms v && not (nat_eq v f)
-
 one-of-two : (vs ms : List ℕ) (f x y : ℕ) (c : Bool) → nat_eq x f ≡ c → (is_among ms x ≡ true) × (is_among vs x ≡ true) → (is_among ms y ≡ true) × (is_among vs y ≡ true) → nat_eq x y ≡ false
     → any_of (another_named ms f) vs ≡ true
 one-of-two vs ms f x y false p a b n = some_has (another_named ms f) vs x a.1 (both (is_among ms x) (nat_eq x f) a.0 p)
@@ -182,7 +178,7 @@ one-of-two vs ms f x y true p a b n =
     some_has (another_named ms f) vs y b.1 (both (is_among ms y) (nat_eq y f) b.0 i)
 
 -- this one is named, and maybe another one
-pub two_some : (vs ms : List ℕ) (f : ℕ) → first_of (filter (is_among ms) vs) ≡ Some f → any_of (λ v. is_among ms v && not (nat_eq v f)) vs ≡ differ (filter (is_among vs) ms)
+pub two_some : (vs ms : List ℕ) (f : ℕ) → first_of (filter (is_among ms) vs) ≡ Some f → any_of (another_named ms f) vs ≡ differ (filter (is_among vs) ms)
 two_some vs ms f h =
     let first = first_those (is_among ms) vs f h in
     equal_tests _ _
@@ -195,5 +191,3 @@ two_some vs ms f h =
     one-of-two vs ms f o.one o.another (nat_eq o.one f) refl (among_those (is_among vs) ms o.one o.among) (among_those (is_among vs) ms o.another o.among_too) o.apart)
 
 pub ruleset two = (two_none, two_some)
-
-pub ruleset swaps = (any_swap, any_over, any_past)

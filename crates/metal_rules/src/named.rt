@@ -1,13 +1,14 @@
 //! Whether a rule names something, and where: in its states, patterns, callouts or message.
 
-ghost use Rattle.std.specs.Prelude.{◌≡◌, ◌++◌, flat_map};
+ghost use Rattle.std.specs.Prelude.{◌≡◌, ◌++◌, map, flat_map};
 ghost use Rattle.metal_grammar.specs.Rules.{is_among, variable_of, targets_of, pattern_names_of, callout_names_of, pattern_names, callout_names, all_pattern_names, all_callout_names, action_names_of, variables_of_states};
+ghost use Rattle.metal_rules.specs.RuleFaults.{argument_names};
 ghost use Rattle.metal_written.specs.Placed.{placed_view};
-ghost use Rattle.metal_written.specs.Written.{item_view, alternative_view, rule_view, state_view, destination_view, maybe_action_view};
+ghost use Rattle.metal_written.specs.Written.{item_view, alternative_view, rule_view, state_view, destination_view, identifier_view, maybe_action_view};
 
 use metal_names::mentions;
 use metal_written::{
-    Destination, PlacedRule, StateName, WrittenAction, WrittenAlternative, WrittenItem,
+    Destination, Identifier, PlacedRule, StateName, WrittenAction, WrittenAlternative, WrittenItem,
     WrittenRule, hole_asked,
 };
 
@@ -55,7 +56,7 @@ fn item_mentions(item: &WrittenItem, name: u32) -> bool
 }
 
 /// Whether a pattern of the alternative names this.
-#[tactic(auto, using(metal_written::proofs::Any::anys))]
+#[tactic(auto, using(crate::proofs::Members::gathered))]
 pub fn pattern_names(alternative: &WrittenAlternative, name: u32) -> bool
     ensures { result ≡ is_among (pattern_names (alternative_view alternative.now)) name }
 {
@@ -81,7 +82,7 @@ fn item_asks(item: &WrittenItem, name: u32) -> bool
 }
 
 /// Whether a callout of the alternative asks of this.
-#[tactic(auto, using(metal_written::proofs::Any::anys))]
+#[tactic(auto, using(crate::proofs::Members::gathered))]
 pub fn callout_names(alternative: &WrittenAlternative, name: u32) -> bool
     ensures { result ≡ is_among (callout_names (alternative_view alternative.now)) name }
 {
@@ -94,7 +95,7 @@ pub fn callout_names(alternative: &WrittenAlternative, name: u32) -> bool
 }
 
 /// Whether a pattern of the rule names this.
-#[tactic(auto, using(metal_written::proofs::Any::anys))]
+#[tactic(auto, using(crate::proofs::Members::gathered))]
 fn some_pattern_names(rule: &WrittenRule, name: u32) -> bool
     ensures { result ≡ is_among (all_pattern_names (rule_view rule.now)) name }
 {
@@ -107,7 +108,7 @@ fn some_pattern_names(rule: &WrittenRule, name: u32) -> bool
 }
 
 /// Whether a callout of the rule asks of this.
-#[tactic(auto, using(metal_written::proofs::Any::anys))]
+#[tactic(auto, using(crate::proofs::Members::gathered))]
 pub fn some_callout_names(rule: &WrittenRule, name: u32) -> bool
     ensures { result ≡ is_among (all_callout_names (rule_view rule.now)) name }
 {
@@ -119,20 +120,27 @@ pub fn some_callout_names(rule: &WrittenRule, name: u32) -> bool
     false
 }
 
-/// Whether the message of an action asks of this.
+/// Whether an argument of a message has this name.
 #[tactic(auto, using(metal_written::proofs::Any::anys))]
-pub fn action_names(action: Option<WrittenAction>, name: u32) -> bool
-    ensures { result ≡ is_among (action_names_of (maybe_action_view action.entry)) name }
+fn arguments_name(arguments: &[Identifier], name: u32) -> bool
+    ensures { result ≡ is_among (argument_names (map identifier_view arguments.now)) name }
 {
-    let Some(action) = action else {
-        return false;
-    };
-    for argument in action.arguments {
+    for argument in arguments {
         if argument.name == name {
             return true;
         }
     }
     false
+}
+
+/// Whether the message of an action asks of this.
+pub fn action_names(action: Option<WrittenAction>, name: u32) -> bool
+    ensures { result ≡ is_among (action_names_of (maybe_action_view action.entry)) name }
+{
+    match action {
+        None => false,
+        Some(told) => arguments_name(told.arguments, name),
+    }
 }
 
 /// Whether the rule names this outside its states.

@@ -1,21 +1,20 @@
 //! The faults of a rule, one by one.
 
-ghost use Rattle.std.specs.Prelude.{◌≡◌, ◌++◌, not, nat_eq, ◌&&◌, filter, flat_map};
+ghost use Rattle.std.specs.Prelude.{◌≡◌, ◌++◌, not, filter, map, flat_map};
 ghost use Rattle.metal_grammar.specs.Faults as faults;
-ghost use Rattle.metal_grammar.specs.Written.{members};
 ghost use Rattle.metal_grammar.specs.Rules.{is_among, variable_of, targets_of, callout_names_of, callout_names, all_callout_names, action_names_of, variables_of_states};
 ghost use Rattle.metal_written.specs.Placed.{placed_view};
-ghost use Rattle.metal_rules.specs.RuleFaults.{first_of, needed, some_lacks, lacks_other};
-ghost use Rattle.metal_written.specs.Written.{item_view, rule_view, state_view, destination_view, alternative_view};
+ghost use Rattle.metal_rules.specs.RuleFaults.{first_of, unknown_callouts_in, another_named, needed, some_lacks, is_other, lacks_other, told_lacks, argument_names};
+ghost use Rattle.metal_written.specs.Written.{item_view, rule_view, state_view, destination_view, alternative_view, identifier_view};
 
-use metal_names::number_among;
 use crate::named::{
     action_names, callout_names, is_of, names_outside, pattern_names, some_callout_names,
     states_name,
 };
+use metal_names::is_among;
 use metal_written::{
-    Destination, PlacedRule, StateName, WrittenAlternative, WrittenCallout, WrittenItem,
-    WrittenRule, has_end, hole_asked, is_spelled, row_of,
+    Destination, Identifier, PlacedRule, StateName, WrittenAlternative, WrittenCallout,
+    WrittenItem, WrittenRule, has_end, hole_asked, is_spelled, row_of,
 };
 use mx_base::Names;
 
@@ -38,7 +37,7 @@ fn unknown_callout_of(names: &Names, item: &WrittenItem) -> Option<u32>
 /// The name of the first callout of an alternative that is in no row of the table.
 #[tactic(auto, using(crate::proofs::Firsts::firsts))]
 fn unknown_callout_in(names: &Names, alternative: &WrittenAlternative) -> Option<u32>
-    ensures { result ≡ first_of (flat_map (faults.unknown_callout_of names.now) (members (alternative_view alternative.now))) }
+    ensures { result ≡ first_of (unknown_callouts_in names.now (alternative_view alternative.now)) }
 {
     for item in alternative.items {
         if let Some(name) = unknown_callout_of(names, item) {
@@ -85,7 +84,7 @@ fn first_named(variables: &[u32], rule: &PlacedRule) -> Option<u32>
 /// Whether a rule names one of these variables that isn't this one.
 #[tactic(auto, using(crate::proofs::Variables::chosen))]
 fn names_other(variables: &[u32], rule: &PlacedRule, first: u32) -> bool
-    ensures { result ≡ faults.any_of (λ v. is_among (faults.mentioned (placed_view rule.now)) v && not (nat_eq v first)) variables.now }
+    ensures { result ≡ faults.any_of (another_named (faults.mentioned (placed_view rule.now)) first) variables.now }
 {
     for variable in variables {
         if rule_names(rule, *variable) && *variable != first {
@@ -96,7 +95,6 @@ fn names_other(variables: &[u32], rule: &PlacedRule, first: u32) -> bool
 }
 
 /// Whether a rule names two of these variables.
-#[tactic(auto, using(crate::proofs::Variables::two))]
 pub fn names_two_variables(variables: &[u32], rule: &PlacedRule) -> bool
     ensures { result ≡ faults.names_two_variables variables.now (placed_view rule.now) }
 {
@@ -148,8 +146,8 @@ fn is_misnamed(variables: &[u32], state: StateName) -> bool
     ensures { result ≡ faults.is_misnamed variables.now (state_view state) }
 {
     match state {
-        StateName::OfMachine { state } => number_among(variables, state).is_some(),
-        StateName::OfVariable { variable, .. } => number_among(variables, variable).is_none(),
+        StateName::OfMachine { state } => is_among(variables, state),
+        StateName::OfVariable { variable, .. } => !is_among(variables, variable),
     }
 }
 
@@ -217,7 +215,7 @@ fn all_global(destination: Destination) -> bool
 }
 
 /// Whether the rule names one of these variables outside its states.
-#[tactic(auto, using(crate::proofs::Variables::swaps))]
+#[tactic(auto, using(crate::proofs::Variables::chosen))]
 fn names_variable(variables: &[u32], rule: &WrittenRule) -> bool
     ensures { result ≡ faults.names_variable variables.now (rule_view rule.now) }
 {
@@ -279,11 +277,11 @@ fn some_lacks(rule: &PlacedRule, is_hole: bool, name: u32) -> bool
 
 /// Whether the item is a callout that asks of a name that is no hole.
 fn item_asks_of_other(holes: &[u32], item: &WrittenItem) -> bool
-    ensures { result ≡ faults.any_of (λ name. not (is_among holes.now name)) (callout_names_of (item_view item.now)) }
+    ensures { result ≡ faults.any_of (is_other holes.now) (callout_names_of (item_view item.now)) }
 {
     match item {
         WrittenItem::Callout { callout, .. } => match hole_asked(*callout) {
-            Some(name) => number_among(holes, name).is_none(),
+            Some(name) => !is_among(holes, name),
             None => false,
         },
         _ => false,
@@ -291,9 +289,9 @@ fn item_asks_of_other(holes: &[u32], item: &WrittenItem) -> bool
 }
 
 /// Whether a callout of the alternative asks of a name that is no hole.
-#[tactic(auto, using(metal_written::proofs::Any::anys))]
+#[tactic(auto, using(crate::proofs::Members::gathered))]
 fn alternative_asks_of_other(holes: &[u32], alternative: &WrittenAlternative) -> bool
-    ensures { result ≡ faults.any_of (λ name. not (is_among holes.now name)) (callout_names (alternative_view alternative.now)) }
+    ensures { result ≡ faults.any_of (is_other holes.now) (callout_names (alternative_view alternative.now)) }
 {
     for item in alternative.items {
         if item_asks_of_other(holes, item) {
@@ -304,9 +302,9 @@ fn alternative_asks_of_other(holes: &[u32], alternative: &WrittenAlternative) ->
 }
 
 /// Whether a callout of the rule asks of a name that is no hole. The alternative that asks doesn't bind it.
-#[tactic(auto, using(metal_written::proofs::Any::anys))]
+#[tactic(auto, using(crate::proofs::Members::gathered))]
 fn asks_of_other(holes: &[u32], rule: &WrittenRule) -> bool
-    ensures { result ≡ faults.any_of (λ name. not (is_among holes.now name)) (all_callout_names (rule_view rule.now)) }
+    ensures { result ≡ faults.any_of (is_other holes.now) (all_callout_names (rule_view rule.now)) }
 {
     for alternative in rule.alternatives {
         if alternative_asks_of_other(holes, alternative) {
@@ -324,17 +322,24 @@ fn lacks_other(holes: &[u32], rule: &PlacedRule) -> bool
     state_lacks(holes, rule, rule.source) || targets_lack(holes, rule) || message_lacks(holes, rule)
 }
 
+/// Whether the name is no hole, and some alternative lacks it.
+fn lacks_name(holes: &[u32], rule: &PlacedRule, name: u32) -> bool
+    ensures { result ≡ lacks_other holes.now (placed_view rule.now) name }
+{
+    !is_among(holes, name) && some_lacks(rule, false, name)
+}
+
 /// Whether an alternative lacks the variable of this state, which is no hole.
 fn state_lacks(holes: &[u32], rule: &PlacedRule, state: StateName) -> bool
     ensures { result ≡ faults.any_of (lacks_other holes.now (placed_view rule.now)) (variable_of (state_view state)) }
 {
     match state {
         StateName::OfMachine { .. } => false,
-        StateName::OfVariable { variable, .. } => number_among(holes, variable).is_none()
-            && some_lacks(rule, false, variable),
+        StateName::OfVariable { variable, .. } => lacks_name(holes, rule, variable),
     }
 }
 
+/// Whether an alternative lacks the variable of a target, which is no hole.
 fn targets_lack(holes: &[u32], rule: &PlacedRule) -> bool
     ensures { result ≡ faults.any_of (lacks_other holes.now (placed_view rule.now)) (flat_map variable_of (targets_of (placed_view rule.now).rule.destination)) }
 {
@@ -348,26 +353,39 @@ fn targets_lack(holes: &[u32], rule: &PlacedRule) -> bool
     }
 }
 
-/// Whether the message asks of a name that is no hole and not the variable of the source, and some alternative lacks it.
-fn message_lacks(holes: &[u32], rule: &PlacedRule) -> bool
-    ensures { result ≡ faults.any_of (λ name. not (is_among (variable_of (placed_view rule.now).source) name) && lacks_other holes.now (placed_view rule.now) name) (action_names_of (placed_view rule.now).rule.action) }
+/// Whether the name is no hole and not the variable of the source, and some alternative lacks it.
+fn argument_lacks(holes: &[u32], rule: &PlacedRule, name: u32) -> bool
+    ensures { result ≡ told_lacks holes.now (placed_view rule.now) name }
 {
-    let Some(action) = rule.rule.action else {
-        return false;
-    };
-    for argument in action.arguments {
-        let name = argument.name;
-        let other = number_among(holes, name).is_none() && !is_of(rule.source, name);
-        if other && some_lacks(rule, false, name) {
+    !is_of(rule.source, name) && lacks_name(holes, rule, name)
+}
+
+/// Whether these arguments of a message have such a name.
+#[tactic(auto, using(metal_written::proofs::Any::anys))]
+fn arguments_lack(holes: &[u32], rule: &PlacedRule, arguments: &[Identifier]) -> bool
+    ensures { result ≡ faults.any_of (told_lacks holes.now (placed_view rule.now)) (argument_names (map identifier_view arguments.now)) }
+{
+    for argument in arguments {
+        if argument_lacks(holes, rule, argument.name) {
             return true;
         }
     }
     false
 }
 
+/// Whether the message asks of a name that is no hole and not the variable of the source, and some alternative lacks it.
+fn message_lacks(holes: &[u32], rule: &PlacedRule) -> bool
+    ensures { result ≡ faults.any_of (told_lacks holes.now (placed_view rule.now)) (action_names_of (placed_view rule.now).rule.action) }
+{
+    match rule.rule.action {
+        None => false,
+        Some(told) => arguments_lack(holes, rule, told.arguments),
+    }
+}
+
 /// Whether an alternative doesn't bind a name that the states, a callout or the message of the rule need. Each hole is asked
 /// once, so that long rules take no longer than their length.
-#[tactic(auto, using(crate::proofs::Lacking::lacking_kinds))]
+#[tactic(auto, using(crate::proofs::Variables::chosen))]
 pub fn lacks_variable(holes: &[u32], rule: &PlacedRule) -> bool
     ensures { result ≡ faults.lacks_variable holes.now (placed_view rule.now) }
 {
