@@ -1,0 +1,3 @@
+pub mod Skipping
+pub mod Rules
+pub mod Counting
