@@ -9,7 +9,7 @@ use Rattle.metal_grammar.specs.Holes.{DeclaredHole, hole_type, holes_as, declare
 use Rattle.metal_grammar.specs.Rules.{behind_clause, behind_head, holes_of_content, holes_of, rules_from, rules_of_content, count_of_rules, placed_rules, rules_of, variables_among, PlacedRule}
 use Rattle.metal_grammar.specs.Faults.{passing, count_of_holes, count_of_variables}
 use Rattle.metal_grammar.specs.FirstFault.{Fault, Counted, Variables, Holes, AllRules, or_else, too_many, twice, fault_of, fault_of_rules}
-use Rattle.metal_reader.specs.FirstFaults.{faults_before_rules}
+use Rattle.metal_faults.specs.FirstFaults.{faults_before_rules}
 
 lengths : {A B : Type 0} (f : A → B) (xs : List A) → length (map f xs) ≡ length xs
 lengths f [] = refl

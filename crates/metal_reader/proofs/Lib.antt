@@ -1,3 +1,2 @@
 pub mod Few
 pub mod Refusing
-pub mod Order

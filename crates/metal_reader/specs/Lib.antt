@@ -1,3 +1,1 @@
-pub mod ClauseFaults
 pub mod Faults
-pub mod FirstFaults

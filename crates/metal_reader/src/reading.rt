@@ -1,36 +1,29 @@
 //! Reads a checker from its tokens or its bytes.
 
-ghost use Rattle.std.specs.Prelude.{◌≡◌, ◌+◌, ◌*◌, ◌<◌, ◌≤◌, ◌^◌, ◌&&◌, ◌||◌, None, List, map, length, nat_eq, IfOk, IfErr};
+ghost use Rattle.std.specs.Prelude.{◌≡◌, ◌+◌, ◌*◌, ◌<◌, ◌≤◌, ◌^◌, None, List, length, IfOk, IfErr};
 ghost use Rattle.mx_base.specs.Names.{AddsAtMost, HasNoRepeats};
 ghost use Rattle.c_tree.specs.Symbol.{Symbol, symbol_of, symbols_of};
 ghost use Rattle.c_lexer.specs.Tokens.{TokenList};
 ghost use Rattle.metal_grammar.specs.Definition.{IsMachine};
 ghost use Rattle.metal_grammar.specs.Grammar.{IsText};
-ghost use Rattle.metal_grammar.specs.Rules.{rules_of, rule_position};
-ghost use Rattle.metal_grammar.specs.Written.{Clause as WrittenClause};
-ghost use Rattle.std.specs.Option.{option_map};
 ghost use Rattle.metal_tree.specs.Whole.{machine_view};
 ghost use Rattle.metal_reader.specs.Faults.{Refuses as RefusesText, RefusesBytes, IsLexed};
-ghost use Rattle.metal_clauses.specs.Places.{place_in};
 ghost use Rattle.metal_building.specs.Places.{HasPlaces};
 ghost use Rattle.metal_written.specs.Texts.{AreBelow, AreRight};
-ghost use Rattle.c_grammar.specs.Symbols.{is_sign};
-ghost use Rattle.c_tree.specs.declared.punctuator.Punctuator.TheVariants as marks;
 ghost use Rattle.metal_grammar.specs.FirstFault.{fault_of, fault_of_rules};
 ghost use Rattle.metal_grammar.specs.Known.{StringsAreKnown};
 ghost use Rattle.metal_grammar.specs.Rules as grammar;
 ghost use Rattle.metal_grammar.specs.Meaning as meaning;
-ghost use Rattle.metal_reader.specs.FirstFaults.{Says, faults_before_rules};
+ghost use Rattle.metal_faults.specs.FirstFaults.{Says, faults_before_rules};
 ghost use Rattle.metal_written.specs.Sizes.{ClausesHaveSizes, size_of_all};
 ghost use Rattle.metal_written.specs.Written.{clause_views};
 
-use crate::fault::MetalFault;
-use crate::first_fault::{check_declarations, check_rules};
 use c_lexer::{LexFault, Mode, Tokens, lex};
-use c_tree::{Arena, Place, Punctuator, Token, TokenKind};
+use c_tree::{Arena, Token};
 use metal_building::{builder_of, made_of};
-use metal_clauses::{open_behind, read_clauses};
+use metal_clauses::read_clauses;
 use metal_declared::holes_of;
+use metal_faults::{MetalFault, check_declarations, check_rules};
 use metal_tree::Machine;
 use metal_written::{Clause, Texts, rules_of};
 use mx_base::Names;
@@ -159,47 +152,4 @@ pub fn read_machine_bytes<'a>(
     };
     let kept = tokens.insert(lexed);
     read_machine(arena, alloc, kept, names)
-}
-
-/// Whether the token is `:` or `|`.
-fn is_in_front_of_rule(token: &Token) -> bool
-    ensures { result ≡ (is_sign marks.Colon (symbol_of token.now) || is_sign marks.Bar (symbol_of token.now)) }
-{
-    match token.kind {
-        TokenKind::Punct(found) => Punctuator::Colon as u8 == found as u8
-            || Punctuator::Bar as u8 == found as u8,
-        _ => false,
-    }
-}
-
-/// Whether a rule begins behind a token, before which so many braces are open: a source's `:`, or `|` between rules.
-fn begins_rule(depth: u32, token: &Token) -> bool
-    ensures { result ≡ nat_eq depth 1 && (is_sign marks.Colon (symbol_of token.now) || is_sign marks.Bar (symbol_of token.now)) }
-{
-    depth == 1 && is_in_front_of_rule(token)
-}
-
-/// The place of the first token of the rule with a number, in a text whose clauses can all be read. It takes no memory.
-pub fn rule_place(tokens: &Tokens, rule: u16, names: &Names) -> Option<Place>
-    requires text { (cs : List WrittenClause) × IsText names.now cs (symbols_of tokens.now.all) }
-    ensures { (cs : List WrittenClause) → IsText names.now cs (symbols_of tokens.now.all) → result ≡ option_map (place_in tokens.now.end.place.file) (rule_position rule (rules_of cs)) }
-{
-    let mut depth = 0;
-    let mut number = 0;
-    let all = tokens.all();
-    let mut index = 0;
-    while index < all.len() {
-        if begins_rule(depth, &all[index]) {
-            number += 1;
-            if number == u32::from(rule) {
-                return Some(Place {
-                    file: tokens.end().place.file,
-                    token: index as u32 + 1,
-                });
-            }
-        }
-        depth = open_behind(depth, &all[index]);
-        index += 1;
-    }
-    None
 }

@@ -2,12 +2,12 @@
 use Rattle.std.proofs.Common.{◌≡◌, ◌⊎◌, inl, inr, ℕ, Bool, true, false, cond, List, [], ◌∷◌, Option, None, Some, Err, ap, refl, ◌∙◌, sym}
 use Rattle.metal_grammar.specs.FirstFault.{Fault, TooMany, Twice, UnknownCallout, TwoVariables, BadSplit, BadSource, VariableMissing, BadFormat, or_else, too_many, twice, unknown_at}
 use Rattle.metal_clauses.specs.Places.{place_in}
-use Rattle.metal_reader.specs.declared.fault.MetalFault.{MetalFault}
-use Rattle.metal_reader.specs.declared.fault.MetalFault.TheVariants as faults
+use Rattle.metal_faults.specs.declared.fault.MetalFault.{MetalFault}
+use Rattle.metal_faults.specs.declared.fault.MetalFault.TheVariants as faults
 use Rattle.metal_declared.specs.declared.which.Which.{Which}
 use Rattle.metal_declared.specs.declared.which.Which.TheVariants as which
-use Rattle.metal_reader.specs.Faults.{counted, fault_in}
-use Rattle.metal_reader.specs.FirstFaults.{what}
+use Rattle.metal_faults.specs.Faults.{counted, fault_in}
+use Rattle.metal_faults.specs.FirstFaults.{what}
 use Rattle.metal_rules.specs.RuleFaults.{first_of}
 
 -- This is refused for want of memory, or for this fault.

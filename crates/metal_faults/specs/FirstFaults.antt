@@ -5,11 +5,11 @@ use Rattle.metal_grammar.specs.Written.{Clause}
 use Rattle.metal_grammar.specs.Rules.{declared_names, count_of_rules}
 use Rattle.metal_grammar.specs.Faults.{count_of_variables, count_of_holes, passing, repeated}
 use Rattle.metal_grammar.specs.FirstFault.{Fault, Counted, Variables, Holes, AllRules, or_else, too_many, twice}
-use Rattle.metal_reader.specs.declared.fault.MetalFault.{MetalFault}
-use Rattle.metal_reader.specs.declared.fault.MetalFault.TheVariants.{NoMemory}
+use Rattle.metal_faults.specs.declared.fault.MetalFault.{MetalFault}
+use Rattle.metal_faults.specs.declared.fault.MetalFault.TheVariants.{NoMemory}
 use Rattle.metal_declared.specs.declared.which.Which.{Which}
 use Rattle.metal_declared.specs.declared.which.Which.TheVariants as which
-use Rattle.metal_reader.specs.Faults.{fault_in}
+use Rattle.metal_faults.specs.Faults.{fault_in}
 
 abbrev pub what : Which → Counted
 what which.Variables = Variables

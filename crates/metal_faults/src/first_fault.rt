@@ -2,7 +2,7 @@
 
 ghost use Rattle.std.specs.Prelude.{◌≡◌, IfOk, List, map, filter, ◌<◌, ◌^◌, ◌≤◌};
 ghost use Rattle.metal_grammar.specs.FirstFault as grammar;
-ghost use Rattle.metal_reader.specs.FirstFaults.{Says, faults_before_rules, what};
+ghost use Rattle.metal_faults.specs.FirstFaults.{Says, faults_before_rules, what};
 ghost use Rattle.metal_written.specs.Placed.{placed_view, placed_views};
 ghost use Rattle.metal_written.specs.Sizes.{ClausesHaveSizes, size_of_all};
 ghost use Rattle.metal_written.specs.Written.{clause_views, literals_row, maybe_action_view};
@@ -45,7 +45,7 @@ fn check_limit(which: Which, file: u16, clauses: &[Clause]) -> Result<(), MetalF
 
 /// Refuses a text that has too many variables, holes or rules, or declares a name twice.
 #[tactic(auto, using(crate::proofs::Order::told))]
-pub(crate) fn check_declarations(
+pub fn check_declarations(
     arena: &Arena,
     file: u16,
     clauses: &[Clause],
@@ -132,7 +132,7 @@ fn check_rule<'a>(
 
 /// Refuses the first rule that has a fault.
 #[tactic(auto, using(crate::proofs::Order::told))]
-pub(crate) fn check_rules<'a>(
+pub fn check_rules<'a>(
     builder: &Builder<'a, '_>,
     declared: &[DeclaredHole<'a>],
     rules: &[PlacedRule<'a>],

@@ -1,8 +1,8 @@
 //! Why a text is no checker, and where.
 
 ghost use Rattle.std.specs.Prelude.{◌≡◌};
-ghost use Rattle.metal_reader.specs.declared.fault.MetalFault.TheVariants.{NoMemory};
-ghost use Rattle.metal_reader.specs.ClauseFaults.{metal_fault};
+ghost use Rattle.metal_faults.specs.declared.fault.MetalFault.TheVariants.{NoMemory};
+ghost use Rattle.metal_faults.specs.ClauseFaults.{metal_fault};
 
 use c_lexer::LexFault;
 use c_tree::Place;
