@@ -1,15 +1,13 @@
 //! The first fault of a text whose clauses were read: too many of something, a name twice, and then the rules in their order.
 
-ghost use Rattle.std.specs.Prelude.{◌≡◌, IfOk, List, map, filter, ◌<◌, ◌^◌, ◌≤◌};
+ghost use Rattle.std.specs.Prelude.{◌≡◌, IfOk, ◌<◌, ◌^◌};
 ghost use Rattle.metal_grammar.specs.FirstFault as grammar;
-ghost use Rattle.metal_faults.specs.FirstFaults.{Says, faults_before_rules, what};
+ghost use Rattle.metal_faults.specs.FirstFaults.{Says, faults_before_rules, rule_fault, what};
 ghost use Rattle.metal_written.specs.Placed.{placed_view, placed_views};
 ghost use Rattle.metal_written.specs.Sizes.{ClausesHaveSizes, size_of_all};
 ghost use Rattle.metal_written.specs.Written.{clause_views, literals_row, maybe_action_view};
 ghost use Rattle.metal_grammar.specs.Faults as faults;
 ghost use Rattle.metal_grammar.specs.Faults.{passing};
-ghost use Rattle.metal_grammar.specs.Holes.{DeclaredHole as DeclaredIn};
-ghost use Rattle.metal_grammar.specs.Rules.{variables_among};
 ghost use Rattle.metal_grammar.specs.Written.{members};
 ghost use Rattle.metal_declared.specs.DeclaredHoles.{declared_views};
 ghost use Rattle.metal_declared.specs.Limits.{counting, limit_of};
@@ -103,7 +101,7 @@ fn check_rule<'a>(
     holes: &[u32],
     rule: &PlacedRule<'a>,
 ) -> Result<(), MetalFault>
-    ensures { (all : List DeclaredIn) → variables.now ≡ variables_among all → holes.now ≡ map (λ h. h.name) all → Says builder.now.file result (grammar.fault_of_rule builder.now.names.now all (placed_view rule.now)) }
+    ensures { Says builder.now.file result (rule_fault builder.now.names.now variables.now holes.now (placed_view rule.now)) }
 {
     if let Some(name) = unknown_callout(builder.names, &rule.rule) {
         let place = Place {
