@@ -65,11 +65,11 @@ made_by b cs declared ordered name holes placed rules right n v d p a o h r =
     let as_many = length-map (filter (λ h. h.is_state) (declared_views declared)) (λ h. h.name) in
     let states_length : length number.states.now ≡ length (filter (λ h. h.is_state) (declared_views declared)) = omega (arith, front, front_length, as_many) in
     made_machine spelling cs name (length number.states.now) holes number.globals.now number.states.now rules a
-      (states_length ∙ ap (λ hs. length (filter (λ h. h.is_state) hs)) d)
-      (h ∙ ap (map hole_of) (o ∙ ap in_order d))
-      (right.numbering.globals ∙ ap (globals_among spelling) mentioned)
-      (right.numbering.states ∙ ap (λ ms. map (states_among spelling ms) (variables_in number)) mentioned ∙ ap (map (states_among spelling (states_mentioned (rules_of cs)))) (v ∙ ap variables_among d))
-      (r ∙ ap (λ k. map (rule_of k) (placed_views placed)) n ∙ ap (map (rule_of (numbering_of spelling cs))) p)
+    (states_length ∙ ap (λ hs. length (filter (λ h. h.is_state) hs)) d)
+    (h ∙ ap (map hole_of) (o ∙ ap in_order d))
+    (right.numbering.globals ∙ ap (globals_among spelling) mentioned)
+    (right.numbering.states ∙ ap (λ ms. map (states_among spelling ms) (variables_in number)) mentioned ∙ ap (map (states_among spelling (states_mentioned (rules_of cs)))) (v ∙ ap variables_among d))
+    (r ∙ ap (λ k. map (rule_of k) (placed_views placed)) n ∙ ap (map (rule_of (numbering_of spelling cs))) p)
 
 abbrev rule : ℕ → ℕ → machines.Source → List (List machines.Item) → machines.Dest → Option (List machines.Piece) → machines.Rule
 rule number position source alternatives dest action = record { number = number; position = position; source = source; alternatives = alternatives; dest = dest; action = action }

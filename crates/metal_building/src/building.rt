@@ -15,8 +15,8 @@ ghost use Rattle.metal_building.specs.Places.{HasPlaces};
 use bumpalo::collections::into_bump_slice;
 use c_tree::{Arena, Place};
 use metal_declared::DeclaredHole;
-use metal_numbers::Numbering;
 use metal_names::with_holes;
+use metal_numbers::Numbering;
 use metal_tree::{Action, Alternative, Callout, CalloutRow, HoleDecl, Item, Pattern, Rule};
 use metal_written::{
     Identifier, PlacedRule, Texts, WrittenAction, WrittenAlternative, WrittenCallout, WrittenItem,

@@ -43,11 +43,7 @@ fn check_limit(which: Which, file: u16, clauses: &[Clause]) -> Result<(), MetalF
 
 /// Refuses a text that has too many variables, holes or rules, or declares a name twice.
 #[tactic(auto, using(crate::proofs::Order::told))]
-pub fn check_declarations(
-    arena: &Arena,
-    file: u16,
-    clauses: &[Clause],
-) -> Result<(), MetalFault>
+pub fn check_declarations(arena: &Arena, file: u16, clauses: &[Clause]) -> Result<(), MetalFault>
     requires sizes { ClausesHaveSizes clauses.now }
     requires few { size_of_all clauses.now < 2 ^ 31 }
     ensures { Says file result (faults_before_rules (clause_views clauses.now)) }

@@ -193,10 +193,7 @@ pub fn in_order<'a>(
 
 /// The names of these holes.
 #[tactic(auto, using(metal_declared::proofs::InHoles::additions))]
-pub fn names_of<'a>(
-    arena: &'a Arena,
-    holes: &[DeclaredHole<'a>],
-) -> Result<&'a [u32], AllocError>
+pub fn names_of<'a>(arena: &'a Arena, holes: &[DeclaredHole<'a>]) -> Result<&'a [u32], AllocError>
     ensures { IfOk result (λ found. found.now ≡ map (λ h. h.name) (declared_views holes.now)) }
 {
     let mut found = Vec::new(arena);

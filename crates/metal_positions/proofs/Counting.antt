@@ -1,9 +1,9 @@
 -- Rules are numbered from 1 in their order, so the one with a number is found by counting.
-use Rattle.std.proofs.Common.{◌≡◌, ℕ, suc, ◌+◌, Bool, cond, nat_eq, List, [], ◌∷◌, ◌++◌, length, map, Option, None, Some, ap, refl, ◌∙◌, sym, subst, arith}
+use Rattle.std.proofs.Common.{◌≡◌, ℕ, suc, ◌+◌, cond, nat_eq, List, [], ◌∷◌, ◌++◌, length, map, Some, ap, refl, ◌∙◌, sym, subst, arith}
 use Rattle.metal_grammar.specs.Written.{Row, lone, row, members, StateName, WrittenRule, Content, Nothing, Declares, Rules, Clause}
 use Rattle.metal_grammar.specs.Phrases.{state_phrase, rule_phrase}
 use Rattle.metal_grammar.specs.Rules.{size, behind_head, behind_clause, PlacedRule, rules_from, rules_of_content, count_of_rules, placed_rules, rules_of, rule_position}
-use Rattle.metal_positions.specs.Positions.{beginnings, position_with}
+use Rattle.metal_positions.specs.Positions.{position_with}
 use Rattle.metal_positions.specs.Theorems.{RulesAreCounted}
 use Rattle.metal_positions.proofs.Rules.{rules_begin}
 

@@ -1,11 +1,11 @@
 -- The positions of the rules of a text are those that are found in its symbols.
-use Rattle.std.proofs.Common.{◌≡◌, ℕ, suc, ◌+◌, Bool, true, false, cond, is_some, ◌&&◌, List, [], ◌∷◌, ◌++◌, length, map, Option, None, Some, ap, refl, ◌∙◌, sym, append-nil, arith}
+use Rattle.std.proofs.Common.{◌≡◌, ℕ, ◌+◌, Bool, true, false, cond, is_some, List, [], ◌∷◌, ◌++◌, length, map, Option, None, Some, ap, refl, ◌∙◌, sym, arith}
 use Rattle.c_tree.specs.declared.punctuator.Punctuator.TheVariants as marks
 use Rattle.c_tree.specs.Symbol.{Symbol, Sign}
-use Rattle.c_tree.specs.Phrase.{Phrase, nothing, ◌⨾◌, phrase_then, sign}
+use Rattle.c_tree.specs.Phrase.{Phrase, ◌⨾◌, phrase_then, sign}
 use Rattle.metal_grammar.specs.Words.{Spelling}
 use Rattle.metal_grammar.specs.Written.{Row, lone, row, StateName, WrittenRule, Content, Nothing, Declares, Rules, Clause}
-use Rattle.metal_grammar.specs.Phrases.{word, row_phrase, maybe_phrase, sign_if, type_phrase, state_phrase, rule_phrase, content_phrase, head_phrase, clause_phrase, clause_tokens}
+use Rattle.metal_grammar.specs.Phrases.{row_phrase, maybe_phrase, sign_if, state_phrase, rule_phrase, content_phrase, head_phrase, clause_tokens}
 use Rattle.metal_grammar.specs.Holes.{DeclaredHole}
 use Rattle.metal_grammar.specs.Rules.{size, behind_head, behind_clause, PlacedRule, rules_from, rules_of_content, count_of_rules, placed_rules, rules_of}
 use Rattle.metal_grammar.specs.Grammar.{Before, nothing_before, behind_content, EachIs, IsRule, IsContent, is_rule, is_content, IsClause, IsText, text_tokens, AreWellFormed}

@@ -1,5 +1,5 @@
 -- Phrases in which no rule begins.
-use Rattle.std.proofs.Common.{◌≡◌, ℕ, zero, suc, ◌+◌, Bool, true, false, not, ◌&&◌, ◌||◌, nat_eq, List, [], ◌∷◌, ◌++◌, length, map, Option, None, Some, ap, refl, ◌∙◌, sym, append-nil, arith}
+use Rattle.std.proofs.Common.{◌≡◌, ℕ, zero, suc, ◌+◌, Bool, true, false, not, ◌&&◌, ◌||◌, List, [], ◌∷◌, ◌++◌, length, map, Option, None, Some, ap, refl, ◌∙◌, sym, append-nil, arith}
 use Rattle.c_tree.specs.declared.keyword.Keyword.{Keyword}
 use Rattle.c_tree.specs.declared.operator.StructOrUnion.TheVariants as which_word
 use Rattle.c_tree.specs.declared.punctuator.Punctuator.{Punctuator}

@@ -5,5 +5,4 @@ ghost use Rattle.metal_positions.specs.Theorems.{RulesAreCounted};
 /// The rule with a number begins behind as many of those `:` and `|` that stand within the machine's braces alone.
 pub fn rules_are_counted()
     ensures { RulesAreCounted }
-{
-}
+{}

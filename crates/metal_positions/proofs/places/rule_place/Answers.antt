@@ -9,8 +9,8 @@ returns-then-is_reached c cs w =
     let index = c.loop-index.index in
     let reached : (c.begins_rule-begins.result && nat_eq (c.loop-index.number + 1) c.args.rule) ≡ true = sym c.is_reached.ensures ∙ c.if-is_reached.true in
     let here : found_from c.loop-index.depth c.loop-index.number c.args.rule all index ≡ Some (index + 1) =
-        found_here c.loop-index.depth c.loop-index.number c.args.rule all index _ c.begins_rule-begins.result c.loop-index-test.true c.begins_rule-begins.ensures reached
-      in
+    found_here c.loop-index.depth c.loop-index.number c.args.rule all index _ c.begins_rule-begins.result c.loop-index-test.true c.begins_rule-begins.ensures reached
+    in
     ap (λ spot. Some (place_in spot.place.file (index + 1))) c.end.ensures
     ∙ place_found c.args.names.now cs all c.args.tokens.now.all c.args.tokens.now.end.place.file c.args.rule (Some (index + 1)) c.all-all.ensures.all w (sym here ∙ c.loop-index.invariant.found)
 
@@ -27,7 +27,7 @@ loop-index-preserved c =
     record {
       found =
           found_turn c.loop-index.depth c.loop-index.number c.args.rule all index _ c.begins_rule-begins.result c.open_behind-depth.result c.counted-number.result c.loop-index-test.true c.begins_rule-begins.ensures other
-            c.open_behind-depth.ensures c.counted-number.ensures
+          c.open_behind-depth.ensures c.counted-number.ensures
           ∙ c.loop-index.invariant.found;
       index = omega (arith, inside);
       depth = omega (arith, depth, low);
