@@ -1,5 +1,5 @@
 -- A request whose files are told: without a fault and without a failed call its reports are printed, and with a fault it is refused.
-use Rattle.std.proofs.Common.{◌≡◌, ◌≢◌, ◌⊎◌, inl, inr, ℕ, zero, suc, ◌+◌, ◌-◌, true, List, [], ◌∷◌, ◌++◌, length, take, slice_get, Option, Some, None, refl, sym, ap, ◌∙◌, subst, length-append, add-zero, zero-add, arith}
+use Rattle.std.proofs.Common.{◌≡◌, ◌≢◌, ◌⊎◌, inl, inr, ℕ, zero, suc, ◌+◌, ◌-◌, true, List, [], ◌∷◌, ◌++◌, length, take, slice_get, Option, Some, None, refl, sym, ap, ◌∙◌, subst, length-append, add-one, add-zero, zero-add, arith}
 use Rattle.std.proofs.lemmas.Bool.{true≢false}
 use Rattle.mx_io.specs.Reads.{Stands}
 use Rattle.path_model.specs.declared.report.Report.{Report}
@@ -55,7 +55,7 @@ at_turn Is told position left (suc k) (n ∷ ns) (b ∷ before) (x ∷ ts) name 
 
 -- The same of the bytes that were read, where what is told of the files up to this one is all that is asked.
 at_read_turn : (Is : ℕ → ℕ → List ℕ → List ℕ → Type 0) (told : List ℕ → Option (List ℕ)) (position left k : ℕ) (ns before bs ts : List (List ℕ)) (name bytes : List ℕ)
-    → AreFrom Is position left ns bs → Agree told ns bs → length bs ≡ length ns → Tells told (take (k + 1) ns) ts → Agree told ns before → length before ≡ k → slice_get ns k ≡ Some name → Stands (told name) bytes
+    → AreFrom Is position left ns bs → Agree told ns bs → length bs ≡ length ns → Tells told (take (suc k) ns) ts → Agree told ns before → length before ≡ k → slice_get ns k ≡ Some name → Stands (told name) bytes
     → Is (position + k) (left_after left before) name bytes
 at_read_turn Is told position left k [] [] bs ts name bytes s r w t a h named stands = cc
 at_read_turn Is told position left k [] (b ∷ before) bs ts name bytes s r w t a h named stands = absurd a
@@ -129,7 +129,7 @@ module _ (told : List ℕ → Option (List ℕ)) (names old new texts : List (Li
   all_sound : (read : List (List ℕ)) → AreSound told names read → length read ≡ length names → UnsoundAt told names position → ⊥
   all_sound read sound whole u =
       let turn = u.turn in
-      let s : IsSound (0 + position) (left_after total_limit turn.texts) turn.name u.bytes = at_read_turn IsSound told 0 total_limit position names turn.texts read texts turn.name u.bytes sound.sound sound.agree whole tells turn.before.agree turn.count turn.named u.stands in
+      let s : IsSound (0 + position) (left_after total_limit turn.texts) turn.name u.bytes = at_read_turn IsSound told 0 total_limit position names turn.texts read texts turn.name u.bytes sound.sound sound.agree whole (subst (λ k. Tells told (take k names) texts) (add-one position) tells) turn.before.agree turn.count turn.named u.stands in
       u.unsound (subst (λ p. IsSound p (left_after total_limit turn.texts) turn.name u.bytes) (zero-add position) s)
 
   pub faulty : UnsoundAt told names position → Ran told names old new result out errs → (result ≡ Refused) ⊎ ((result ≡ WriteFault) ⊎ (result ≡ NoMemory))
