@@ -1,5 +1,5 @@
 -- The loop that reads all clauses: a clause that is read joins those before, and one that isn't ends the reading.
-use Rattle.std.proofs.Common.{◌≡◌, ◌⊎◌, inl, inr, ℕ, ◌+◌, ◌-◌, ◌<◌, ◌≤◌, Bool, true, false, nat_eq, nat_lt, Bor, List, [], ◌∷◌, ◌++◌, length, take, drop, Option, None, Some, Result, Ok, Err, MatchResult, IsErrAnd, ap, refl, ◌∙◌, sym, subst, arith}
+use Rattle.std.proofs.Common.{◌≡◌, inl, inr, ℕ, suc, cond, ◌+◌, ◌-◌, ◌<◌, ◌≤◌, Bool, true, false, nat_eq, nat_lt, Bor, List, [], ◌∷◌, ◌++◌, length, take, drop, Option, None, Some, Result, Ok, Err, MatchResult, IsErrAnd, ap, refl, ◌∙◌, sym, subst, arith}
 use Rattle.std.proofs.lemmas.Bool.Decides.{nat_tests}
 use Rattle.std.proofs.lemmas.List.{length-drop, length-take-le, map-append}
 use Rattle.c_tree.specs.declared.token.Token.{Token}
@@ -11,12 +11,11 @@ use Rattle.metal_grammar.specs.Grammar.{Before, nothing_before, behind_content}
 use Rattle.metal_grammar.specs.Phrases.{clause_tokens}
 use Rattle.metal_grammar.specs.Reading.{read_clause, Clauses, AllRead, Unread, read_clauses, read_text}
 use Rattle.metal_written.specs.declared.written.Clause.{Clause}
-use Rattle.metal_written.specs.Sizes.{HasSizes, ClauseHasSizes, ClausesHaveSizes, size_of_all}
+use Rattle.metal_written.specs.Sizes.{HasSizes, ClausesHaveSizes, size_of_all}
 use Rattle.metal_written.specs.Written.{clause_view, clause_views}
 use Rattle.metal_written.proofs.InSizes.{clause-size, clauses-sizes-push, total-push}
 use Rattle.metal_clauses.specs.declared.fault.ClauseFault.{ClauseFault}
 use Rattle.metal_clauses.specs.Cuts.{others_in}
-use Rattle.metal_clauses.specs.Places.{place_in}
 use Rattle.metal_clauses.specs.Read.{ReadsAll, IsUnread, GivesBetween}
 use Rattle.metal_clauses.proofs.InTurn.{behind_all, behind-push, with_all, left_clauses, turn-next, turn-fails, turn-over}
 
@@ -57,6 +56,24 @@ module _ (names : Spelling) (ts : List Token) (clauses : List Clause) (depth fro
   pub cut-bound : IsCut → from + n ≤ length ts
   cut-bound c = let w = within c in let count = length-drop from ts in let low = c.low in omega (arith, w, count, low)
 
+  -- where more tokens follow, a clause has some
+  some_cut : IsCut → (0 < length us → 0 < n) → from + n < length ts → 0 < n
+  some_cut c some l =
+      let size : length us ≡ length (drop from ts) = ap length c.behind in
+      let count = length-drop from ts in
+      some (omega (arith, l, size, count))
+
+  -- the tokens that are left get fewer
+  pub fewer-left : (more : Bool) → IsCut → (0 < length us → 0 < n) → more ≡ true → cond (nat_lt (from + n) (length ts)) (suc (length ts - (from + n))) 0 < cond more (suc (length ts - from)) 0
+  fewer-left more c some m = subst (λ b. cond (nat_lt (from + n) (length ts)) (suc (length ts - (from + n))) 0 < cond b (suc (length ts - from)) 0) (sym m) (by (nat_lt (from + n) (length ts)) refl)
+    where
+      by : (b : Bool) → b ≡ nat_lt (from + n) (length ts) → cond b (suc (length ts - (from + n))) 0 < suc (length ts - from)
+      by true h =
+          let l : from + n < length ts = grind (arith, nat_tests) in
+          let positive = some_cut c some l in
+          omega (arith, l, positive)
+      by false h = omega arith
+
   -- no clause is left
   pub all-read : (more : Bool) → more ≡ false → ReadSoFar more → read_text names (symbols_of ts) ≡ AllRead (clause_views clauses)
   all-read more m w = turn-over names ts before (clause_views clauses) (nat_eq from 0) depth from (read_text names (symbols_of ts)) (subst ReadSoFar m w)
@@ -88,9 +105,7 @@ module _ (names : Spelling) (ts : List Token) (clauses : List Clause) (depth fro
         goes_on : nat_lt (from + n) (length ts) ≡ true → 0 < from + n
         goes_on h =
             let l : from + n < length ts = grind (arith, nat_tests) in
-            let size : length us ≡ length (drop from ts) = ap length c.behind in
-            let count = length-drop from ts in
-            let positive : 0 < n = some (omega (arith, l, size, count)) in
+            let positive = some_cut c some l in
             omega (arith, positive)
 
     -- what stands before the next clause

@@ -1,10 +1,10 @@
-use Rattle.std.proofs.Common.{◌≡◌, ℕ, ◌+◌, ◌-◌, ◌*◌, ◌<◌, ◌≤◌, ap, ◌∙◌, sym, subst, arith}
+use Rattle.std.proofs.Common.{◌+◌, ◌-◌, ◌*◌, ◌≤◌, ap, ◌∙◌, sym, subst, arith}
 use Rattle.metal_grammar.specs.Grammar.{nothing_before}
 use Rattle.metal_grammar.specs.Reading.{AllRead}
 use Rattle.metal_forms.specs.Before.{Knows}
 use Rattle.metal_written.specs.Written.{clause_views}
-use Rattle.metal_clauses.proofs.InTurn.{behind_all, turn-over}
-use Rattle.metal_clauses.proofs.InReading.{IsCut, clause-refused, clause-read, cut-bound, all-read, before-next, sizes-next, total-next}
+use Rattle.metal_clauses.proofs.InTurn.{behind_all}
+use Rattle.metal_clauses.proofs.InReading.{IsCut, fewer-left, clause-refused, clause-read, cut-bound, all-read, before-next, sizes-next, total-next}
 use Rattle.metal_clauses.proofs.clauses.read_clauses.Goals as goal
 
 pub returns-in_err-clause-clause-read : goal.returns-in_err-clause-clause-read
@@ -42,6 +42,15 @@ loop-more-preserved c =
       types = c.in_ok-clause.ensures.ready.0 ∙ l.invariant.types;
       spent = omega (arith, rises, spent);
     }
+
+pub loop-more-smaller : goal.loop-more-smaller
+loop-more-smaller c =
+    let l = c.loop-more in
+    let names = c.args.names.now in
+    let ts = c.args.tokens.now in
+    let n = c.clause_len.result in
+    let cut : IsCut names ts l.clauses.items l.depth l.from n c.tokens_behind.result.now = record { behind = c.tokens_behind.ensures; within = c.clause_len.ensures.within; first = c.clause_len.ensures.first; low = l.invariant.bound } in
+    fewer-left names ts l.clauses.items l.depth l.from n c.tokens_behind.result.now l.more cut c.clause_len.ensures.some c.loop-more-test.true
 
 pub returns-clause-read : goal.returns-clause-read
 returns-clause-read c =

@@ -1,4 +1,4 @@
-use Rattle.std.proofs.Common.{◌≡◌, ℕ, suc, ◌≤◌, ◌*◌, ◌-◌, cond, nat_eq, [], length}
+use Rattle.std.proofs.Common.{◌≡◌, suc, ◌≤◌, ◌*◌, ◌-◌, cond, nat_eq, [], length}
 use Rattle.c_tree.specs.Symbol.{symbols_of}
 use Rattle.metal_grammar.specs.Grammar.{nothing_before}
 use Rattle.metal_grammar.specs.Reading.{read_clauses, read_text}
