@@ -1,9 +1,8 @@
 -- How many of something a clause declares: no more than it has tokens.
-use Rattle.std.proofs.Common.{◌≡◌, ℕ, ◌+◌, ◌*◌, ◌<◌, ◌≤◌, Bool, true, false, cond, is_some, List, [], ◌∷◌, length, map, ap, refl, ◌∙◌, sym, subst, arith}
+use Rattle.std.proofs.Common.{◌≡◌, ℕ, ◌≤◌, Bool, true, false, cond, is_some, List, [], ◌∷◌, length, map, ap, refl, ◌∙◌, sym, subst, arith}
 use Rattle.std.proofs.lemmas.List.{length-map}
 use Rattle.metal_grammar.specs.Written.{members}
-use Rattle.metal_grammar.specs.Phrases.{maybe_phrase, head_phrase, state_phrase, clause_tokens}
-use Rattle.metal_grammar.specs.Rules.{size}
+use Rattle.metal_grammar.specs.Phrases.{clause_tokens}
 use Rattle.metal_written.specs.declared.written.Declaration.{Declaration}
 use Rattle.metal_written.specs.declared.written.Section.{Section}
 use Rattle.metal_written.specs.declared.written.WrittenRule.{WrittenRule}
@@ -11,7 +10,7 @@ use Rattle.metal_written.specs.declared.written.Content.{Content}
 use Rattle.metal_written.specs.declared.written.Content.TheVariants as contents
 use Rattle.metal_written.specs.declared.written.Clause.{Clause}
 use Rattle.metal_written.specs.Sizes.{ClauseHasSizes, HasSizes, HaveSizes, size_of_rules}
-use Rattle.metal_written.specs.Written.{declaration_view, section_view, content_view, state_view, rule_view, no_rule, maybe_head_view, rules_row}
+use Rattle.metal_written.specs.Written.{declaration_view, section_view, content_view, rule_view, no_rule, maybe_head_view}
 use Rattle.metal_written.proofs.Rows.{members-row}
 use Rattle.metal_written.proofs.InSizes.{section-fits}
 use Rattle.metal_declared.specs.declared.which.Which.{Which}

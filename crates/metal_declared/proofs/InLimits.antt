@@ -1,13 +1,12 @@
 -- What is counted over the clauses of a text.
-use Rattle.std.proofs.Common.{◌≡◌, ℕ, suc, ◌+◌, ◌<◌, ◌≤◌, Bool, true, false, cond, nat_lt, List, [], ◌∷◌, length, get_or, drop, Option, None, Some, ap, refl, ◌∙◌, sym, subst, add-one, drop-cons, arith}
+use Rattle.std.proofs.Common.{◌≡◌, ℕ, ◌+◌, ◌<◌, ◌≤◌, true, false, cond, nat_lt, List, length, get_or, drop, None, Some, ap, ◌∙◌, sym, arith}
 use Rattle.std.proofs.lemmas.Bool.Decides.{nat_tests}
-use Rattle.std.proofs.lemmas.List.{drop_all}
 use Rattle.metal_grammar.specs.Written.{Content}
 use Rattle.metal_grammar.specs.Phrases.{clause_tokens}
 use Rattle.metal_grammar.specs.Rules.{behind_clause}
 use Rattle.metal_grammar.specs.Faults.{passing}
 use Rattle.metal_written.specs.declared.written.Clause.{Clause}
-use Rattle.metal_written.specs.Sizes.{ClauseHasSizes, ClausesHaveSizes, size_of_all}
+use Rattle.metal_written.specs.Sizes.{ClauseHasSizes, ClausesHaveSizes}
 use Rattle.metal_written.specs.Written.{content_view, clause_view, clause_views}
 use Rattle.metal_written.proofs.Any.{mapped-drop, mapped-end}
 use Rattle.metal_written.proofs.InSizes.{sizes-next, total-next}

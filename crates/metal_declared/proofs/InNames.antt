@@ -2,10 +2,10 @@
 use Rattle.std.proofs.Common.{◌≡◌, ℕ, suc, ◌+◌, ◌*◌, ◌<◌, ◌≤◌, ◌^◌, Bool, true, false, cond, nat_eq, ◌||◌, List, [], ◌∷◌, ◌++◌, length, get_or, take, drop, map, Option, None, Some, ap, refl, ◌∙◌, sym, subst, append_assoc, append-nil, add-one, drop-cons, arith, length-append}
 use Rattle.std.proofs.lemmas.List.{drop_all, take_more, take_all, length-take-le}
 use Rattle.c_tree.specs.declared.punctuator.Punctuator.TheVariants as marks
-use Rattle.c_tree.specs.Phrase.{Phrase, ◌⨾◌, sign}
+use Rattle.c_tree.specs.Phrase.{◌⨾◌, sign}
 use Rattle.metal_grammar.specs.Written.{Row}
 use Rattle.metal_grammar.specs.Phrases.{word, maybe_phrase, head_phrase, row_phrase, type_phrase, declaration_phrase, content_phrase, sign_if, clause_tokens}
-use Rattle.metal_grammar.specs.Rules.{is_among, size, names_from, declared_names, behind_clause, behind_head, names_of_content}
+use Rattle.metal_grammar.specs.Rules.{is_among, size, names_from, declared_names, behind_head, names_of_content}
 use Rattle.metal_grammar.specs.Faults.{repeated}
 use Rattle.metal_written.specs.declared.written.Declaration.{Declaration}
 use Rattle.metal_written.specs.declared.written.Content.TheVariants as contents

@@ -1,4 +1,4 @@
-use Rattle.std.proofs.Common.{◌≡◌, ◌≤◌, length, ap, subst, sym}
+use Rattle.std.proofs.Common.{◌≤◌, length, subst, sym}
 use Rattle.metal_numbers.proofs.FewStates.{globals_few, mentioned_few, small_made}
 use Rattle.metal_numbers.proofs.numbering.numbering_of.Goals as goal
 

@@ -1,4 +1,4 @@
-use Rattle.std.proofs.Common.{◌≡◌, ◌≤◌, ◌++◌, ◌∷◌, [], length, map, take, ap, ◌∙◌, subst, sym}
+use Rattle.std.proofs.Common.{◌≤◌, ◌++◌, ◌∷◌, [], length, map, take, ap, ◌∙◌, subst, sym}
 use Rattle.metal_grammar.specs.Meaning.{states_among}
 use Rattle.metal_tree.specs.Parts.{state_names}
 use Rattle.metal_written.specs.Written.{state_view}

@@ -1,4 +1,4 @@
-use Rattle.std.proofs.Common.{◌≡◌, ◌≤◌, ◌<◌, ap, ◌∙◌, sym, subst, arith, slice_index_or}
+use Rattle.std.proofs.Common.{ap, ◌∙◌, arith, slice_index_or}
 use Rattle.metal_grammar.specs.Meaning.{number_in}
 use Rattle.metal_tree.specs.Parts.{state_names}
 use Rattle.metal_numbers.proofs.FewStates.{state_fits}
