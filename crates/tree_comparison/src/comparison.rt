@@ -7,7 +7,7 @@ ghost use Rattle.c_tree.specs.declared.operator.AssignOp.TheVariants as assign;
 ghost use Rattle.c_tree.specs.declared.operator.UnaryOp.TheVariants as unary;
 ghost use Rattle.tree_levels.specs.Levels.{leaf_head, one_head, two_head, front_head, level_pattern};
 ghost use Rattle.hole_matching.specs.ComparedSubjects.{compared, compared_node, compared_nodes, compared_then, compared_primary, compared_operation, compared_initializer, compared_part};
-ghost use Rattle.hole_matching.specs.Pattern.{Unary, other, likewise, no_more, more, same_pattern, same_patterns};
+ghost use Rattle.hole_matching.specs.Pattern.{Member, Unary, Cond, Braces, Designated, other, likewise, no_more, more, same_pattern, same_patterns};
 ghost use Rattle.hole_matching.specs.Written.{one_part, two_parts};
 ghost use Rattle.objects.specs.Units.{facts_in};
 ghost use Rattle.path_subjects.specs.Values.{subject_of};
@@ -123,6 +123,20 @@ fn have_two<'a>(
     }
 }
 
+// Whether a tree and a list behind it are equal to others.
+#[cycle(same)]
+fn are_front<'a>(
+    unit: &TypedUnit<'a>,
+    first: &Tree<'a>,
+    list: &Trees<'a>,
+    other_first: &'a Tree<'a>,
+    other_list: &Trees<'a>,
+) -> bool
+    ensures { result ≡ (same_pattern (compared_node (facts_in unit.now) (node_of first.now)) (compared_node (facts_in unit.now) (node_of other_first.now)) && same_patterns (compared_nodes (facts_in unit.now) (nodes_of list.now)) (compared_nodes (facts_in unit.now) (nodes_of other_list.now))) }
+{
+    same_tree(unit, first, Subject::Tree(other_first)) && same_list(unit, list, other_list)
+}
+
 // Whether a level has this head, and parts that are equal: one, and a list behind it.
 #[cycle(same)]
 fn has_front<'a>(
@@ -136,9 +150,70 @@ fn has_front<'a>(
 {
     match level {
         Level::Front(other, other_first, other_list) => {
-            same_front(head, other)
-                && same_tree(unit, first, Subject::Tree(other_first))
-                && same_list(unit, list, &other_list)
+            same_front(head, other) && are_front(unit, first, list, other_first, &other_list)
+        }
+        _ => false,
+    }
+}
+
+// Whether a level is a member of what a pointer points to.
+#[cycle(same)]
+fn has_pointed<'a>(unit: &TypedUnit<'a>, member: u32, pointer: &Tree<'a>, level: Level<'a>) -> bool
+    ensures { result ≡ same_pattern (likewise (Member member) (one_part (likewise (Unary unary.Deref) (one_part (compared_node (facts_in unit.now) (node_of pointer.now)))))) (level_pattern (facts_in unit.now) level.entry) }
+{
+    match level {
+        Level::One(other, other_part) => {
+            same_one(One::Member(member), other) && is_pointed_to(unit, pointer, other_part)
+        }
+        _ => false,
+    }
+}
+
+// Whether a level is a conditional expression with equal parts.
+#[cycle(same)]
+fn has_three<'a>(
+    unit: &TypedUnit<'a>,
+    condition: &Tree<'a>,
+    then: &Tree<'a>,
+    otherwise: &Tree<'a>,
+    level: Level<'a>,
+) -> bool
+    ensures { result ≡ same_pattern (likewise Cond (more (compared_node (facts_in unit.now) (node_of condition.now)) (two_parts (compared_node (facts_in unit.now) (node_of then.now)) (compared_node (facts_in unit.now) (node_of otherwise.now))))) (level_pattern (facts_in unit.now) level.entry) }
+{
+    match level {
+        Level::Cond(first, second, third) => {
+            same_tree(unit, condition, Subject::Tree(first))
+                && same_tree(unit, then, Subject::Tree(second))
+                && same_tree(unit, otherwise, Subject::Tree(third))
+        }
+        _ => false,
+    }
+}
+
+// Whether a level is a list in braces with equal elements.
+#[cycle(same)]
+fn has_braces<'a>(unit: &TypedUnit<'a>, elements: &Trees<'a>, level: Level<'a>) -> bool
+    ensures { result ≡ same_pattern (likewise Braces (compared_nodes (facts_in unit.now) (nodes_of elements.now))) (level_pattern (facts_in unit.now) level.entry) }
+{
+    match level {
+        Level::Braces(others) => same_list(unit, elements, &others),
+        _ => false,
+    }
+}
+
+// Whether a level is an initial value behind designators, with equal parts.
+#[cycle(same)]
+fn is_designated<'a>(
+    unit: &TypedUnit<'a>,
+    designators: &Trees<'a>,
+    initial: &Tree<'a>,
+    level: Level<'a>,
+) -> bool
+    ensures { result ≡ same_pattern (likewise Designated (compared_then (facts_in unit.now) (nodes_of designators.now) (one_part (compared_node (facts_in unit.now) (node_of initial.now))))) (level_pattern (facts_in unit.now) level.entry) }
+{
+    match level {
+        Level::Designated(others, other_initial) => {
+            same_list_and_last(unit, designators, initial, &others, other_initial)
         }
         _ => false,
     }
@@ -159,13 +234,7 @@ fn same_operation<'a>(unit: &TypedUnit<'a>, kind: &Operation<'a>, level: Level<'
         Operation::Member { operand, member } => {
             has_one(unit, One::Member(member.name), operand, level)
         }
-        Operation::Arrow { operand, member } => match level {
-            Level::One(other, other_part) => {
-                same_one(One::Member(member.name), other)
-                    && is_pointed_to(unit, operand, other_part)
-            }
-            _ => false,
-        },
+        Operation::Arrow { operand, member } => has_pointed(unit, member.name, operand, level),
         Operation::CompoundLit { of, braces } => {
             have_two(unit, Two::CompoundLit, of, braces, level)
         }
@@ -179,14 +248,7 @@ fn same_operation<'a>(unit: &TypedUnit<'a>, kind: &Operation<'a>, level: Level<'
             condition,
             then,
             otherwise,
-        } => match level {
-            Level::Cond(first, second, third) => {
-                same_tree(unit, condition, Subject::Tree(first))
-                    && same_tree(unit, then, Subject::Tree(second))
-                    && same_tree(unit, otherwise, Subject::Tree(third))
-            }
-            _ => false,
-        },
+        } => has_three(unit, condition, then, otherwise, level),
         Operation::Assign { op, left, right } => {
             have_two(unit, Two::Assign(*op), left, right, level)
         }
@@ -219,19 +281,11 @@ fn same_initializer<'a>(unit: &TypedUnit<'a>, kind: &Initializer<'a>, level: Lev
                 have_two(unit, Two::Assign(AssignOp::Plain), name, initial, level)
             }
         }
-        Initializer::Braces { elements, .. } => match level {
-            Level::Braces(others) => same_list(unit, elements, &others),
-            _ => false,
-        },
+        Initializer::Braces { elements, .. } => has_braces(unit, elements, level),
         Initializer::Designated {
             designators,
             initial,
-        } => match level {
-            Level::Designated(others, other_initial) => {
-                same_list_and_last(unit, designators, initial, &others, other_initial)
-            }
-            _ => false,
-        },
+        } => is_designated(unit, designators, initial, level),
     }
 }
 
@@ -268,7 +322,6 @@ fn same_list<'a>(unit: &TypedUnit<'a>, left: &Trees<'a>, right: &Trees<'a>) -> b
 }
 
 // Whether trees are equal one by one, and those behind them.
-#[tactic(auto, using(crate::proofs::Sames::last_compared))]
 #[cycle(same)]
 fn same_list_and_last<'a>(
     unit: &TypedUnit<'a>,

@@ -49,4 +49,19 @@ abbrev pub decreases-same_list_and_last : goal.decreases-same_list_and_last
 decreases-same_list_and_last l = max (8 * size-Trees l.left.now) (8 * size-Tree l.last.now) + 1
 
 abbrev pub decreases-has_front : goal.decreases-has_front
-decreases-has_front l = max (8 * size-Tree l.first.now) (8 * size-Trees l.list.now) + 1
+decreases-has_front l = max (8 * size-Tree l.first.now) (8 * size-Trees l.list.now) + 2
+
+abbrev pub decreases-are_front : goal.decreases-are_front
+decreases-are_front l = max (8 * size-Tree l.first.now) (8 * size-Trees l.list.now) + 1
+
+abbrev pub decreases-has_pointed : goal.decreases-has_pointed
+decreases-has_pointed l = 8 * size-Tree l.pointer.now + 3
+
+abbrev pub decreases-has_three : goal.decreases-has_three
+decreases-has_three l = max (max (8 * size-Tree l.condition.now) (8 * size-Tree l.then.now)) (8 * size-Tree l.otherwise.now) + 1
+
+abbrev pub decreases-has_braces : goal.decreases-has_braces
+decreases-has_braces l = 8 * size-Trees l.elements.now + 1
+
+abbrev pub decreases-is_designated : goal.decreases-is_designated
+decreases-is_designated l = max (8 * size-Trees l.designators.now) (8 * size-Tree l.initial.now) + 2
