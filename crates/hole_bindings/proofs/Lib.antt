@@ -1,0 +1,4 @@
+pub mod HoleTypes
+pub mod SlotItems
+pub mod TakenLists
+pub mod TakenOnes

@@ -1,0 +1,3 @@
+pub mod OnlyTags
+pub mod StarredTypes
+pub mod WrittenWords

@@ -1,0 +1,2 @@
+pub mod ComparedLevels
+pub mod Sames
