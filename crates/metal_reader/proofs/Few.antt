@@ -9,8 +9,7 @@ use Rattle.metal_grammar.specs.Holes.{DeclaredHole, hole_type, holes_as, declare
 use Rattle.metal_grammar.specs.Rules.{behind_clause, behind_head, holes_of_content, holes_of, rules_from, rules_of_content, count_of_rules, placed_rules, rules_of, variables_among, PlacedRule}
 use Rattle.metal_grammar.specs.Faults.{passing, count_of_holes, count_of_variables}
 use Rattle.metal_grammar.specs.FirstFault.{Fault, Counted, Variables, Holes, AllRules, or_else, too_many, twice, fault_of, fault_of_rules}
-use Rattle.metal_grammar.specs.Meaning.{in_order}
-use Rattle.metal_reader.specs.FirstFaults.{faults_before_rules}
+use Rattle.metal_faults.specs.FirstFaults.{faults_before_rules}
 
 lengths : {A B : Type 0} (f : A → B) (xs : List A) → length (map f xs) ≡ length xs
 lengths f [] = refl
@@ -98,23 +97,3 @@ in_turn spelling cs =
     by None None (Some c) d e = refl
     by None (Some b) c d e = refl
     by (Some a) b c d e = refl
-
-front : (xs ys : List DeclaredHole) → take (length (map (λ h. h.name) xs)) (map (λ h. h.name) (xs ++ ys)) ≡ map (λ h. h.name) xs
-front [] ys = refl
-front (x ∷ xs) ys = ap (λ zs. x.name ∷ zs) (front xs ys)
-
--- the state variables are the first of the holes in order
-pub variables_first : (holes : List DeclaredHole) → variables_among holes ≡ take (length (variables_among holes)) (map (λ h. h.name) (in_order holes))
-variables_first holes = sym (front (filter (λ h. h.is_state) holes) (filter (λ h. not h.is_state) holes))
-
-split-step : (b : Bool) (h : DeclaredHole) (xs ys : List DeclaredHole) (n : ℕ) → length xs + length ys ≡ n → length (cond b (h ∷ xs) xs) + length (cond (not b) (h ∷ ys) ys) ≡ suc n
-split-step true h xs ys n e = omega (arith, e)
-split-step false h xs ys n e = omega (arith, e)
-
-split : (hs : List DeclaredHole) → length (filter (λ h. h.is_state) hs) + length (filter (λ h. not h.is_state) hs) ≡ length hs
-split [] = refl
-split (h ∷ hs) = split-step h.is_state h (filter (λ h. h.is_state) hs) (filter (λ h. not h.is_state) hs) (length hs) (split hs)
-
--- in order they are as many
-pub ordered_length : (holes : List DeclaredHole) → length (map (λ h. h.name) (in_order holes)) ≡ length holes
-ordered_length holes = lengths (λ h. h.name) (in_order holes) ∙ joined-length (filter (λ h. h.is_state) holes) (filter (λ h. not h.is_state) holes) ∙ split holes

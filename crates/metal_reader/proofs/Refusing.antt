@@ -24,11 +24,12 @@ use Rattle.metal_clauses.specs.declared.fault.ClauseFault.TheVariants as clause
 use Rattle.metal_clauses.specs.Places.{place_in}
 use Rattle.metal_clauses.specs.Read.{IsUnread}
 use Rattle.metal_written.specs.Texts.{AreBelow}
-use Rattle.metal_reader.specs.declared.fault.MetalFault.{MetalFault}
-use Rattle.metal_reader.specs.declared.fault.MetalFault.TheVariants as faults
-use Rattle.metal_reader.specs.ClauseFaults.{metal_fault}
-use Rattle.metal_reader.specs.Faults.{fault_in, IsFault, Refuses}
-use Rattle.metal_reader.specs.FirstFaults.{Says}
+use Rattle.metal_faults.specs.declared.fault.MetalFault.{MetalFault}
+use Rattle.metal_faults.specs.declared.fault.MetalFault.TheVariants as faults
+use Rattle.metal_faults.specs.ClauseFaults.{metal_fault}
+use Rattle.metal_faults.specs.Faults.{fault_in}
+use Rattle.metal_reader.specs.Faults.{IsFault, Refuses}
+use Rattle.metal_faults.specs.FirstFaults.{Says}
 
 -- memory ran out, or this is the first fault of the symbols
 abbrev pub IsRefused : Spelling → List Symbol → ℕ → MetalFault → Type 0

@@ -1,11 +1,1 @@
-pub mod ClauseFaults
-pub mod Places
 pub mod Faults
-pub mod DeclaredNames
-pub mod Limits
-pub mod Small
-pub mod Numbers
-pub mod DeclaredHoles
-pub mod Builders
-pub mod Machines
-pub mod FirstFaults

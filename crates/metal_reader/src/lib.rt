@@ -1,14 +1,9 @@
 //! Reads checkers: their clauses, the first fault that they have, and the machine that they are.
 #![tactic(auto)]
 
-mod building;
-mod declared_holes;
-mod fault;
-mod first_fault;
-mod limits;
-mod numbering;
-mod numbers;
 mod reading;
 
-pub use fault::{MetalFault, Which};
-pub use reading::{read_machine, read_machine_bytes, rule_place};
+pub use metal_declared::Which;
+pub use metal_faults::MetalFault;
+pub use metal_positions::rule_place;
+pub use reading::{read_machine, read_machine_bytes};

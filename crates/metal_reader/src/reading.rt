@@ -1,118 +1,33 @@
 //! Reads a checker from its tokens or its bytes.
 
-ghost use Rattle.std.specs.Prelude.{◌≡◌, ◌+◌, ◌*◌, ◌<◌, ◌≤◌, ◌^◌, ◌&&◌, ◌||◌, None, List, map, length, nat_eq, IfOk, IfErr};
+ghost use Rattle.std.specs.Prelude.{◌≡◌, ◌+◌, ◌*◌, ◌<◌, ◌≤◌, ◌^◌, None, List, length, IfOk, IfErr};
 ghost use Rattle.mx_base.specs.Names.{AddsAtMost, HasNoRepeats};
 ghost use Rattle.c_tree.specs.Symbol.{Symbol, symbol_of, symbols_of};
 ghost use Rattle.c_lexer.specs.Tokens.{TokenList};
 ghost use Rattle.metal_grammar.specs.Definition.{IsMachine};
 ghost use Rattle.metal_grammar.specs.Grammar.{IsText};
-ghost use Rattle.metal_grammar.specs.Rules.{rules_of, rule_position};
-ghost use Rattle.metal_grammar.specs.Written.{Clause as WrittenClause};
-ghost use Rattle.std.specs.Option.{option_map};
 ghost use Rattle.metal_tree.specs.Whole.{machine_view};
 ghost use Rattle.metal_reader.specs.Faults.{Refuses as RefusesText, RefusesBytes, IsLexed};
-ghost use Rattle.metal_clauses.specs.Places.{place_in};
-ghost use Rattle.metal_reader.specs.Places.{HasPlaces};
+ghost use Rattle.metal_building.specs.Places.{HasPlaces};
 ghost use Rattle.metal_written.specs.Texts.{AreBelow, AreRight};
-ghost use Rattle.c_grammar.specs.Symbols.{is_sign};
-ghost use Rattle.c_tree.specs.declared.punctuator.Punctuator.TheVariants as marks;
 ghost use Rattle.metal_grammar.specs.FirstFault.{fault_of, fault_of_rules};
 ghost use Rattle.metal_grammar.specs.Known.{StringsAreKnown};
 ghost use Rattle.metal_grammar.specs.Rules as grammar;
 ghost use Rattle.metal_grammar.specs.Meaning as meaning;
-ghost use Rattle.metal_grammar.specs.Rules.{variables_among};
-ghost use Rattle.metal_machines.specs.Limits.{most_holes, most_rules};
-ghost use Rattle.metal_written.specs.Placed.{placed_views};
-ghost use Rattle.metal_reader.specs.Builders.{numbers, IsRight};
-ghost use Rattle.metal_reader.specs.DeclaredHoles.{declared_views};
-ghost use Rattle.metal_reader.specs.FirstFaults.{Says, faults_before_rules};
-ghost use Rattle.metal_reader.specs.Numbers.{variables_in, AreNamed};
+ghost use Rattle.metal_faults.specs.FirstFaults.{Says, faults_before_rules};
 ghost use Rattle.metal_written.specs.Sizes.{ClausesHaveSizes, size_of_all};
 ghost use Rattle.metal_written.specs.Written.{clause_views};
 
-use crate::building::{Builder, holes_of as holes_of_machine};
-use crate::declared_holes::{DeclaredHole, holes_of};
-use crate::fault::MetalFault;
-use crate::first_fault::{check_declarations, check_rules};
-use crate::numbering::{in_order, names_of, numbering_of, variables_among};
 use c_lexer::{LexFault, Mode, Tokens, lex};
-use c_tree::{Arena, Place, Punctuator, Token, TokenKind};
-use metal_clauses::{open_behind, read_clauses};
+use c_tree::{Arena, Token};
+use metal_building::{builder_of, made_of};
+use metal_clauses::read_clauses;
+use metal_declared::holes_of;
+use metal_faults::{MetalFault, check_declarations, check_rules};
 use metal_tree::Machine;
-use metal_written::{Clause, PlacedRule, Texts, rules_of};
+use metal_written::{Clause, Texts, rules_of};
 use mx_base::Names;
-use std::alloc::{AllocError, Global};
-
-/// The number of the machine's name.
-fn machine_name(clauses: &[Clause]) -> u32
-    ensures { result ≡ meaning.machine_name (clause_views clauses.now) }
-{
-    match clauses {
-        [] => 0,
-        [first, ..] => match first.head {
-            None => 0,
-            Some(head) => head.name,
-        },
-    }
-}
-
-/// What the rules of these clauses are built with. The text has not too many holes, and not too many rules.
-fn builder_of<'a, 'n>(
-    arena: &'a Arena,
-    names: &'n Names,
-    texts: &'n Texts,
-    file: u16,
-    declared: &[DeclaredHole<'a>],
-    rules: &[PlacedRule<'a>],
-) -> Result<Builder<'a, 'n>, AllocError>
-    requires holes { length declared.now ≤ most_holes }
-    requires rules { length rules.now ≤ most_rules }
-    requires texts { AreRight names.now texts.now }
-    ensures right { IfOk result (λ builder. IsRight builder) }
-    ensures numbers { IfOk result (λ builder. numbers builder ≡ record { spelling = names.now; holes = map (λ h. h.name) (meaning.in_order (declared_views declared.now)); states = meaning.states_mentioned (placed_views rules.now) }) }
-    ensures variables { IfOk result (λ builder. variables_in builder.numbering ≡ variables_among (declared_views declared.now)) }
-    ensures given { IfOk result (λ builder. (builder.names.now ≡ names.now) × (builder.file ≡ file)) }
-{
-    let holes = in_order(arena, declared)?;
-    let variables = variables_among(arena, declared)?;
-    let numbering = numbering_of(arena, names, names_of(arena, holes)?, variables, rules)?;
-    Ok(Builder {
-        arena,
-        names,
-        texts,
-        numbering,
-        file,
-    })
-}
-
-/// The machine of clauses that have no fault.
-fn made_of<'a>(
-    builder: &Builder<'a, '_>,
-    clauses: &[Clause<'a>],
-    declared: &[DeclaredHole<'a>],
-    rules: &[PlacedRule<'a>],
-) -> Result<Machine<'a>, AllocError>
-    requires text { (ts : List Symbol) × IsText builder.now.names.now (clause_views clauses.now) ts }
-    requires fine { fault_of builder.now.names.now (clause_views clauses.now) ≡ None }
-    requires declared { declared_views declared.now ≡ grammar.holes_of builder.now.names.now (clause_views clauses.now) }
-    requires rules { placed_views rules.now ≡ grammar.rules_of (clause_views clauses.now) }
-    requires right { IsRight builder.now }
-    requires numbers { numbers builder.now ≡ meaning.numbering_of builder.now.names.now (clause_views clauses.now) }
-    requires variables { variables_in builder.now.numbering ≡ variables_among (declared_views declared.now) }
-    requires named { AreNamed (variables_in builder.now.numbering) (placed_views rules.now) }
-    ensures machine { IfOk result (λ machine. machine_view machine ≡ meaning.machine_of builder.now.names.now (clause_views clauses.now)) }
-    ensures places { IfOk result (λ machine. HasPlaces builder.now.file machine.rules.now) }
-{
-    let numbering = builder.numbering;
-    Ok(Machine {
-        name: machine_name(clauses),
-        variables: numbering.states.len() as u8,
-        holes: holes_of_machine(builder.arena, in_order(builder.arena, declared)?)?,
-        globals: numbering.globals,
-        states: numbering.states,
-        rules: builder.rules(rules)?,
-    })
-}
+use std::alloc::Global;
 
 /// The machine of clauses that have no fault before their rules, or the first fault of these.
 fn machine_behind<'a>(
@@ -237,47 +152,4 @@ pub fn read_machine_bytes<'a>(
     };
     let kept = tokens.insert(lexed);
     read_machine(arena, alloc, kept, names)
-}
-
-/// Whether the token is `:` or `|`.
-fn is_in_front_of_rule(token: &Token) -> bool
-    ensures { result ≡ (is_sign marks.Colon (symbol_of token.now) || is_sign marks.Bar (symbol_of token.now)) }
-{
-    match token.kind {
-        TokenKind::Punct(found) => Punctuator::Colon as u8 == found as u8
-            || Punctuator::Bar as u8 == found as u8,
-        _ => false,
-    }
-}
-
-/// Whether a rule begins behind a token, before which so many braces are open: a source's `:`, or `|` between rules.
-fn begins_rule(depth: u32, token: &Token) -> bool
-    ensures { result ≡ nat_eq depth 1 && (is_sign marks.Colon (symbol_of token.now) || is_sign marks.Bar (symbol_of token.now)) }
-{
-    depth == 1 && is_in_front_of_rule(token)
-}
-
-/// The place of the first token of the rule with a number, in a text whose clauses can all be read. It takes no memory.
-pub fn rule_place(tokens: &Tokens, rule: u16, names: &Names) -> Option<Place>
-    requires text { (cs : List WrittenClause) × IsText names.now cs (symbols_of tokens.now.all) }
-    ensures { (cs : List WrittenClause) → IsText names.now cs (symbols_of tokens.now.all) → result ≡ option_map (place_in tokens.now.end.place.file) (rule_position rule (rules_of cs)) }
-{
-    let mut depth = 0;
-    let mut number = 0;
-    let all = tokens.all();
-    let mut index = 0;
-    while index < all.len() {
-        if begins_rule(depth, &all[index]) {
-            number += 1;
-            if number == u32::from(rule) {
-                return Some(Place {
-                    file: tokens.end().place.file,
-                    token: index as u32 + 1,
-                });
-            }
-        }
-        depth = open_behind(depth, &all[index]);
-        index += 1;
-    }
-    None
 }

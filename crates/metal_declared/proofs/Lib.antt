@@ -1,0 +1,4 @@
+pub mod InLimits
+pub mod InHoles
+pub mod InNames
+pub mod Counts

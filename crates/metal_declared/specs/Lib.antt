@@ -1,0 +1,3 @@
+pub mod DeclaredNames
+pub mod Limits
+pub mod DeclaredHoles

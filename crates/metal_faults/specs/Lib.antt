@@ -1,0 +1,3 @@
+pub mod ClauseFaults
+pub mod Faults
+pub mod FirstFaults

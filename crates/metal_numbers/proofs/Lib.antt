@@ -1,0 +1,4 @@
+pub mod Choosing
+pub mod Distinct
+pub mod FewStates
+pub mod States

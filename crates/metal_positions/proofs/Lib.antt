@@ -1,0 +1,4 @@
+pub mod Skipping
+pub mod Rules
+pub mod Counting
+pub mod Walking
