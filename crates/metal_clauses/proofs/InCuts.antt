@@ -1,12 +1,12 @@
 -- Where clauses are cut, one token after the other.
-use Rattle.std.proofs.Common.{◌≡◌, ℕ, ◌&&◌, nat_eq, zero, suc, ◌+◌, ◌<◌, ◌≤◌, Bool, true, false, List, [], ◌∷◌, ◌++◌, length, get_or, take, drop, ap, refl, ◌∙◌, sym, subst, add-one, arith}
+use Rattle.std.proofs.Common.{◌≡◌, ℕ, ◌&&◌, nat_eq, zero, suc, ◌+◌, ◌<◌, Bool, true, false, List, [], ◌∷◌, ◌++◌, length, get_or, take, drop, ap, refl, ◌∙◌, sym, subst, add-one, arith}
 use Rattle.std.proofs.lemmas.Bool.Decides.{nat_tests}
 use Rattle.c_tree.specs.declared.punctuator.Punctuator.TheVariants as marks
 use Rattle.c_tree.specs.declared.token.Token.{Token}
 use Rattle.c_tree.specs.Symbol.{Symbol, symbol_of, symbols_of}
 use Rattle.c_grammar.specs.Symbols.{is_sign}
 use Rattle.c_grammar.proofs.Front.{is_sign-true}
-use Rattle.metal_grammar.specs.Clauses.{in_front, closes, ends_clause, ends_here, open_behind, clauses_behind, clauses_from}
+use Rattle.metal_grammar.specs.Clauses.{in_front, closes, ends_clause, ends_here, open_behind, clauses_from}
 use Rattle.metal_clauses.specs.Cuts.{others_in}
 
 -- all of these in front of the first clause

@@ -1,5 +1,5 @@
 -- The clauses of a text that are read in turn.
-use Rattle.std.proofs.Common.{◌≡◌, ℕ, zero, suc, ◌+◌, ◌<◌, ◌≤◌, Bool, true, false, cond, nat_eq, nat_lt, List, [], ◌∷◌, ◌++◌, length, take, drop, Option, None, Some, ap, refl, ◌∙◌, sym, arith}
+use Rattle.std.proofs.Common.{◌≡◌, ℕ, ◌+◌, ◌<◌, ◌≤◌, Bool, true, false, cond, nat_eq, nat_lt, List, [], ◌∷◌, ◌++◌, length, take, drop, None, Some, ap, refl, ◌∙◌, sym, arith}
 use Rattle.std.proofs.lemmas.Bool.Decides.{nat_tests}
 use Rattle.std.proofs.lemmas.List.{length-map, length-drop, length-take-le, drop-drop}
 use Rattle.c_tree.specs.declared.token.Token.{Token}
@@ -8,7 +8,7 @@ use Rattle.c_grammar.specs.Found.{if_there}
 use Rattle.metal_grammar.specs.Words.{Spelling}
 use Rattle.metal_grammar.specs.Written.{Clause}
 use Rattle.metal_grammar.specs.Clauses.{in_front, open_behind, clauses_behind, clauses_from}
-use Rattle.metal_grammar.specs.Grammar.{Before, nothing_before, behind_content, is_last}
+use Rattle.metal_grammar.specs.Grammar.{Before, behind_content, is_last}
 use Rattle.metal_grammar.specs.Reading.{read_clause, Clauses, AllRead, Unread, with_clause, read_clauses}
 use Rattle.metal_clauses.specs.Cuts.{others_in}
 

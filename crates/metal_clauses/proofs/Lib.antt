@@ -1,8 +1,4 @@
-pub mod InRows
 pub mod InCuts
-pub mod InActions
-pub mod InTypes
-pub mod Seats
 pub mod InTurn
+pub mod InReading
 pub mod InClauses
-pub mod InTypeNames

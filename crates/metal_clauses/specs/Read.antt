@@ -3,6 +3,8 @@ use Rattle.std.specs.Prelude.{◌≡◌, ◌⊎◌, ℕ, List, Option, None, Som
 use Rattle.metal_grammar.specs.Reading.{Clauses, AllRead, Unread}
 use Rattle.metal_grammar.specs.Written as text
 use Rattle.metal_written.specs.declared.written.Clause.{Clause}
+use Rattle.c_expr.specs.declared.fault.ExprFault.{ExprFault}
+use Rattle.c_expr.specs.declared.fault.ExprFault.TheVariants.{NoTree}
 use Rattle.metal_clauses.specs.declared.fault.ClauseFault.{ClauseFault}
 use Rattle.metal_clauses.specs.declared.fault.ClauseFault.TheVariants as faults
 use Rattle.metal_clauses.specs.Places.{place_in}
@@ -20,3 +22,7 @@ IsUnread read file fault = (at : ℕ) × (read ≡ Unread at) × (fault ≡ faul
 abbrev pub GivesBetween : ℕ → ℕ → Result Clause ClauseFault → Option text.Clause → Type 0
 GivesBetween file from (Ok c) found = found ≡ Some (clause_view c)
 GivesBetween file from (Err e) found = (e ≡ faults.NoMemory) ⊎ ((found ≡ None) × (e ≡ faults.Syntax (place_in file from)))
+
+abbrev pub GivesClause : Result Clause ExprFault → Option text.Clause → Type 0
+GivesClause (Ok c) found = found ≡ Some (clause_view c)
+GivesClause (Err e) found = e ≡ NoTree → found ≡ None

@@ -4,23 +4,22 @@ ghost use Rattle.std.specs.Prelude.{◌≡◌, ◌≤◌, ◌<◌, ◌^◌, leng
 ghost use Rattle.c_tree.specs.Symbol.{symbols_of};
 ghost use Rattle.metal_grammar.specs.Grammar.{Before as BeforeClause, is_head};
 ghost use Rattle.metal_grammar.specs.Reading as reading;
-ghost use Rattle.metal_clauses.specs.Before.{Knows};
-ghost use Rattle.metal_clauses.specs.Given.{Finds, IsReady, KeepsReady, GivesClause};
-ghost use Rattle.metal_clauses.specs.Read.{GivesBetween, ReadsAll, IsUnread};
+ghost use Rattle.metal_forms.specs.Before.{Knows};
+ghost use Rattle.metal_parts.specs.Given.{Finds, IsReady, KeepsReady};
+ghost use Rattle.metal_clauses.specs.Read.{GivesBetween, GivesClause, ReadsAll, IsUnread};
 ghost use Rattle.metal_written.specs.Sizes.{HasSizes, ClausesHaveSizes, size_of_all};
 ghost use Rattle.metal_written.specs.Written.{maybe_head_view};
-ghost use Rattle.metal_clauses.specs.Steps.{is_nothing};
+ghost use Rattle.metal_parts.specs.Steps.{is_nothing};
 
-use crate::before::Before;
 use crate::contents::read_content;
-use crate::cuts::clause_len;
+use crate::cuts::{clause_len, tokens_behind};
 use crate::fault::ClauseFault;
-use crate::front::take_word;
 use crate::patterns::PatternReader;
-use crate::well_formed::is_content;
 use bumpalo::collections::into_bump_slice;
 use c_expr::{ExprFault, after_sign};
 use c_tree::{Arena, Place, Punctuator, Token};
+use metal_forms::{Before, is_content};
+use metal_parts::take_word;
 use metal_written::{Clause, Head, is_spelled};
 use mx_base::Names;
 use std::alloc::Global;
@@ -73,7 +72,7 @@ fn read_clause<'a>(
 ) -> Result<Clause<'a>, ExprFault>
     requires ready { IsReady reader.old.types.now reader.old.next (length tokens.now) }
     requires few { length tokens.now < 2 ^ 31 }
-    ensures found { (b : BeforeClause) → Knows before.now.seats before.now.section b → GivesClause result (reading.read_clause names.now b is_first is_last (symbols_of tokens.now)) }
+    ensures found { (b : BeforeClause) → Knows before.now b → GivesClause result (reading.read_clause names.now b is_first is_last (symbols_of tokens.now)) }
     ensures size { IfOk result (λ c. c.size ≡ length tokens.now) }
     ensures sizes { IfOk result (λ c. HasSizes c.content) }
     ensures ready { KeepsReady reader.old.types.now reader.new.types.now reader.old.next reader.new.next (length tokens.now) }
@@ -113,7 +112,7 @@ fn read_between<'a>(
     requires bound { end ≤ length all.now }
     requires few { length all.now < 2 ^ 31 }
     requires ready { IsReady reader.old.types.now reader.old.next (end - from) }
-    ensures found { (b : BeforeClause) → Knows before.now.seats before.now.section b → GivesBetween file from result (reading.read_clause names.now b (nat_eq from 0) (nat_eq end (length all.now)) (symbols_of (take (end - from) (drop from all.now)))) }
+    ensures found { (b : BeforeClause) → Knows before.now b → GivesBetween file from result (reading.read_clause names.now b (nat_eq from 0) (nat_eq end (length all.now)) (symbols_of (take (end - from) (drop from all.now)))) }
     ensures size { IfOk result (λ c. c.size ≡ end - from) }
     ensures sizes { IfOk result (λ c. HasSizes c.content) }
     ensures ready { KeepsReady reader.old.types.now reader.new.types.now reader.old.next reader.new.next (end - from) }
@@ -157,7 +156,7 @@ pub fn read_clauses<'a>(
     let mut depth = 0;
     let mut more = true;
     while more {
-        let end = from + clause_len(depth, &tokens[from..]);
+        let end = from + clause_len(depth, tokens_behind(from, tokens));
         let clause = read_between(&mut reader, names, &before, file, tokens, from, end)?;
         before.go_behind(names, clause.content)?;
         clauses.push(clause)?;

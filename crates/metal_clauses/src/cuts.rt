@@ -6,9 +6,9 @@ ghost use Rattle.c_tree.specs.Symbol.{symbol_of, symbols_of};
 ghost use Rattle.metal_grammar.specs.Clauses.{closes, ends_clause, ends_here, open_behind, clauses_from};
 ghost use Rattle.metal_clauses.specs.Cuts.{others_in};
 
-use crate::front::has_sign;
 use c_expr::is_sign;
 use c_tree::{Punctuator, Token};
+use metal_parts::has_sign;
 
 /// Whether no clause begins here: the text ends, or the closing brace stands here.
 fn ends_here(tokens: &[Token]) -> bool
@@ -17,12 +17,20 @@ fn ends_here(tokens: &[Token]) -> bool
     tokens.is_empty() || has_sign(Punctuator::CloseBrace, tokens)
 }
 
+/// What stands behind so many tokens.
+pub(crate) fn tokens_behind<'a>(count: usize, tokens: &'a [Token]) -> &'a [Token]
+    requires { count ≤ length tokens.now }
+    ensures { result.now ≡ drop count tokens.now }
+{
+    &tokens[count..]
+}
+
 /// Whether no clause begins behind so many tokens.
 fn ends_at(index: usize, tokens: &[Token]) -> bool
     requires { index ≤ length tokens.now }
     ensures { result ≡ ends_here (symbols_of (drop index tokens.now)) }
 {
-    ends_here(&tokens[index..])
+    ends_here(tokens_behind(index, tokens))
 }
 
 /// How many braces are open behind a token, where so many are before it.

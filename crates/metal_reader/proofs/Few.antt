@@ -1,17 +1,18 @@
 -- Where nothing passes its limit, there are few holes and few rules.
-use Rattle.std.proofs.Common.{◌≡◌, ℕ, suc, ◌+◌, ◌<◌, ◌≤◌, Bool, true, false, cond, not, nat_lt, List, [], ◌∷◌, ◌++◌, length, take, map, filter, Option, None, Some, ap, refl, ◌∙◌, sym, arith, length-append}
+use Rattle.std.proofs.Common.{◌≡◌, ℕ, suc, ◌+◌, ◌≤◌, Bool, true, false, cond, nat_lt, List, [], ◌∷◌, ◌++◌, length, map, Option, None, Some, ap, refl, arith}
 use Rattle.std.proofs.lemmas.Bool.Decides.{nat_tests}
 use Rattle.metal_machines.specs.Limits.{most_variables, most_holes, most_rules}
 use Rattle.metal_machines.specs.Machine.{HoleType}
 use Rattle.metal_grammar.specs.Words.{Spelling}
-use Rattle.metal_grammar.specs.Written.{Row, lone, row, members, StateName, WrittenRule, Content, Nothing, Declares, Rules, Clause}
-use Rattle.metal_grammar.specs.Holes.{DeclaredHole, hole_type, holes_as, declared_holes}
-use Rattle.metal_grammar.specs.Rules.{behind_clause, behind_head, holes_of_content, holes_of, rules_from, rules_of_content, count_of_rules, placed_rules, rules_of, variables_among, PlacedRule}
+use Rattle.metal_grammar.specs.Written.{members, Content, Nothing, Declares, Rules, Clause}
+use Rattle.metal_grammar.specs.Holes.{DeclaredHole, hole_type, holes_as}
+use Rattle.metal_grammar.specs.Rules.{behind_clause, behind_head, holes_of_content, holes_of, rules_of_content, count_of_rules, placed_rules, rules_of}
 use Rattle.metal_grammar.specs.Faults.{passing, count_of_holes, count_of_variables}
-use Rattle.metal_grammar.specs.FirstFault.{Fault, Counted, Variables, Holes, AllRules, or_else, too_many, twice, fault_of, fault_of_rules}
+use Rattle.metal_grammar.specs.FirstFault.{Fault, Counted, Variables, Holes, AllRules, or_else, too_many, fault_of, fault_of_rules}
+use Rattle.metal_positions.proofs.Counting.{content_count}
 use Rattle.metal_faults.specs.FirstFaults.{faults_before_rules}
 
-lengths : {A B : Type 0} (f : A → B) (xs : List A) → length (map f xs) ≡ length xs
+pub lengths : {A B : Type 0} (f : A → B) (xs : List A) → length (map f xs) ≡ length xs
 lengths f [] = refl
 lengths f (x ∷ xs) = ap suc (lengths f xs)
 
@@ -22,13 +23,16 @@ joined-length (x ∷ xs) ys = let h = joined-length xs ys in omega (arith, h)
 within : (limit n : ℕ) → nat_lt limit n ≡ false → n ≤ limit
 within limit n h = grind (arith, nat_tests)
 
-passed : {A : Type 0} (b : Bool) (x : A) (o : Option A) → cond b (Some x) o ≡ None → (b ≡ false) × (o ≡ None)
+pub passed : {A : Type 0} (b : Bool) (x : A) (o : Option A) → cond b (Some x) o ≡ None → (b ≡ false) × (o ≡ None)
 passed true x o h = cc
 passed false x o h = (refl, h)
 
 named-holes : (is_state : Bool) (t : Option HoleType) (names : List ℕ) → length (holes_as is_state t names) ≤ length names
 named-holes is_state None names = omega arith
-named-holes is_state (Some t) names = let h = lengths (λ name. record { name = name; of = t; is_state = is_state }) names in omega (arith, h)
+named-holes is_state (Some t) names =
+    let hole : ℕ → DeclaredHole = λ name. record { name = name; of = t; is_state = is_state } in
+    let h = lengths hole names in
+    omega (arith, h)
 
 content-holes : (spelling : Spelling) (c : Content) → length (holes_of_content spelling c) ≤ count_of_holes c
 content-holes spelling Nothing = omega arith
@@ -45,15 +49,6 @@ holes-few spelling limit before position (c ∷ cs) h l =
     let k = content-holes spelling c.content in
     omega (arith, i, j, k)
 
-from-count : (number position : ℕ) (source : StateName) (rs : Row WrittenRule) → length (rules_from number position source rs) ≡ length (members rs)
-from-count number position source (lone r) = refl
-from-count number position source (row r rs) = ap suc (from-count _ _ source rs)
-
-content-rules : (number position : ℕ) (c : Content) → length (rules_of_content number position c) ≡ count_of_rules c
-content-rules number position Nothing = refl
-content-rules number position (Declares d) = refl
-content-rules number position (Rules s) = from-count number _ s.source s.rules
-
 rules-few : (limit before at number position : ℕ) (cs : List Clause) → passing count_of_rules limit before at cs ≡ None → before ≤ limit → before + length (placed_rules number position cs) ≤ limit
 rules-few limit before at number position [] h l = omega (arith, l)
 rules-few limit before at number position (c ∷ cs) h l =
@@ -61,10 +56,10 @@ rules-few limit before at number position (c ∷ cs) h l =
     let p = passed (nat_lt limit n) at (passing count_of_rules limit n (behind_clause at c) cs) h in
     let i = rules-few limit n (behind_clause at c) (number + count_of_rules c.content) (behind_clause position c) cs p.1 (within limit n p.0) in
     let j = joined-length (rules_of_content number (behind_head position c) c.content) (placed_rules (number + count_of_rules c.content) (behind_clause position c) cs) in
-    let k = content-rules number (behind_head position c) c.content in
+    let k = content_count number (behind_head position c) c.content in
     omega (arith, i, j, k)
 
-neither : (a b : Option Fault) → or_else a b ≡ None → (a ≡ None) × (b ≡ None)
+pub neither : (a b : Option Fault) → or_else a b ≡ None → (a ≡ None) × (b ≡ None)
 neither None b h = (refl, h)
 neither (Some fault) b h = cc
 

@@ -1,2 +1,4 @@
 pub mod Few
+pub mod Named
 pub mod Refusing
+pub mod Lexed

@@ -1,5 +1,5 @@
 -- What a refusal says, and what is known of tokens that the lexer gave.
-use Rattle.std.proofs.Common.{◌≡◌, ◌⊎◌, inl, inr, ℕ, ◌+◌, ◌<◌, List, [], ◌∷◌, length, Option, None, Some, Result, Ok, Err, IfOk, IfErr, ap, refl, ◌∙◌, sym, subst}
+use Rattle.std.proofs.Common.{◌≡◌, ◌⊎◌, inl, inr, ℕ, ◌+◌, List, [], ◌∷◌, length, Option, None, Some, Result, Ok, Err, IfOk, IfErr, ap, refl, ◌∙◌}
 use Rattle.std.proofs.lemmas.Option.{slice_get_within}
 use Rattle.c_tree.specs.declared.token.Token.{Token}
 use Rattle.c_tree.specs.Symbol.{Symbol}
@@ -17,11 +17,10 @@ use Rattle.metal_grammar.specs.Definition.{IsMachine}
 use Rattle.metal_grammar.specs.Meaning.{machine_of}
 use Rattle.metal_tree.specs.declared.machine.Machine.{Machine}
 use Rattle.metal_tree.specs.Whole.{machine_view}
-use Rattle.metal_grammar.specs.Reading.{Clauses, Unread, read_text}
+use Rattle.metal_grammar.specs.Reading.{read_text}
 use Rattle.metal_grammar.proofs.Machines.{syntax_faults_are_read}
 use Rattle.metal_clauses.specs.declared.fault.ClauseFault.{ClauseFault}
 use Rattle.metal_clauses.specs.declared.fault.ClauseFault.TheVariants as clause
-use Rattle.metal_clauses.specs.Places.{place_in}
 use Rattle.metal_clauses.specs.Read.{IsUnread}
 use Rattle.metal_written.specs.Texts.{AreBelow}
 use Rattle.metal_faults.specs.declared.fault.MetalFault.{MetalFault}

@@ -1,4 +1,4 @@
-use Rattle.std.proofs.Common.{◌≡◌, ℕ, ◌+◌, ◌*◌, ◌<◌, ◌≤◌, List, length, map, Option, Some, ap, ◌∙◌, sym, subst, arith}
+use Rattle.std.proofs.Common.{◌≡◌, ◌+◌, ◌*◌, ◌<◌, ◌≤◌, List, length, map, Option, Some, ap, ◌∙◌, sym, subst, arith}
 use Rattle.c_tree.specs.declared.punctuator.Punctuator.TheVariants as marks
 use Rattle.c_tree.specs.Symbol.{Symbol, symbols_of}
 use Rattle.metal_grammar.specs.Written as text
@@ -7,7 +7,7 @@ use Rattle.metal_written.specs.declared.written.WrittenRule.{WrittenRule}
 use Rattle.metal_written.specs.Sizes.{HaveSizes}
 use Rattle.metal_written.specs.Written.{row_from, no_rule, rule_view, rules_row}
 use Rattle.metal_written.proofs.Rows.{map-push}
-use Rattle.metal_clauses.proofs.InRows.{row-next, row-end, row-gives, row-over}
+use Rattle.metal_parts.proofs.InRows.{row-next, row-end, row-gives, row-over}
 use Rattle.metal_written.proofs.InSizes.{sizes-turn}
 use Rattle.metal_clauses.proofs.sections.read_rules.Goals as goal
 

@@ -10,15 +10,15 @@ machine_of-requires-clause-text c =
     let ts = symbols_of c.args.tokens.now in
     (ts, (texts_are_read c.args.names.now ts (clause_views c.in-Ok.clauses.now)).0 c.in-Ok.ensures.read)
 
-pub returns-in-Ok-machine_of-clause-machine : goal.returns-in-Ok-machine_of-clause-machine
-returns-in-Ok-machine_of-clause-machine c =
+pub returns-in-Ok-clause-machine : goal.returns-in-Ok-clause-machine
+returns-in-Ok-clause-machine c =
     let ts = symbols_of c.args.tokens.now in
     let cs = clause_views c.in-Ok.clauses.now in
     let text = (texts_are_read c.args.names.now ts cs).0 c.in-Ok.ensures.read in
-    is_machine c.machine_of.result c.args.names.now ts cs c.args.file text (texts_are_known c.args.names.now ts cs c.args.requires.known text) c.machine_of.ensures.faults c.machine_of.ensures.machine
+    is_machine c.machine_of.result c.args.names.now ts cs c.args.file text (texts_are_known c.args.names.now ts cs c.requires.known text) c.machine_of.ensures.faults c.machine_of.ensures.machine
 
-pub returns-in-Ok-machine_of-clause-refused : goal.returns-in-Ok-machine_of-clause-refused
-returns-in-Ok-machine_of-clause-refused c =
+pub returns-in-Ok-clause-refused : goal.returns-in-Ok-clause-refused
+returns-in-Ok-clause-refused c =
     let ts = symbols_of c.args.tokens.now in
     let cs = clause_views c.in-Ok.clauses.now in
     let text = (texts_are_read c.args.names.now ts cs).0 c.in-Ok.ensures.read in

@@ -1,4 +1,4 @@
-use Rattle.std.proofs.Common.{◌≡◌, ℕ, ◌+◌, ◌*◌, ◌<◌, ◌≤◌, List, length, map, Option, Some, ap, ◌∙◌, sym, arith}
+use Rattle.std.proofs.Common.{◌≡◌, ◌+◌, ◌*◌, ◌<◌, ◌≤◌, List, length, map, Option, Some, ap, ◌∙◌, sym, arith}
 use Rattle.c_tree.specs.declared.punctuator.Punctuator.TheVariants as marks
 use Rattle.c_tree.specs.Symbol.{Symbol, symbols_of}
 use Rattle.metal_grammar.specs.Written as text
@@ -6,7 +6,7 @@ use Rattle.metal_grammar.specs.Steps.{read_alternative}
 use Rattle.metal_written.specs.declared.written.WrittenAlternative.{WrittenAlternative}
 use Rattle.metal_written.specs.Written.{row_from, no_alternative, alternative_view, alternatives_row}
 use Rattle.metal_written.proofs.Rows.{map-push}
-use Rattle.metal_clauses.proofs.InRows.{row-next, row-end, row-gives, row-over}
+use Rattle.metal_parts.proofs.InRows.{row-next, row-end, row-gives, row-over}
 use Rattle.metal_clauses.proofs.patterns.PatternReader.read_alternatives.Goals as goal
 
 pub returns-in_err-alternative-clause-found : goal.returns-in_err-alternative-clause-found

@@ -1,4 +1,0 @@
-use Rattle.metal_clauses.proofs.before.Before.go_behind.Goals as goal
-
-pub returns-in-Declares : goal.returns-in-Declares
-returns-in-Declares c = rw c.in-Declares.is c.declare.ensures

@@ -1,9 +1,0 @@
-use Rattle.std.proofs.Common.{◌≡◌, drop, map}
-use Rattle.metal_grammar.specs.Grammar.{Before, each, is_item}
-use Rattle.metal_machines.specs.Kept.{all_of}
-use Rattle.metal_clauses.specs.Before.{Knows}
-use Rattle.metal_written.specs.Written.{item_view, alternative_view}
-use Rattle.metal_clauses.proofs.well_formed.are_items.Given as goal
-
-abbrev pub invariant-loop-item : goal.invariant-loop-item
-invariant-loop-item l = (b : Before) → Knows l.before.seats l.before.section b → all_of (is_item l.names b.holes) (map item_view (drop l.item-index l.item-items)) ≡ each (is_item l.names b.holes) (alternative_view l.alternative)

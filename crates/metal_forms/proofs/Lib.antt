@@ -1,0 +1,4 @@
+pub mod InTypes
+pub mod InTypeNames
+pub mod Seats
+pub mod Walks
