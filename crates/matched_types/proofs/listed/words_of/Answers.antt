@@ -15,15 +15,15 @@ loop-item-preserved c =
     let old = words_in c.loop-item.words in
     let left = view_all (drop (c.loop-item.item-index + 1) items) in
     elim c.match-keyword_in.branch [
-      in-Some w ↦
-        word_kept old (words_in c.match-keyword_in.words) w.in-Some.keyword _ left (ap words_in w.words-is ∙ w.push.ensures) (sym c.keyword_in.ensures ∙ w.in-Some.is)
-        ∙ ap (λ es. take 5 (old ++ words_of es)) (ap syntaxes_of (sym (nodes_drop items c.loop-item.item-index _ c.loop-item-test.true)))
-        ∙ c.loop-item.invariant
+      | in-Some w ↦
+          word_kept old (words_in c.match-keyword_in.words) w.in-Some.keyword _ left (ap words_in w.words-is ∙ w.push.ensures) (sym c.keyword_in.ensures ∙ w.in-Some.is)
+          ∙ ap (λ es. take 5 (old ++ words_of es)) (ap syntaxes_of (sym (nodes_drop items c.loop-item.item-index _ c.loop-item-test.true)))
+          ∙ c.loop-item.invariant
       | in_default w ↦
-        ap (λ ws. take 5 (words_in ws ++ words_of left)) w.words-is
-        ∙ no_word old _ left (sym c.keyword_in.ensures ∙ w.in_default.is)
-        ∙ ap (λ es. take 5 (old ++ words_of es)) (ap syntaxes_of (sym (nodes_drop items c.loop-item.item-index _ c.loop-item-test.true)))
-        ∙ c.loop-item.invariant
+          ap (λ ws. take 5 (words_in ws ++ words_of left)) w.words-is
+          ∙ no_word old _ left (sym c.keyword_in.ensures ∙ w.in_default.is)
+          ∙ ap (λ es. take 5 (old ++ words_of es)) (ap syntaxes_of (sym (nodes_drop items c.loop-item.item-index _ c.loop-item-test.true)))
+          ∙ c.loop-item.invariant
     ]
 
 pub returns : goal.returns
