@@ -1,0 +1,6 @@
+pub mod HeadSteps
+pub mod ItemSteps
+pub mod ListSteps
+pub mod NoHoles
+pub mod RuleSteps
+pub mod WalkSteps
