@@ -1,0 +1,78 @@
+-- The beginnings of texts.
+use Rattle.std.proofs.Common.{arith, ◌≡◌, ℕ, zero, suc, ◌+◌, ◌-◌, ◌≤◌, min, List, [], ◌∷◌, ◌++◌, length, take, cond, Bool, true, false, refl, ◌∙◌, sym, ap}
+use Rattle.std.specs.Prelude.{codes, nat_le}
+use Rattle.std.proofs.lemmas.List.{length-take, take_all}
+use Rattle.std.proofs.lemmas.Grind.{common_steps}
+use Rattle.hole_matching.specs.Message.{spaced}
+use Rattle.hole_messages.specs.Beginnings.{after_blanks}
+
+-- what is kept of a beginning with more behind it is kept of the whole
+pub kept_on : (n : ℕ) (xs ys : List ℕ) → take n (take n xs ++ ys) ≡ take n (xs ++ ys)
+kept_on zero xs ys = refl
+kept_on (suc n) [] ys = refl
+kept_on (suc n) (x ∷ xs) ys = ap (λ zs. x ∷ zs) (kept_on n xs ys)
+
+take-none : (n : ℕ) → take {A = ℕ} n [] ≡ []
+take-none zero = refl
+take-none (suc n) = refl
+
+take-min : (m n : ℕ) (ys : List ℕ) → length ys ≤ m → take (min m n) ys ≡ take n ys
+take-min zero n [] h = take-none (min 0 n) ∙ sym (take-none n)
+take-min zero n (y ∷ ys) h = absurd (omega arith)
+take-min (suc m) zero ys h = let e : min (suc m) 0 ≡ 0 = grind arith in ap (λ k. take k ys) e
+take-min (suc m) (suc n) [] h = let e : min (suc m) (suc n) ≡ suc (min m n) = grind arith in ap (λ (k : ℕ). take {A = ℕ} k []) e
+take-min (suc m) (suc n) (y ∷ ys) h =
+    let e : min (suc m) (suc n) ≡ suc (min m n) = grind arith in
+    ap (λ k. take k (y ∷ ys)) e ∙ ap (λ zs. y ∷ zs) (take-min m n ys (grind arith))
+
+-- as many as there is room for
+room_kept : (n : ℕ) (xs ys : List ℕ) → length xs ≤ n → xs ++ take (n - length xs) ys ≡ take n (xs ++ ys)
+room_kept n [] ys h = let e : n - 0 ≡ n = grind arith in ap (λ k. take k ys) e
+room_kept zero (x ∷ xs) ys h = absurd (omega arith)
+room_kept (suc n) (x ∷ xs) ys h =
+    let e : suc n - suc (length xs) ≡ n - length xs = grind arith in
+    ap (λ k. x ∷ (xs ++ take k ys)) e ∙ ap (λ zs. x ∷ zs) (room_kept n xs ys (grind arith))
+
+pub kept_all : (n room : ℕ) (xs ys : List ℕ) → room + length xs ≡ n → xs ++ take (min (length ys) room) ys ≡ take n (xs ++ ys)
+kept_all n room xs ys h =
+    let e : room ≡ n - length xs = grind (arith, h) in
+    let f : length xs ≤ n = grind (arith, h) in
+    ap (λ zs. xs ++ zs) (take-min (length ys) room ys (omega arith) ∙ ap (λ k. take k ys) e) ∙ room_kept n xs ys f
+
+take-less : (n : ℕ) (xs : List ℕ) → take n (take (suc n) xs) ≡ take n xs
+take-less zero xs = refl
+take-less (suc n) [] = refl
+take-less (suc n) (x ∷ xs) = ap (λ zs. x ∷ zs) (take-less n xs)
+
+-- a text that is cut behind so many bytes, and then ends in this
+abbrev cut : ℕ → List ℕ → List ℕ → List ℕ
+cut n end text = cond (nat_le (length text) n) text (take n text ++ end)
+
+cut-kept : (n : ℕ) (end xs : List ℕ) → cut n end (take (suc n) xs) ≡ cut n end xs
+cut-kept n end xs = by (nat_le (length xs) n) refl
+  where
+    by : (c : Bool) → nat_le (length xs) n ≡ c → cut n end (take (suc n) xs) ≡ cut n end xs
+    by true e = let h : length xs ≤ suc n = grind (arith, e) in ap (cut n end) (take_all (suc n) xs h)
+    by false e =
+        let k = length-take (suc n) xs in
+        let f : nat_le (length (take (suc n) xs)) n ≡ false = grind (arith, e, k) in
+        ap (λ b. cond b (take (suc n) xs) (take n (take (suc n) xs) ++ end)) f ∙ ap (λ zs. zs ++ end) (take-less n xs) ∙ sym (ap (λ b. cond b xs (take n xs ++ end)) e)
+
+pub cut-alike : (n : ℕ) (end xs ys : List ℕ) → take (suc n) xs ≡ take (suc n) ys → cut n end xs ≡ cut n end ys
+cut-alike n end xs ys e = sym (cut-kept n end xs) ∙ ap (cut n end) e ∙ cut-kept n end ys
+
+spaced-on : (t : List ℕ) (rest : List (List ℕ)) → spaced (t ∷ rest) ≡ t ++ after_blanks rest
+spaced-on t [] = grind (arith, common_steps)
+spaced-on t (u ∷ us) = grind (arith, common_steps, spaced-on u us)
+
+-- the first text
+pub push-first : (n : ℕ) (xs t : List ℕ) (rest : List (List ℕ)) → take n (take n (xs ++ t) ++ after_blanks rest) ≡ take n (xs ++ spaced (t ∷ rest))
+push-first n xs t rest = kept_on n (xs ++ t) (after_blanks rest) ∙ ap (take n) (grind (arith, common_steps, spaced-on t rest))
+
+-- one behind others
+pub push-next : (n : ℕ) (xs t : List ℕ) (rest : List (List ℕ)) → take n (take n (take n (xs ++ codes " ") ++ t) ++ after_blanks rest) ≡ take n (xs ++ after_blanks (t ∷ rest))
+push-next n xs t rest =
+    kept_on n (take n (xs ++ codes " ") ++ t) (after_blanks rest)
+    ∙ ap (take n) (let e : (take n (xs ++ codes " ") ++ t) ++ after_blanks rest ≡ take n (xs ++ codes " ") ++ (t ++ after_blanks rest) = grind (arith, common_steps) in e)
+    ∙ kept_on n (xs ++ codes " ") (t ++ after_blanks rest)
+    ∙ ap (take n) (grind (arith, common_steps))
