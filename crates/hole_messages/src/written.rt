@@ -54,9 +54,10 @@ fn write_hole(
         let text = object_text(alloc, setting.unit, names, object)?;
         return write_short(text.as_bytes(), into);
     }
+    let unit = setting.unit;
     let source = Source {
         names,
-        tokens: setting.unit.unit.tokens,
+        tokens: unit.unit.tokens,
     };
     let text = slot_text(&source, binding.slot(hole));
     write_short(text.bytes.as_slice(), into)
