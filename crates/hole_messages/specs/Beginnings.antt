@@ -1,5 +1,5 @@
 -- Texts with one blank between them, of which the beginning is kept.
-use Rattle.std.specs.Prelude.{ℕ, List, [], ◌∷◌, ◌++◌, take, map, flat_map, Bool, cond, codes}
+use Rattle.std.specs.Prelude.{ℕ, List, ◌++◌, take, map, flat_map, Bool, cond, codes}
 use Rattle.c_objects.specs.Text.{text_of}
 use Rattle.c_tree.specs.declared.token.Token.{Token}
 use Rattle.hole_matching.specs.Message.{spaced}

@@ -1,6 +1,6 @@
 //! Texts with one blank between them, of which only the beginning is kept.
 
-ghost use Rattle.std.specs.Prelude.{◌≡◌, ◌∷◌, ◌++◌, List, ℕ, take};
+ghost use Rattle.std.specs.Prelude.{◌≡◌, [], ◌∷◌, ◌++◌, List, ℕ, take};
 ghost use Rattle.hole_messages.specs.Beginnings.{shown, most_kept};
 ghost use Rattle.hole_matching.specs.Message.{spaced};
 
@@ -42,5 +42,12 @@ impl Spelled {
         }
         keep(&mut self.bytes, text);
         self.is_first = false;
+    }
+
+    /// The bytes that are kept, where no more texts come.
+    pub fn as_bytes(&self) -> &[u8]
+        ensures { result.now ≡ shown self.now [] }
+    {
+        self.bytes.as_slice()
     }
 }

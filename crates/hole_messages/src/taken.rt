@@ -1,6 +1,6 @@
 //! The spellings of what holes took.
 
-ghost use Rattle.std.specs.Prelude.{◌≡◌, ◌++◌, List, ℕ, take};
+ghost use Rattle.std.specs.Prelude.{◌≡◌, [], ◌++◌, List, ℕ, take};
 ghost use Rattle.std.specs.Option.{option_map};
 ghost use Rattle.c_tree.specs.Views.{node_of, nodes_in};
 ghost use Rattle.hole_bindings.specs.Bindings.{taken_of};
@@ -107,7 +107,7 @@ fn push_taken(source: &Source, taken: Taken, into: &mut Spelled)
 
 /// The beginning of the text of what a hole took, if it took anything.
 pub(crate) fn slot_text(source: &Source, taken: Option<Taken>) -> Spelled
-    ensures { result.bytes.items ≡ take most_kept (slot_written (source_of source.now) (option_map taken_of taken.entry)) }
+    ensures { shown result [] ≡ take most_kept (slot_written (source_of source.now) (option_map taken_of taken.entry)) }
 {
     let mut text = Spelled::new();
     if let Some(taken) = taken {

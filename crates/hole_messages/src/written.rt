@@ -60,7 +60,7 @@ fn write_hole(
         tokens: unit.unit.tokens,
     };
     let text = slot_text(&source, binding.slot(hole));
-    write_short(text.bytes.as_slice(), into)
+    write_short(text.as_bytes(), into)
 }
 
 // Appends a piece of a message.
