@@ -3,7 +3,7 @@
 use bumpalo::Bump;
 use c_lexer::{LexFault, Mode, Tokens, lex};
 use c_tree::Place;
-use metal_reader::{MetalFault, Which, read_machine, read_machine_bytes, rule_place};
+use metal_reader::{MetalFault, Which, read_machine_bytes};
 use metal_tree::{Dest, Machine, Piece, Source, Target};
 use mx_base::Names;
 use std::alloc::{AllocError, Global};
@@ -20,7 +20,7 @@ fn tokens_of(alloc: Global, text: &[u8], names: &mut Names) -> Result<Tokens, Le
 /// The name of a fault.
 fn name_of(fault: &MetalFault) -> &'static str {
     match fault {
-        MetalFault::Lex(_) => "Lex",
+        MetalFault::Lex(_) => "Lexical",
         MetalFault::Syntax(_) => "Syntax",
         MetalFault::TooMany(which, _) => match which {
             Which::Variables => "TooMany variables",
@@ -61,28 +61,35 @@ fn rule_of(fault: &MetalFault) -> u16 {
     }
 }
 
-/// What a text is refused for, and the line and column of the place; nothing where it is read.
+/// The line and column of a place in a short text.
+fn line_of(alloc: Global, text: &[u8], place: Place) -> Result<(u32, u32), LexFault> {
+    let mut names = Names::new(alloc);
+    let tokens = tokens_of(alloc, text, &mut names)?;
+    let (_, line, column) = tokens.line_of(place);
+    Ok((line, column))
+}
+
+/// What a text is refused for, with the line and column of the place, or the number of the rule and 0; nothing where it is read.
 fn refusal_of(alloc: Global, text: &[u8]) -> Result<Option<(&'static str, u32, u32)>, LexFault> {
     let arena = Bump::new(alloc);
     let mut names = Names::new(alloc);
-    let tokens = tokens_of(alloc, text, &mut names)?;
-    match read_machine(&arena, alloc, &tokens, &mut names) {
+    let mut tokens = None;
+    if text.len() > 100000 || names.len() > 100000 {
+        return Err(LexFault::NoMemory);
+    }
+    match read_machine_bytes(&arena, alloc, &mut tokens, text, 0, b"m.metal", &mut names) {
         Ok(_) => Ok(None),
         Err(fault) => {
-            let place = match place_of(&fault) {
-                Some(place) => Some(place),
-                None => rule_place(&tokens, rule_of(&fault), &names),
+            let (first, second) = match place_of(&fault) {
+                Some(place) => line_of(alloc, text, place)?,
+                None => (u32::from(rule_of(&fault)), 0),
             };
-            let (_, line, column) = match place {
-                Some(place) => tokens.line_of(place),
-                None => (0, 0, 0),
-            };
-            Ok(Some((name_of(&fault), line, column)))
+            Ok(Some((name_of(&fault), first, second)))
         }
     }
 }
 
-/// Machines with faults, and where these are: the fault, and its line and column.
+/// Machines with faults, and where these are: the fault, and its line and column, or the number of its rule and 0.
 static FAULTY: [(&str, &str, u32, u32); 60] = [
     ("", "Syntax", 1, 1),
     ("sm", "Syntax", 1, 1),
@@ -205,80 +212,80 @@ static FAULTY: [(&str, &str, u32, u32); 60] = [
         "sm m { state decl any_pointer v, w; start: { f() } ==> a |\n{ f(v, w) } ==> v.a; }",
         "TwoVariables",
         2,
-        1,
+        0,
     ),
     (
         "sm m { state decl any_pointer v; start:\n{ f(v) } ==> true=v.a, false=b; }",
         "BadSplit",
-        2,
         1,
+        0,
     ),
     (
         "sm m { state decl any_pointer v; start:\n{ f(v) } ==> true=v.a, false=v.b, { err(\"a\") }; }",
         "BadSplit",
-        2,
         1,
+        0,
     ),
     (
         "sm m { state decl any_pointer v; v.a:\n{ f(v) } ==> b; }",
         "BadSource",
-        2,
         1,
+        0,
     ),
     (
         "sm m { decl any_expr x; start:\n{ f(x) } ==> x.a; }",
         "BadSource",
-        2,
         1,
+        0,
     ),
     (
         "sm m { state decl any_pointer w; start:\n{ f() } ==> w; }",
         "BadSource",
-        2,
         1,
+        0,
     ),
-    ("sm m { stop:\n{ f() } ==> a; }", "BadSource", 2, 1),
+    ("sm m { stop:\n{ f() } ==> a; }", "BadSource", 1, 0),
     (
         "sm m { state decl any_pointer v; v.stop:\n{ f(v) } ==> v.a; }",
         "BadSource",
-        2,
         1,
+        0,
     ),
     (
         "sm m { state decl any_pointer v; start:\n{ f(v) } ==> a; }",
         "BadSource",
-        2,
         1,
+        0,
     ),
     (
         "sm m { state decl any_pointer v; decl any_expr x; start:\n{ f(x) } ==> v.a; }",
         "VariableMissing",
-        2,
         1,
+        0,
     ),
     (
         "sm m { state decl any_pointer v; start:\n{ f(v) } || { g() } ==> v.a; }",
         "VariableMissing",
-        2,
         1,
+        0,
     ),
     (
         "sm m { state decl any_pointer v; decl any_expr x; start:\n{ f(v) } ==> v.a, { err(\"%s\", mc_identifier(x)) }; }",
         "VariableMissing",
-        2,
         1,
+        0,
     ),
     (
         "sm m { start:\n{ f(y) } && ${ mc_is_const(y) } ==> a; }",
         "VariableMissing",
-        2,
         1,
+        0,
     ),
     (
         "sm m { state decl any_pointer v;\nv.a:\n$end_of_path$ && ${ mc_is_local(v) } ==> v.stop; }",
         "VariableMissing",
-        3,
         1,
+        0,
     ),
     (
         "sm m { state decl any_pointer v;\nv.a: { f(v) } && ${ mc_is_local(v) } || $end_of_path$ ==> v.stop; }",
@@ -289,26 +296,26 @@ static FAULTY: [(&str, &str, u32, u32); 60] = [
     (
         "sm m { state decl any_pointer v; start:\n{ f(v) } ==> v.a, { err(\"%s\"); }; }",
         "BadFormat",
-        2,
         1,
+        0,
     ),
     (
         "sm m { start:\n{ f() } ==> a, { err(\"100% sure\"); }; }",
         "BadFormat",
-        2,
         1,
+        0,
     ),
     (
         "sm m { start:\n{ f() } ==> a, { err(\"a line\\n\"); }; }",
         "BadFormat",
-        2,
         1,
+        0,
     ),
     (
         "sm m { start:\n{ f() } ==> a, { err(L\"wide\"); }; }",
         "BadFormat",
-        2,
         1,
+        0,
     ),
     (
         "sm m { start: { f() } ==> a, { err(\"%\" \"%\"); }; }",
@@ -379,10 +386,8 @@ fn checkers_are_read_or_refused(rt: HostRuntime) -> Result<(), Fail> {
 fn text_of_rules(alloc: Global, rules: usize) -> Result<Vec<u8, Global>, AllocError> {
     let mut text = Vec::new(alloc);
     text.extend_from_slice(b"sm m { start: ")?;
-    let mut index = 1;
-    while index < rules {
+    for _ in 1..rules {
         text.extend_from_slice(b"{f()}==>a|")?;
-        index += 1;
     }
     text.extend_from_slice(b"{f()}==>a; }")?;
     Ok(text)
@@ -471,8 +476,23 @@ fn is_lock(machine: &Machine) -> bool {
             }
 }
 
-/// Whether a text is read as a checker of which this holds.
-fn is_read(alloc: Global, text: &[u8], is: fn(&Machine) -> bool) -> Result<bool, LexFault> {
+/// A checker that is known.
+#[derive(Clone, Copy)]
+enum Known {
+    Frees,
+    Locks,
+}
+
+/// Whether a machine is this checker.
+fn is_known(known: Known, machine: &Machine) -> bool {
+    match known {
+        Known::Frees => is_free(machine),
+        Known::Locks => is_lock(machine),
+    }
+}
+
+/// Whether a text is read as this checker.
+fn is_read(alloc: Global, text: &[u8], known: Known) -> Result<bool, LexFault> {
     let arena = Bump::new(alloc);
     let mut names = Names::new(alloc);
     let mut tokens = None;
@@ -480,14 +500,14 @@ fn is_read(alloc: Global, text: &[u8], is: fn(&Machine) -> bool) -> Result<bool,
         return Err(LexFault::NoMemory);
     }
     match read_machine_bytes(&arena, alloc, &mut tokens, text, 0, b"m.metal", &mut names) {
-        Ok(machine) => Ok(is(&machine)),
+        Ok(machine) => Ok(is_known(known, &machine)),
         Err(_) => Ok(false),
     }
 }
 
 #[test]
 fn known_checkers_are_read(rt: HostRuntime) -> Result<(), Fail> {
-    assert!(rt; is_read(rt.alloc(), FREE.as_bytes(), is_free)?);
-    assert!(rt; is_read(rt.alloc(), LOCK.as_bytes(), is_lock)?);
+    assert!(rt; is_read(rt.alloc(), FREE.as_bytes(), Known::Frees)?);
+    assert!(rt; is_read(rt.alloc(), LOCK.as_bytes(), Known::Locks)?);
     Ok(())
 }
