@@ -1,5 +1,5 @@
 -- How many of something a clause declares: no more than it has tokens.
-use Rattle.std.proofs.Common.{◌≡◌, ℕ, ◌≤◌, Bool, true, false, cond, is_some, List, [], ◌∷◌, length, map, ap, refl, ◌∙◌, sym, subst, arith}
+use Rattle.std.proofs.Common.{◌≡◌, ℕ, zero, ◌≤◌, Bool, true, false, cond, is_some, List, [], ◌∷◌, length, map, ap, refl, ◌∙◌, sym, subst, arith}
 use Rattle.std.proofs.lemmas.List.{length-map}
 use Rattle.metal_grammar.specs.Written.{members}
 use Rattle.metal_grammar.specs.Phrases.{clause_tokens}
@@ -19,7 +19,7 @@ use Rattle.metal_declared.specs.Limits.{counting, limit_of}
 use Rattle.metal_declared.proofs.InNames.{names_room}
 
 names-length : (d : Declaration) → length (members (declaration_view d).names) ≡ length d.names.now
-names-length d = ap length (members-row 0 d.names.now d.some)
+names-length d = ap length (members-row zero d.names.now d.some)
 
 rules-length : (s : Section) → length (members (section_view s).rules) ≡ length s.rules.now
 rules-length s =

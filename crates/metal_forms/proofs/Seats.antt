@@ -1,5 +1,5 @@
 -- What names may be as holes, as declarations come.
-use Rattle.std.proofs.Common.{◌≡◌, ℕ, ◌+◌, ◌<◌, ◌≤◌, Bool, true, false, cond, nat_eq, is_some, List, [], ◌∷◌, ◌++◌, length, get_or, drop, Option, None, Some, ap, refl, ◌∙◌, sym, add-one, drop-cons, arith}
+use Rattle.std.proofs.Common.{◌≡◌, ℕ, zero, ◌+◌, ◌<◌, ◌≤◌, Bool, true, false, cond, nat_eq, is_some, List, [], ◌∷◌, ◌++◌, length, get_or, drop, Option, None, Some, ap, refl, ◌∙◌, sym, add-one, drop-cons, arith}
 use Rattle.std.proofs.lemmas.Bool.Decides.{nat_tests}
 use Rattle.std.proofs.lemmas.List.{drop_all, append-nil}
 use Rattle.std.specs.Option.{option_map}
@@ -113,7 +113,7 @@ declared-seats spelling d seat before old new s p o n q =
     n q ∙ ap (λ x. or_else x (seat_among seat d.names.now q)) (o q)
     ∙ ap (λ k. or_else (seats_of before.holes q) (seat_among k d.names.now q)) (sym t.2)
     ∙ ap (or_else (seats_of before.holes q)) (sym (seats-declared (is_some d.state) t.0 d.names.now q))
-    ∙ ap (λ ns. or_else (seats_of before.holes q) (seats_of (holes_as (is_some d.state) (Some t.0) ns) q)) (sym (members-row 0 d.names.now p))
+    ∙ ap (λ ns. or_else (seats_of before.holes q) (seats_of (holes_as (is_some d.state) (Some t.0) ns) q)) (sym (members-row zero d.names.now p))
     ∙ ap (λ x. or_else (seats_of before.holes q) (seats_of (holes_as (is_some d.state) x (members (declaration_view d).names)) q)) (sym t.1)
     ∙ sym (seats-append before.holes (declared_holes spelling (declaration_view d)) q)
 
