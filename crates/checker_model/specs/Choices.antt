@@ -2,7 +2,7 @@
 -- the event's move.
 use Rattle.std.specs.Prelude.{ℕ, nat_eq, List, [], ◌∷◌, Bool, true, false, cond, not, ◌&&◌, ◌||◌, Option, None, Some}
 use Rattle.std.specs.Option.{option_map}
-use Rattle.c_objects.specs.Objects.{Selector, Object, same_var, same_selector}
+use Rattle.c_objects.specs.Objects.{Object}
 use Rattle.c_paths.specs.Events.{Event, Evaluated, Declared, Branched, Exited}
 use Rattle.c_typing.specs.Options.{if_there, or_else, ◌>?◌}
 use Rattle.hole_matching.specs.Alternatives.{matched_alternative, has_end_of_path, all_hold, bound_object}
@@ -11,6 +11,7 @@ use Rattle.hole_matching.specs.Holes.{Setting}
 use Rattle.hole_matching.specs.MachineMatches.{setting_of}
 use Rattle.hole_matching.specs.Matched.{nothing_taken}
 use Rattle.hole_matching.specs.Matching.{Binding}
+use Rattle.objects.specs.Equality.{same_object}
 use Rattle.metal_machines.specs.Machine.{Source, FromGlobal, FromObject, Target, ToGlobal, ToObject, ToUnknown, Dest, Always, ByTruth, Item, Piece, Rule, Machine}
 use Rattle.path_subjects.specs.Subjects.{Tree}
 use Rattle.checker_model.specs.Happenings.{Function, Happening}
@@ -29,18 +30,6 @@ stop = 1
 abbrev pub first_some : {A B : Type 0} → (A → Option B) → List A → Option B
 first_some f [] = None
 first_some f (x ∷ xs) = or_else (f x) (first_some f xs)
-
-abbrev pub same_selectors : List Selector → List Selector → Bool
-same_selectors [] [] = true
-same_selectors (s ∷ ss) (t ∷ ts) = same_selector s t && same_selectors ss ts
-same_selectors _ _ = false
-
-abbrev pub same_mark : Bool → Bool → Bool
-same_mark true b = b
-same_mark false b = not b
-
-abbrev pub same_object : Object → Object → Bool
-same_object o q = same_mark o.address q.address && same_var o.base q.base && same_selectors o.selectors q.selectors
 
 abbrev pub is_split : Dest → Bool
 is_split (Always t) = false

@@ -1,10 +1,10 @@
 -- An object that takes a rule while it is unknown is bound by an alternative of that rule.
 use Rattle.std.proofs.Common.{◌≡◌, ◌⊎◌, inl, inr, ℕ, List, [], ◌∷◌, Bool, true, false, Option, None, Some, refl, ◌∙◌, sym, ap, subst, cond, not, ◌&&◌, ◌||◌, nat_eq}
-use Rattle.c_objects.specs.Objects.{Selector, Object, same_var, same_selector}
-use Rattle.c_objects.proofs.Vars.{same_var-true, same_selector-true}
+use Rattle.c_objects.specs.Objects.{Object}
+use Rattle.objects.specs.Equality.{same_object, same_object-true}
 use Rattle.c_paths.specs.Membership.{Among}
 use Rattle.c_typing.specs.Options.{◌>?◌, if_there, or_else}
-use Rattle.checker_model.specs.Choices.{State, Taken, stop, first_some, same_selectors, same_mark, same_object, applied, target_at, by_alternative, from_global, variable_of, binds, is_asked, object_rule, unknown_rule, scene, taken, chosen, object_behind}
+use Rattle.checker_model.specs.Choices.{State, Taken, stop, first_some, applied, target_at, by_alternative, from_global, variable_of, binds, is_asked, object_rule, unknown_rule, scene, taken, chosen, object_behind}
 use Rattle.checker_model.specs.Happenings.{Function, Happening}
 use Rattle.checker_model.specs.Reports.{Checker, Fires, report_of}
 use Rattle.checker_programs.specs.Relevant.{Binds}
@@ -25,34 +25,6 @@ first-found {A = A} {B = B} f (x ∷ xs) y h = by (first-found f xs y) (f x) ref
     by later None e k = let g = later k in (g.0, inr g.1, g.2)
     by later (Some q) e k = let same : Some q ≡ Some y = k in (x, inl refl, e ∙ same)
 
-both : (a b : Bool) → (a && b) ≡ true → (a ≡ true) × (b ≡ true)
-both true true h = (refl, refl)
-both true false h = cc
-both false b h = cc
-
-selectors-same : (ss ts : List Selector) → same_selectors ss ts ≡ true → ss ≡ ts
-selectors-same [] [] h = refl
-selectors-same [] (t ∷ ts) h = cc
-selectors-same (s ∷ ss) [] h = cc
-selectors-same (s ∷ ss) (t ∷ ts) h = let b = both (same_selector s t) (same_selectors ss ts) h in let e = same_selector-true s t b.0 in let r = selectors-same ss ts b.1 in cc
-
-marks-same : (a b : Bool) → same_mark a b ≡ true → a ≡ b
-marks-same true true h = refl
-marks-same true false h = cc
-marks-same false true h = cc
-marks-same false false h = refl
-
-pub objects-same : (o q : Object) → same_object o q ≡ true → o ≡ q
-objects-same o q h =
-    let b = both (same_mark o.address q.address && same_var o.base q.base) (same_selectors o.selectors q.selectors) h in
-    let c = both (same_mark o.address q.address) (same_var o.base q.base) b.0 in
-    let address = marks-same o.address q.address c.0 in
-    let base = same_var-true o.base q.base c.1 in
-    let selectors = selectors-same o.selectors q.selectors b.1 in
-    ap (λ z. record { address = z; base = o.base; selectors = o.selectors }) address
-    ∙ ap (λ z. record { address = q.address; base = z; selectors = o.selectors }) base
-    ∙ ap (λ z. record { address = q.address; base = q.base; selectors = z }) selectors
-
 module _ (c : Checker) (f : Function) (h : Happening) (o : Object) where
   -- a binding that has the object
   has-object : (v : ℕ) (b : Binding) → binds (scene c.machine c.depth h f) v o b ≡ true → bound_object (scene c.machine c.depth h f) v b ≡ Some o
@@ -60,7 +32,7 @@ module _ (c : Checker) (f : Function) (h : Happening) (o : Object) where
     where
       by : (q : Option Object) → bound_object (scene c.machine c.depth h f) v b ≡ q → if_there q false (same_object o) ≡ true → bound_object (scene c.machine c.depth h f) v b ≡ Some o
       by None e k = cc
-      by (Some q) e k = e ∙ ap Some (sym (objects-same o q k))
+      by (Some q) e k = e ∙ ap Some (sym (same_object-true o q k))
 
   -- the alternative by which a rule binds it
   by-items : (r : Rule) (v : ℕ) (t : Taken) → Among r c.machine.rules → by_alternative (scene c.machine c.depth h f) h.event r (binds (scene c.machine c.depth h f) v o) ≡ Some t → Binds c f h o
