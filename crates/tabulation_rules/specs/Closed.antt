@@ -1,0 +1,21 @@
+-- When a set of path edges lacks nothing that follows by the rules, and which functions have to have numbers for that.
+use Rattle.std.specs.Prelude.{◌≡◌, ℕ, Option, Some}
+use Rattle.path_theory.specs.Model.{Model}
+use Rattle.path_theory.specs.Origins.{Origins}
+use Rattle.path_theory.specs.Facts.{Objects}
+use Rattle.path_theory.specs.FlowGraphs.{FlowGraphs}
+use Rattle.tabulation_rules.specs.Rules.{Base, ContextIn, EdgeIn, Ends, Goes, WaiterIn, Waits, Wakes}
+
+-- each root has a number, and each function that one with a number calls
+pub record HasNumbers (M : Model) (G : FlowGraphs M) (function : ℕ → Option M.Fn) : Type 0 where
+  pub root : (f : M.Fn) → G.IsRoot f → (n : ℕ) × function n ≡ Some f
+  pub callee : (f h : M.Fn) (m : ℕ) (s : M.Site) (b c : G.Block) → function m ≡ Some f → G.Call f b s h c
+      → (n : ℕ) × function n ≡ Some h
+
+module _ (M : Model) (L : Origins M) (A : Objects M) (G : FlowGraphs M) (function : ℕ → Option M.Fn) where
+  -- the set has the base, and with its members what follows from one of them, or from one that waits and one that ends
+  pub record IsClosedUnder (X : EdgeIn M L A G function → Type 0) : Type 0 where
+    pub base : (c : EdgeIn M L A G function) → Base M L A G function c → X c
+    pub goes : (a c : EdgeIn M L A G function) → X a → Goes M L A G function a c → X c
+    pub wakes : (a b c : EdgeIn M L A G function) (k : ContextIn M L A G function) (w : WaiterIn M L A G function) → X a
+        → Waits M L A G function a k w → X b → Ends M L A G function b k → Wakes M L A G function w b c → X c

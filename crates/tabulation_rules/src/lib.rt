@@ -1,0 +1,3 @@
+//! The rules of tabulation as rules of a least set, for an engine that works off one path edge after the other, with the proof that
+//! the least set has exactly the path edges and shows exactly the reports of all paths.
+#![tactic(auto)]
