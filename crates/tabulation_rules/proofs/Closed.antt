@@ -6,20 +6,24 @@ use Rattle.path_theory.specs.Origins.{Origins}
 use Rattle.path_theory.specs.Facts.{NoObject, HasObject, Objects}
 use Rattle.path_theory.specs.FlowGraphs.{FlowGraphs}
 use Rattle.path_theory.specs.Saturated.{IsSaturated}
-use Rattle.least_set.specs.TwoPremises.{Follows, FollowsBase, FollowsOne, FollowsTwo}
-use Rattle.tabulation_rules.specs.Rules.{Base, EdgeIn, Ends, Goes, GoesOn, GoesInto, HandsBack, HandsSaved, Seen, Waits, WaitsForObject, WaitsWithSaved, Wakes}
-use Rattle.tabulation_rules.specs.Closed.{HasNumbers, IsClosedUnder}
+use Rattle.least_set.specs.TwoPremises.{FollowsBase, FollowsOne, FollowsTwo}
+use Rattle.tabulation_rules.specs.Rules.{EdgeIn, GoesOn, GoesInto, HandsBack, HandsSaved, Seen, WaitsForObject, WaitsWithSaved}
+use Rattle.tabulation_rules.specs.Closed.{FollowsFrom, HasNumbers, IsClosedUnder, IsLeastLog, IsLeastSet}
 
 module _ (M : Model) (L : Origins M) (A : Objects M) (G : FlowGraphs M) (function : ℕ → Option M.Fn) where
   -- a list that has what follows from its members
   pub closed_under : (log : List (EdgeIn M L A G function))
-      → ((c : EdgeIn M L A G function) → Follows (Base M L A G function) (Goes M L A G function) (Waits M L A G function) (Ends M L A G function) (Wakes M L A G function) log c → Contains log c)
+      → ((c : EdgeIn M L A G function) → FollowsFrom M L A G function log c → Contains log c)
       → IsClosedUnder M L A G function (Contains log)
   closed_under log closed = record {
     base = λ c h. closed c (FollowsBase h);
     goes = λ a c i h. closed c (FollowsOne a i h);
     wakes = λ a b c k w i h j e v. closed c (FollowsTwo a b k w i h j e v);
   }
+
+  pub least_set : (log : List (EdgeIn M L A G function)) → IsLeastLog M L A G function log
+      → IsLeastSet M L A G function (Contains log)
+  least_set log h = record { closed = closed_under log h.closed; only = h.only }
 
   pub saturated : (X : EdgeIn M L A G function → Type 0) → HasNumbers M G function → IsClosedUnder M L A G function X
       → IsSaturated M L A G (Seen M L A G function X)

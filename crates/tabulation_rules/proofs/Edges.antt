@@ -10,8 +10,9 @@ use Rattle.path_theory.specs.Tabulation.{PathEdge, AtRoot, AlongSkip, IntoCallee
 use Rattle.path_theory.specs.FlowGraphs.{FlowGraphs, Head, Before, LeavesBlock, MakesCall, EndsFrame, supergraph}
 use Rattle.path_theory.proofs.SmallFacts.{some_some, none_some}
 use Rattle.path_theory.proofs.Saturated.{to_end}
-use Rattle.least_set.specs.TwoPremises.{Least, LeastBase, LeastOne, LeastTwo}
+use Rattle.least_set.specs.TwoPremises.{LeastBase, LeastOne, LeastTwo}
 use Rattle.tabulation_rules.specs.Rules.{at, Base, Behind, ContextIn, EdgeIn, Ends, Goes, GoesOn, GoesInto, Hands, HandsBack, HandsSaved, TupleIn, WaiterIn, Waits, WaitsForObject, WaitsWithSaved, Wakes}
+use Rattle.tabulation_rules.specs.Closed.{IsDerived}
 
 abbrev first_of : {A B : Type 0} → A → Option (A × B) → A
 first_of a None = a
@@ -134,9 +135,7 @@ module _ (M : Model) (L : Origins M) (A : Objects M) (G : FlowGraphs M) (functio
       goes_on a e.named context kind v (saved {a = a} (record { edge = at_end x e; call = j }) callee p i n)
 
   -- each member of the least set is a path edge
-  pub only_edges : {e : Edge}
-      → Least (Base M L A G function) (Goes M L A G function) (Waits M L A G function) (Ends M L A G function) (Wakes M L A G function) e
-      → IsEdge e
+  pub only_edges : {e : Edge} → IsDerived M L A G function e → IsEdge e
   only_edges (LeastBase h) = of_base h
   only_edges (LeastOne x h) = of_one (only_edges x) h
   only_edges (LeastTwo x h y e v) = of_two (only_edges x) h (only_edges y) e v

@@ -1,9 +1,10 @@
--- When a set of path edges lacks nothing that follows by the rules, and which functions have to have numbers for that.
-use Rattle.std.specs.Prelude.{◌≡◌, ℕ, Option, Some}
+-- When a set of path edges is the least one under the rules, said of any set and of a list, and which functions have to have numbers.
+use Rattle.std.specs.Prelude.{◌≡◌, ℕ, Option, Some, List, Contains}
 use Rattle.path_theory.specs.Model.{Model}
 use Rattle.path_theory.specs.Origins.{Origins}
 use Rattle.path_theory.specs.Facts.{Objects}
 use Rattle.path_theory.specs.FlowGraphs.{FlowGraphs}
+use Rattle.least_set.specs.TwoPremises.{Follows, Least}
 use Rattle.tabulation_rules.specs.Rules.{Base, ContextIn, EdgeIn, Ends, Goes, WaiterIn, Waits, Wakes}
 
 -- each root has a number, and each function that one with a number calls
@@ -13,9 +14,27 @@ pub record HasNumbers (M : Model) (G : FlowGraphs M) (function : ℕ → Option 
       → (n : ℕ) × function n ≡ Some h
 
 module _ (M : Model) (L : Origins M) (A : Objects M) (G : FlowGraphs M) (function : ℕ → Option M.Fn) where
-  -- the set has the base, and with its members what follows from one of them, or from one that waits and one that ends
+  -- what follows in one step from the edges of a list
+  abbrev pub FollowsFrom : List (EdgeIn M L A G function) → EdgeIn M L A G function → Type 0
+  FollowsFrom = Follows (Base M L A G function) (Goes M L A G function) (Waits M L A G function) (Ends M L A G function) (Wakes M L A G function)
+
+  -- the least set of edges that has the base and what follows from it
+  abbrev pub IsDerived : EdgeIn M L A G function → Type 0
+  IsDerived = Least (Base M L A G function) (Goes M L A G function) (Waits M L A G function) (Ends M L A G function) (Wakes M L A G function)
+
+  -- the set has the base, and what follows from one of its members, or from one that waits and one that ends
   pub record IsClosedUnder (X : EdgeIn M L A G function → Type 0) : Type 0 where
     pub base : (c : EdgeIn M L A G function) → Base M L A G function c → X c
     pub goes : (a c : EdgeIn M L A G function) → X a → Goes M L A G function a c → X c
     pub wakes : (a b c : EdgeIn M L A G function) (k : ContextIn M L A G function) (w : WaiterIn M L A G function) → X a
         → Waits M L A G function a k w → X b → Ends M L A G function b k → Wakes M L A G function w b c → X c
+
+  -- and has no others
+  pub record IsLeastSet (X : EdgeIn M L A G function → Type 0) : Type 0 where
+    pub closed : IsClosedUnder X
+    pub only : (e : EdgeIn M L A G function) → X e → IsDerived e
+
+  -- the same of a list
+  pub record IsLeastLog (log : List (EdgeIn M L A G function)) : Type 0 where
+    pub closed : (c : EdgeIn M L A G function) → FollowsFrom log c → Contains log c
+    pub only : (c : EdgeIn M L A G function) → Contains log c → IsDerived c
