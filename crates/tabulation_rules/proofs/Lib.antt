@@ -1,3 +1,4 @@
 pub mod Closed
 pub mod Edges
 pub mod Reports
+pub mod OwnValues

@@ -1,3 +1,4 @@
 pub mod Rules
 pub mod Closed
+pub mod OwnValues
 pub mod Theorems
