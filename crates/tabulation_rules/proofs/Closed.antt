@@ -8,7 +8,7 @@ use Rattle.path_theory.specs.FlowGraphs.{FlowGraphs}
 use Rattle.path_theory.specs.Saturated.{IsSaturated}
 use Rattle.least_set.specs.TwoPremises.{FollowsBase, FollowsOne, FollowsTwo}
 use Rattle.tabulation_rules.specs.Rules.{EdgeIn, GoesOn, GoesInto, HandsBack, HandsSaved, Seen, WaitsForObject, WaitsWithSaved}
-use Rattle.tabulation_rules.specs.Closed.{FollowsFrom, HasNumbers, IsClosedUnder, IsLeastLog, IsLeastSet}
+use Rattle.tabulation_rules.specs.LeastSets.{FollowsFrom, HasNumbers, IsClosedUnder, IsLeastLog, IsLeastSet}
 
 module _ (M : Model) (L : Origins M) (A : Objects M) (G : FlowGraphs M) (function : ℕ → Option M.Fn) where
   -- a list that has what follows from its members

@@ -12,7 +12,7 @@ use Rattle.path_theory.proofs.SmallFacts.{some_some, none_some}
 use Rattle.path_theory.proofs.Saturated.{to_end}
 use Rattle.least_set.specs.TwoPremises.{LeastBase, LeastOne, LeastTwo}
 use Rattle.tabulation_rules.specs.Rules.{at, Base, Behind, ContextIn, EdgeIn, Ends, Goes, GoesOn, GoesInto, Hands, HandsBack, HandsSaved, TupleIn, WaiterIn, Waits, WaitsForObject, WaitsWithSaved, Wakes}
-use Rattle.tabulation_rules.specs.Closed.{IsDerived}
+use Rattle.tabulation_rules.specs.LeastSets.{IsDerived}
 
 abbrev first_of : {A B : Type 0} → A → Option (A × B) → A
 first_of a None = a
@@ -38,7 +38,7 @@ module _ (M : Model) (L : Origins M) (A : Objects M) (G : FlowGraphs M) (functio
   AtEnd f k e b t = PathEdge M (supergraph M G) L A f k e.global e.fact (Before b []) t.global t.fact
 
   -- it is a path edge, by the function that has its number
-  abbrev pub IsEdge : Edge → Type 0
+  abbrev IsEdge : Edge → Type 0
   IsEdge e = (f : M.Fn) → function e.context.function ≡ Some f → AtHead f e.is_root e.context.entry e.block e.tuple
 
   -- one of the same frame is, where it is one by the function of this frame
@@ -135,7 +135,8 @@ module _ (M : Model) (L : Origins M) (A : Objects M) (G : FlowGraphs M) (functio
       goes_on a e.named context kind v (saved {a = a} (record { edge = at_end x e; call = j }) callee p i n)
 
   -- each member of the least set is a path edge
-  pub only_edges : {e : Edge} → IsDerived M L A G function e → IsEdge e
+  pub only_edges : {e : EdgeIn M L A G function} → IsDerived M L A G function e → (f : M.Fn) → function e.context.function ≡ Some f
+      → PathEdge M (supergraph M G) L A f e.is_root e.context.entry.global e.context.entry.fact (Head e.block) e.tuple.global e.tuple.fact
   only_edges (LeastBase h) = of_base h
   only_edges (LeastOne x h) = of_one (only_edges x) h
   only_edges (LeastTwo x h y e v) = of_two (only_edges x) h (only_edges y) e v

@@ -11,9 +11,9 @@ use Rattle.path_theory.specs.FlowGraphs.{FlowGraphs, supergraph}
 use Rattle.least_set.specs.Logs.{SomeGives}
 use Rattle.least_set.specs.TwoPremises.{Follows, FollowsBase, FollowsOne, FollowsTwo, Least, LeastBase, LeastOne, LeastTwo}
 use Rattle.tabulation_rules.specs.Rules.{Base, ContextIn, EdgeIn, Ends, Goes, ShowsReport, WaiterIn, Waits, Wakes}
-use Rattle.tabulation_rules.specs.Closed.{HasNumbers, IsClosedUnder, IsDerived, IsLeastSet}
+use Rattle.tabulation_rules.specs.LeastSets.{HasNumbers, IsClosedUnder, IsDerived, IsLeastSet, Shown}
 use Rattle.tabulation_rules.specs.OwnValues.{AreComplete, AreSound, StandsFor}
-use Rattle.tabulation_rules.proofs.Reports.{Shown, errors, reported}
+use Rattle.tabulation_rules.proofs.Reports.{errors, reported}
 
 module _ (M : Model) (L : Origins M) (A : Objects M) (G : FlowGraphs M) (function : ℕ → Option M.Fn) where
   module _ {E K W : Type 0} (edge : E → EdgeIn M L A G function) (context : K → ContextIn M L A G function) (waiter : W → WaiterIn M L A G function)

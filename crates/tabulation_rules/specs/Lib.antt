@@ -1,4 +1,4 @@
 pub mod Rules
-pub mod Closed
+pub mod LeastSets
 pub mod OwnValues
 pub mod Theorems

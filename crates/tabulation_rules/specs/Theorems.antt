@@ -8,7 +8,7 @@ use Rattle.path_theory.specs.FlowGraphs.{Head}
 use Rattle.path_theory.specs.Numbered.{Checker, BlockProgram, model, origins_of, graphs_of, block_supergraph_of, objects_of}
 use Rattle.path_theory.specs.Theorems.{IsClosedInBlocks}
 use Rattle.tabulation_rules.specs.Rules.{EdgeIn, Seen, ShowsReport}
-use Rattle.tabulation_rules.specs.Closed.{HasNumbers, IsLeastLog}
+use Rattle.tabulation_rules.specs.LeastSets.{HasNumbers, IsLeastLog}
 
 -- a checker and a program, the objects that are followed, and the functions that have numbers
 pub record Analysis : Type 0 where

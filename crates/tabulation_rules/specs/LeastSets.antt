@@ -5,7 +5,7 @@ use Rattle.path_theory.specs.Origins.{Origins}
 use Rattle.path_theory.specs.Facts.{Objects}
 use Rattle.path_theory.specs.FlowGraphs.{FlowGraphs}
 use Rattle.least_set.specs.TwoPremises.{Follows, Least}
-use Rattle.tabulation_rules.specs.Rules.{Base, ContextIn, EdgeIn, Ends, Goes, WaiterIn, Waits, Wakes}
+use Rattle.tabulation_rules.specs.Rules.{Base, ContextIn, EdgeIn, Ends, Goes, ShowsReport, WaiterIn, Waits, Wakes}
 
 -- each root has a number, and each function that one with a number calls
 pub record HasNumbers (M : Model) (G : FlowGraphs M) (function : ℕ → Option M.Fn) : Type 0 where
@@ -38,3 +38,7 @@ module _ (M : Model) (L : Origins M) (A : Objects M) (G : FlowGraphs M) (functio
   pub record IsLeastLog (log : List (EdgeIn M L A G function)) : Type 0 where
     pub closed : (c : EdgeIn M L A G function) → FollowsFrom log c → Contains log c
     pub only : (c : EdgeIn M L A G function) → Contains log c → IsDerived c
+
+  -- a member of the set shows the report
+  abbrev pub Shown : (EdgeIn M L A G function → Type 0) → M.Report → Type 0
+  Shown X r = (e : EdgeIn M L A G function) × X e × ShowsReport M L A G function e r
