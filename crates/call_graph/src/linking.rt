@@ -12,7 +12,10 @@ use programs::{Functions, Program, units_are_listed};
 use typed_unit::{TypedFunction, TypedUnit};
 
 // Adds a function, unless it repeats an earlier one.
-fn add<'a>(functions: &mut Functions<'a>, function: &'a TypedFunction<'a>) -> Result<(), LinkFault>
+fn add<'u, 'a>(
+    functions: &mut Functions<'u, 'a>,
+    function: &'u TypedFunction<'a>,
+) -> Result<(), LinkFault>
     requires { length functions.old.all.items + 1 < 2 ^ 32 }
     ensures kept { IfOk result (λ _. defined_by functions.new.all.items ≡ defined_by functions.old.all.items ++ (function_of function.now ∷ [])) }
     ensures goes_on { IfOk result (λ _. (rest : List Defined) → first_repeat (defined_by functions.old.all.items) (function_of function.now ∷ rest) ≡ first_repeat (defined_by functions.new.all.items) rest) }
@@ -29,7 +32,10 @@ fn add<'a>(functions: &mut Functions<'a>, function: &'a TypedFunction<'a>) -> Re
 }
 
 // Adds the functions of a unit.
-fn add_unit<'a>(functions: &mut Functions<'a>, unit: &'a TypedUnit<'a>) -> Result<(), LinkFault>
+fn add_unit<'u, 'a>(
+    functions: &mut Functions<'u, 'a>,
+    unit: &'u TypedUnit<'a>,
+) -> Result<(), LinkFault>
     requires { length functions.old.all.items + length unit.now.functions.items < 2 ^ 32 }
     ensures kept { IfOk result (λ _. defined_by functions.new.all.items ≡ defined_by functions.old.all.items ++ map function_of unit.now.functions.items) }
     ensures goes_on { IfOk result (λ _. (rest : List Defined) → first_repeat (defined_by functions.old.all.items) (map function_of unit.now.functions.items ++ rest) ≡ first_repeat (defined_by functions.new.all.items) rest) }
@@ -42,7 +48,7 @@ fn add_unit<'a>(functions: &mut Functions<'a>, unit: &'a TypedUnit<'a>) -> Resul
 }
 
 // The functions of all units, in source order.
-fn gather<'a>(units: &Vec<&'a TypedUnit<'a>>) -> Result<Functions<'a>, LinkFault>
+fn gather<'u, 'a>(units: &Vec<&'u TypedUnit<'a>>) -> Result<Functions<'u, 'a>, LinkFault>
     requires { length (kept_in units.now.items) < 2 ^ 32 }
     ensures kept { IfOk result (λ functions. defined_by functions.all.items ≡ kept_in units.now.items) }
     ensures linked { OnOk result (first_repeat [] (kept_in units.now.items) ≡ None) }
@@ -57,7 +63,7 @@ fn gather<'a>(units: &Vec<&'a TypedUnit<'a>>) -> Result<Functions<'a>, LinkFault
 
 /// Links typed units, each with the number of its file as its position: the program that they are, if no function has two bodies
 /// that stand in one file or that both have external linkage. The work is linear in the number of functions.
-pub fn link<'a>(units: Vec<&'a TypedUnit<'a>>) -> Result<Program<'a>, LinkFault>
+pub fn link<'u, 'a>(units: Vec<&'u TypedUnit<'a>>) -> Result<Program<'u, 'a>, LinkFault>
     requires few_units { length units.items ≤ 65535 }
     requires numbered { AreNumbered units.items }
     requires few_functions { length (definitions (trees_in units.items)) < 2 ^ 32 }

@@ -1,3 +1,4 @@
 pub mod Examples
 pub mod Tokens
 pub mod Carried
+pub mod Tables

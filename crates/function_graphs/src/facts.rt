@@ -39,17 +39,22 @@ fn declared(unit: &TypedUnit, declarator: &Tree) -> Option<Variable>
     }
 }
 
-impl<'p, 'a> UnitFacts<'p, 'a> {
+impl<'p, 'u, 'a> UnitFacts<'p, 'u, 'a> {
     /// The unit with the number of this file.
-    pub fn new(program: &'p Program<'a>, file: u16) -> Self
+    pub fn new(program: &'p Program<'u, 'a>, file: u16) -> Self
         requires { file < length program.now.units.items }
         ensures { known_by result ≡ facts_in program.now.units.items file }
     {
-        UnitFacts { program, file }
+        let unit = program.unit(file);
+        UnitFacts {
+            program,
+            unit,
+            file,
+        }
     }
 }
 
-impl<'p, 'a> Facts for UnitFacts<'p, 'a> {
+impl<'p, 'u, 'a> Facts for UnitFacts<'p, 'u, 'a> {
     ghost use Rattle.function_graphs.specs.Known.{known_by};
 
     ghost known = { known_by };
@@ -59,6 +64,6 @@ impl<'p, 'a> Facts for UnitFacts<'p, 'a> {
     }
 
     fn variable_of(&self, declarator: &Tree) -> Option<Variable> {
-        declared(self.program.unit(self.file), declarator)
+        declared(self.unit, declarator)
     }
 }

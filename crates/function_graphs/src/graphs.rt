@@ -18,7 +18,11 @@ use std::alloc::{AllocError, Global};
 /// The flow graph of a function of a program. Its traces are exactly the function's, and what stands in it stands in the
 /// function's text. A call is marked where its callee has a body: that of its own file, else the one with external linkage
 /// (ISO 9899:1990, 6.1.2.2).
-pub fn build<'a>(alloc: Global, program: &Program<'a>, f: FnId) -> Result<Graph<'a>, AllocError>
+pub fn build<'u, 'a>(
+    alloc: Global,
+    program: &Program<'u, 'a>,
+    f: FnId,
+) -> Result<Graph<'a>, AllocError>
     requires { f.number < length (definitions (trees_in program.now.units.items)) }
     ensures traces { IfOk result (λ g. (d : Defined) → slice_get (definitions (trees_in program.now.units.items)) f.number ≡ Some d → ∥ HasTraces (graph_in g) (facts_in program.now.units.items d.file) (definition_in program.now.units.items d) ∥₁) }
     ensures sound { IfOk result (λ g. IsSoundGraph (graph_in g).blocks (graph_in g).entry) }

@@ -22,8 +22,8 @@ pub struct FnId {
 
 /// Functions in source order. A body is found by its name in constant time.
 #[derive(Drop)]
-pub struct Functions<'a> {
-    pub all: Vec<&'a TypedFunction<'a>>,
+pub struct Functions<'u, 'a> {
+    pub all: Vec<&'u TypedFunction<'a>>,
 
     // The first position of each name in each file.
     in_file: IndexMap<(u16, u32), u32>,
@@ -75,7 +75,7 @@ fn note_external(
     }
 }
 
-impl<'a> Functions<'a> {
+impl<'u, 'a> Functions<'u, 'a> {
     /// No functions. No memory is taken yet.
     pub fn new(alloc: Global) -> Self
         ensures { result.all.items ≡ [] }
@@ -88,7 +88,7 @@ impl<'a> Functions<'a> {
     }
 
     /// Puts a function behind the others. An error leaves them as they were.
-    pub fn push(&mut self, function: &'a TypedFunction<'a>) -> Result<(), AllocError>
+    pub fn push(&mut self, function: &'u TypedFunction<'a>) -> Result<(), AllocError>
         requires { length self.old.all.items + 1 < 2 ^ 32 }
         ensures { MatchResult result (λ _. defined_by self.new.all.items ≡ defined_by self.old.all.items ++ (function_of function.now ∷ [])) (λ _. self.new.all.items ≡ self.old.all.items) }
     {

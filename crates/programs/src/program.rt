@@ -23,18 +23,18 @@ use typed_unit::{TypedFunction, TypedUnit};
 /// A program: typed units, each with the number of its file as its position, and all functions that they define in source order,
 /// fewer than 2^32. No two bodies of one name stand in one file, or have external linkage (ISO 9899:1990, 6.7).
 #[derive(Drop)]
-pub struct Program<'a> {
-    pub units: Vec<&'a TypedUnit<'a>>,
-    functions: Functions<'a>,
+pub struct Program<'u, 'a> {
+    pub units: Vec<&'u TypedUnit<'a>>,
+    functions: Functions<'u, 'a>,
     ghost numbered: { AreNumbered units.items },
     ghost listed: { ∥ defined_by functions.all.items ≡ definitions (trees_in units.items) ∥₁ },
     ghost few: { length (definitions (trees_in units.items)) < 2 ^ 32 },
     ghost apart: { AreApart (definitions (trees_in units.items)) },
 }
 
-impl<'a> Program<'a> {
+impl<'u, 'a> Program<'u, 'a> {
     /// The program of these units, whose functions are these.
-    pub fn new(units: Vec<&'a TypedUnit<'a>>, functions: Functions<'a>) -> Self
+    pub fn new(units: Vec<&'u TypedUnit<'a>>, functions: Functions<'u, 'a>) -> Self
         requires numbered { AreNumbered units.items }
         requires listed { defined_by functions.all.items ≡ kept_in units.items }
         requires few { length (definitions (trees_in units.items)) < 2 ^ 32 }
@@ -46,7 +46,7 @@ impl<'a> Program<'a> {
     }
 
     /// The unit with this number.
-    pub fn unit(&self, file: u16) -> &'a TypedUnit<'a>
+    pub fn unit(&self, file: u16) -> &'u TypedUnit<'a>
         requires { file < length self.now.units.items }
         ensures { slice_get self.now.units.items file ≡ Some result }
     {
@@ -61,7 +61,7 @@ impl<'a> Program<'a> {
     }
 
     /// The function with this number.
-    pub fn function(&self, f: FnId) -> &'a TypedFunction<'a>
+    pub fn function(&self, f: FnId) -> &'u TypedFunction<'a>
         requires { f.number < length (definitions (trees_in self.now.units.items)) }
         ensures defined { ∥ slice_get (definitions (trees_in self.now.units.items)) f.number ≡ Some (function_of result.now) ∥₁ }
         ensures placed { result.now.file < length self.now.units.items }
