@@ -1,4 +1,4 @@
-use Rattle.std.proofs.Common.{◌≡◌, ◌∙◌}
+use Rattle.std.proofs.Common.{◌∙◌}
 use Rattle.c_tree.specs.Views.{node_of}
 use Rattle.function_graphs.proofs.Tables.{declared_in}
 use Rattle.function_graphs.proofs.facts.UnitFactsFacts.variable_of.Goals as goal
