@@ -4,3 +4,4 @@ pub mod Paths
 pub mod Relevant
 pub mod Reported
 pub mod Theorems
+pub mod Units

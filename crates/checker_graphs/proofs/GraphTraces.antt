@@ -1,0 +1,81 @@
+-- The program in blocks has the traces of the program, so it has the same reports, and the same objects are relevant.
+use Rattle.std.proofs.Common.{◌≡◌, ◌↔◌, ℕ, List, Option, None, Some, slice_get, refl, sym, subst}
+use Rattle.c_paths.specs.Building.{Graph, graph_of}
+use Rattle.c_paths.specs.Facts.{Facts}
+use Rattle.c_paths.specs.Traces.{Definition}
+use Rattle.c_paths.proofs.BuiltGraphs.{built_traces}
+use Rattle.c_paths.proofs.EngineGraphs.{blocks_have_steps}
+use Rattle.c_paths.proofs.SoundDrafts.{built_graph_sound}
+use Rattle.c_typing.specs.Options.{if_there, ◌>?◌}
+use Rattle.checker_graphs.specs.Graphs.{number_at, graph_at, IsFlowGraph, AreGraphs, flow_graphs}
+use Rattle.checker_graphs.proofs.Numbers.{same-file, found-at}
+use Rattle.checker_graphs.proofs.SameTraces.{closed_on}
+use Rattle.checker_model.specs.Checkers.{model, origins}
+use Rattle.checker_model.specs.Happenings.{Function}
+use Rattle.checker_model.specs.Reports.{Checker}
+use Rattle.checker_programs.specs.Paths.{program}
+use Rattle.checker_programs.specs.Relevant.{Relevant}
+use Rattle.checker_programs.specs.Roots.{followed_into, IsRootFunction}
+use Rattle.checker_programs.specs.Texts.{Text, functions_in, function_of, table_of, empty, with_close, definition_of, flow_facts, happening, site}
+use Rattle.checker_programs.proofs.Closed.{closed}
+use Rattle.function_graphs.specs.Known.{facts_of}
+use Rattle.path_model.specs.declared.report.Report.{Report}
+use Rattle.path_theory.specs.FlatPaths.{InErrors}
+use Rattle.path_theory.specs.FlowGraphs.{supergraph}
+use Rattle.path_theory.specs.Paths.{Reported}
+use Rattle.path_theory.specs.Relevant.{IsClosed}
+use Rattle.path_theory.specs.Supergraph.{Supergraph}
+use Rattle.path_theory.specs.Walks.{HasTraces}
+use Rattle.path_theory.proofs.FlatPaths.{in_errors}
+use Rattle.path_theory.proofs.Traces.{reported_on}
+
+built : (F : Facts) (d : Definition) → IsFlowGraph F d (graph_of F d)
+built F d = record { sound = built_graph_sound F d; traces = built_traces F d }
+
+module _ (ts : List Text) (gs : List Graph) (A : AreGraphs ts gs) where
+  given : (f : Function) (n : ℕ) (g : Graph) → number_at (functions_in ts) f.place ≡ Some n → slice_get gs n ≡ Some g → IsFlowGraph (flow_facts ts f) (definition_of ts f) g
+  given f n g e k =
+      let x = found-at (functions_in ts) f.place n e in
+      let d = x.found in
+      subst (λ (i : ℕ). IsFlowGraph (facts_of (table_of ts i) i (functions_in ts)) (definition_of ts f) g) (same-file d.place f.place x.same)
+      (subst (λ o. IsFlowGraph (flow_facts ts (function_of d)) (if_there o (empty f.place) (with_close ts)) g) (sym x.placed) (A.each n d g x.numbered k))
+
+  -- each function, whether it is one of the program or none, has a graph with its traces
+  pub graph-fits : (f : Function) → IsFlowGraph (flow_facts ts f) (definition_of ts f) (graph_at ts gs f)
+  graph-fits f = by (number_at (functions_in ts) f.place) refl
+    where
+      at : (n : ℕ) → number_at (functions_in ts) f.place ≡ Some n → (o : Option Graph) → slice_get gs n ≡ o
+          → IsFlowGraph (flow_facts ts f) (definition_of ts f) (if_there o (graph_of (flow_facts ts f) (definition_of ts f)) (λ g. g))
+      at n e None k = built (flow_facts ts f) (definition_of ts f)
+      at n e (Some g) k = given f n g e k
+
+      by : (o : Option ℕ) → number_at (functions_in ts) f.place ≡ o
+          → IsFlowGraph (flow_facts ts f) (definition_of ts f) (if_there (o >? slice_get gs) (graph_of (flow_facts ts f) (definition_of ts f)) (λ g. g))
+      by None e = built (flow_facts ts f) (definition_of ts f)
+      by (Some n) e = at n e (slice_get gs n) refl
+
+  module _ (c : Checker) where
+    abbrev pub in_blocks : Supergraph (model c)
+    in_blocks = supergraph (model c) (flow_graphs c ts gs)
+
+    pub graphs_have_traces : HasTraces (model c) (program c ts) in_blocks × HasTraces (model c) in_blocks (program c ts)
+    graphs_have_traces =
+        blocks_have_steps (model c) (flow_facts ts) (definition_of ts) (happening ts) (site c.depth ts) (graph_at ts gs) (IsRootFunction c.machine ts) (λ f s. followed_into c.machine s)
+        (λ f. let x = graph-fits f in x.sound)
+        (λ f. let x = graph-fits f in x.traces)
+
+    -- the same reports are taken
+    pub graphs_report : (r : Report) → Reported (model c) in_blocks r ↔ Reported (model c) (program c ts) r
+    graphs_report r = (reported_on (model c) in_blocks (program c ts) graphs_have_traces.1 r, reported_on (model c) (program c ts) in_blocks graphs_have_traces.0 r)
+
+    -- the same in words of flat paths
+    pub graphs_err : (r : Report) → InErrors (model c) in_blocks r ↔ InErrors (model c) (program c ts) r
+    graphs_err r =
+        let a = in_errors (model c) in_blocks r in
+        let b = in_errors (model c) (program c ts) r in
+        let s = graphs_report r in
+        ((λ w. b.1 (s.0 (a.0 w))), (λ w. a.1 (s.1 (b.0 w))))
+
+    -- the relevant objects may be followed alone
+    pub closed_in_graphs : IsClosed (model c) in_blocks (origins c) (Relevant c ts)
+    closed_in_graphs = closed_on (model c) in_blocks (program c ts) graphs_have_traces.1 (origins c) (Relevant c ts) (closed c ts)
