@@ -4,5 +4,6 @@ pub mod Numbers
 pub mod GraphTraces
 pub mod Units
 pub mod Programs
+pub mod Calls
 pub mod Building
 pub mod Plain
