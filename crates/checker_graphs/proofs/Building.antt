@@ -1,15 +1,13 @@
 -- Graphs that are built one after the other are the graphs of the program.
-use Rattle.std.proofs.Common.{◌≡◌, ℕ, zero, suc, List, [], ◌∷◌, ◌++◌, length, Option, Some, slice_get, Bor, refl, sym, ap, subst}
+use Rattle.std.proofs.Common.{◌≡◌, ℕ, zero, suc, List, [], ◌∷◌, ◌++◌, length, Some, slice_get, Bor, sym, subst}
 use Rattle.std.proofs.Math.Logic.{∥∥₁_elim, ∥∥₁_map}
-use Rattle.std.specs.Prelude.{⊤}
 use Rattle.c_paths.specs.Building.{Graph}
 use Rattle.c_paths.specs.Facts.{Facts}
 use Rattle.c_paths.specs.SoundGraphs.{IsSoundGraph}
-use Rattle.c_paths.specs.Traces.{Definition}
 use Rattle.c_typing.specs.Functions.{Defined}
-use Rattle.checker_graphs.specs.Graphs.{IsFlowGraph, IsFlowGraphIn, AreGraphs, AreFirstGraphs}
+use Rattle.checker_graphs.specs.Graphs.{IsFlowGraphIn, AreGraphs, AreFirstGraphs}
 use Rattle.checker_graphs.proofs.Units.{facts-are, definition-is, functions-are}
-use Rattle.checker_programs.specs.Texts.{Text, functions_in, function_of, with_close, flow_facts}
+use Rattle.checker_programs.specs.Texts.{Text, functions_in, with_close}
 use Rattle.checker_programs.specs.Units.{texts_of}
 use Rattle.flow_graph.specs.Bodies.{HasTraces}
 use Rattle.function_graphs.specs.Bodies.{definition_in}

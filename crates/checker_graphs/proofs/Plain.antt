@@ -1,5 +1,5 @@
 -- Each program has such graphs: those of the plain builder.
-use Rattle.std.proofs.Common.{◌≡◌, ℕ, List, map, Option, Some, slice_get, ◌∙◌, sym, ap, subst}
+use Rattle.std.proofs.Common.{◌≡◌, List, map, Some, ◌∙◌, sym, ap, subst}
 use Rattle.std.proofs.lemmas.List.{length-map}
 use Rattle.std.proofs.lemmas.Option.{slice_get-map}
 use Rattle.std.specs.Option.{option_map}

@@ -1,5 +1,5 @@
 -- The numbers, graphs and definitions of the functions of numbered units, as a program has them.
-use Rattle.std.proofs.Common.{◌≡◌, ℕ, List, Option, Some, slice_get, Bor, ◌∙◌, sym, ap, subst}
+use Rattle.std.proofs.Common.{◌≡◌, ℕ, List, Some, slice_get, Bor, ◌∙◌, ap}
 use Rattle.std.specs.Option.{option_map}
 use Rattle.c_paths.specs.Building.{Graph}
 use Rattle.c_typing.specs.Functions.{Defined}

@@ -1,6 +1,6 @@
 -- The names of functions stand at places that rise, file after file and in each from its beginning to its end. So no two functions stand at
 -- one place.
-use Rattle.std.proofs.Common.{◌≡◌, ℕ, zero, suc, ◌+◌, ◌≤◌, ◌<◌, List, [], ◌∷◌, ◌++◌, length, Option, None, Some, slice_get, Bor, Bool, true, false, ◌&&◌, nat_eq, ◌⊎◌, inl, inr, refl, sym, ap, subst, arith, All, AllPairs}
+use Rattle.std.proofs.Common.{◌≡◌, ℕ, suc, ◌+◌, ◌≤◌, ◌<◌, List, [], ◌∷◌, ◌++◌, Option, None, Some, slice_get, Bor, Bool, true, false, ◌&&◌, nat_eq, ◌⊎◌, inl, inr, refl, sym, subst, arith, All}
 use Rattle.std.proofs.Math.Logic.{∥∥₁_elim, ∥∥₁_map}
 use Rattle.std.proofs.Props.{props}
 use Rattle.std.proofs.lemmas.Bool.{eqb-true}
@@ -13,7 +13,7 @@ use Rattle.c_places.specs.Stands.{Stands, OfNothing, OfKept, OfAll, OfFixed, OfP
 use Rattle.c_tree.specs.declared.place.Place.{Place}
 use Rattle.c_tree.specs.declared.token.Token.{Token}
 use Rattle.c_tree.specs.Node.{Node, node, Primary, Operation, Initializer, Specifier, Declarator, Part, Outer, Statement, Iteration, Jump, DeclaratorShape, Named, Nested, Unnamed, Declaration, Function, Empty, Nodes, no_more, more}
-use Rattle.c_tree.specs.TokenPlaces.{AreOfFile, Rises, StandInFile}
+use Rattle.c_tree.specs.TokenPlaces.{AreOfFile, Rises}
 use Rattle.c_tree.specs.Views.{nodes_of}
 use Rattle.c_typing.specs.Declarators.{name_of, name_of_shape}
 use Rattle.c_typing.specs.Definition.{after}

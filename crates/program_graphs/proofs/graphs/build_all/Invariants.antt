@@ -1,0 +1,12 @@
+use Rattle.std.proofs.Common.{◌≡◌, ◌≤◌, length}
+use Rattle.program_graphs.proofs.Gathered.{AreGathered}
+use Rattle.program_graphs.proofs.graphs.build_all.Given as goal
+use Rattle.programs.specs.Definitions.{definitions, trees_in}
+
+-- these are the graphs of the functions up to here
+abbrev pub invariant-loop-number : goal.invariant-loop-number
+invariant-loop-number l = record {
+  gathered : AreGathered l.program.units.items l.graphs.items;
+  count : length l.graphs.items ≡ l.number;
+  within : l.number ≤ length (definitions (trees_in l.program.units.items));
+}
