@@ -5,7 +5,6 @@ use Rattle.std.specs.Prelude.{⊤}
 use Rattle.std.specs.Option.{option_map}
 use Rattle.c_objects.specs.Facts as objects
 use Rattle.c_paths.specs.Events.{Event}
-use Rattle.c_paths.specs.Facts.{Facts}
 use Rattle.c_tree.specs.declared.token.Token.{Token}
 use Rattle.c_tree.specs.Node.{Node, node, Primary, Operation, Initializer, Specifier, Declarator, Part, Outer, Statement, Iteration, Jump, Declaration, Function, Empty, Nodes, no_more, more}
 use Rattle.c_typing.specs.Declarators.{name_of}
