@@ -12,7 +12,7 @@ use std::alloc::{AllocError, Global};
 
 /// The flow graph of each function of a program, by its number: each has exactly the traces of its function. The only fault is want
 /// of memory.
-pub fn build_all<'a>(alloc: Global, program: &Program<'a>) -> Result<Vec<Graph<'a>>, AllocError>
+pub fn build_all<'a>(alloc: Global, program: &Program<'_, 'a>) -> Result<Vec<Graph<'a>>, AllocError>
     ensures { IfOk result (λ graphs. ∥ AreGraphs (texts_of program.now.units.items) (graphs_in graphs.items) ∥₁) }
 {
     let mut graphs = Vec::new(alloc);
