@@ -1,0 +1,3 @@
+mod Visiting
+mod Reached
+mod Found
