@@ -1,0 +1,22 @@
+use Rattle.std.proofs.Common.{◌∙◌, sym}
+use Rattle.c_tree.specs.Symbol.{symbols_of}
+use Rattle.metal_reader.proofs.Lexed.{still_lexed}
+use Rattle.checker_front_end.proofs.Refusing.{no_machine, text_of}
+use Rattle.checker_front_end.proofs.reading.read_checker.Goals as goal
+
+pub unmade-requires : goal.unmade-requires
+unmade-requires c = record {
+  text = λ rule e. text_of c.read_machine.new.names (symbols_of c.args.tokens.now.all) c.args.tokens.now.end.place.file c.in-Err.fault rule c.in-Err.ensures.refused e;
+}
+
+pub returns-in-Err-clause-refused : goal.returns-in-Err-clause-refused
+returns-in-Err-clause-refused c = λ found e.
+    no_machine c.read_machine.new.names c.args.tokens.now c.args.tokens.now.end.place.file c.in-Err.fault found c.in-Err.ensures.refused (sym c.unmade.ensures ∙ e)
+
+pub returns-in-Ok-clause-lexed : goal.returns-in-Ok-clause-lexed
+returns-in-Ok-clause-lexed c = λ file word bytes w.
+    still_lexed file word c.args.names.now c.read_machine.new.names _ bytes c.args.tokens.now c.in-Ok.ensures.adds (w.pieces, w.reading, w.tokens)
+
+pub returns-in-Err-clause-lexed : goal.returns-in-Err-clause-lexed
+returns-in-Err-clause-lexed c = λ file word bytes w.
+    still_lexed file word c.args.names.now c.read_machine.new.names _ bytes c.args.tokens.now c.in-Err.ensures.adds (w.pieces, w.reading, w.tokens)
