@@ -66,9 +66,9 @@ fn item_holds(setting: &Setting, item: &Item, binding: &Binding) -> bool
     }
 }
 
-// Whether the callouts among these items hold.
+/// Whether the callouts among the items of an alternative hold of a binding.
 #[tactic(auto, using(crate::proofs::ItemSteps::hold_next, crate::proofs::ItemSteps::hold_stop, crate::proofs::ItemSteps::hold_end))]
-fn all_hold(setting: &Setting, items: &[Item], binding: &Binding) -> bool
+pub fn all_hold(setting: &Setting, items: &[Item], binding: &Binding) -> bool
     ensures { result ≡ all_hold (setting_in setting.now) (map item_view items.now) (binding_of binding.now) }
 {
     for item in items {
@@ -87,8 +87,8 @@ fn alternative_of<'s>(rule: &Rule<'s>, alternative: u32) -> Option<Alternative<'
     rule.pattern.alternatives.get(alternative as usize).copied()
 }
 
-// The binding with which these items match a subject.
-fn match_items<'a>(
+/// The binding with which an alternative of these items matches a subject.
+pub fn match_items<'a>(
     setting: &Setting<'_, 'a>,
     items: &[Item],
     subject: Subject<'a>,

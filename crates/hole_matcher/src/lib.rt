@@ -7,5 +7,5 @@ mod patterns;
 mod seat;
 mod walk;
 
-pub use alternatives::{callout, matches};
+pub use alternatives::{all_hold, callout, match_items, matches};
 pub use hole_bindings::{Binding, Taken};
