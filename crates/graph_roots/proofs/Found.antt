@@ -1,13 +1,13 @@
 -- The roots are found one after the other.
-use Rattle.std.proofs.Common.{arith, ◌≡◌, ◌↔◌, ◌⊎◌, inl, inr, ℕ, zero, suc, ◌+◌, ◌<◌, ◌≤◌, List, [], ◌∷◌, ◌++◌, Bool, true, false, true≢false, nat_eq, Contains, AllPairs, length, get_or, refl, sym, ap, ◌∙◌, subst, subst₂, append_assoc, append-nil, add-one, eqb-true}
+use Rattle.std.proofs.Common.{arith, ◌≡◌, ◌⊎◌, inl, inr, ℕ, zero, suc, ◌+◌, ◌<◌, List, [], ◌∷◌, ◌++◌, Bool, true, false, true≢false, nat_eq, Contains, AllPairs, length, get_or, refl, sym, ap, ◌∙◌, subst, subst₂, append_assoc, append-nil, add-one, eqb-true}
 use Rattle.std.specs.Cmp.{nat_eq_equiv}
 use Rattle.std.specs.List.{list_any}
 use Rattle.std.proofs.lemmas.List.{get_or_append_left, get_or_push, length_push}
-use Rattle.std.proofs.lemmas.List.Elements.{Contains-append_left, Contains-append_cases, Contains-append_right, Contains-push, Contains-push_cases, Contains-get_or}
+use Rattle.std.proofs.lemmas.List.Elements.{Contains-append_left, Contains-push, Contains-push_cases, Contains-get_or}
 use Rattle.std.proofs.lemmas.Option.{slice_get_within}
 use Rattle.std.proofs.lemmas.Map.Views.{Contains-from_any, list_any-from_Contains}
 use Rattle.graph_roots.specs.declared.callees.Callees.{Callees}
-use Rattle.graph_roots.specs.Graphs.{Reaches, Itself, Onward, IsUncalled, IsRootBelow, IsRoot, LeadsIn, Entered, StaysWithin, AreWithin}
+use Rattle.graph_roots.specs.Graphs.{Reaches, Itself, Onward, IsUncalled, IsRootBelow, IsRoot, LeadsIn, Entered}
 use Rattle.graph_roots.specs.Listed.{AreListed}
 use Rattle.graph_roots.specs.Searches.{unless, AreReached, HasUncalled, HasOthers}
 use Rattle.least_set.specs.Logs.{IsExactly}

@@ -1,5 +1,5 @@
 -- What roots reach, with one more root.
-use Rattle.std.proofs.Common.{arith, ◌≡◌, ◌⊎◌, inl, inr, ℕ, ◌<◌, List, [], ◌∷◌, ◌++◌, Bool, true, false, Contains, length, refl, sym, subst}
+use Rattle.std.proofs.Common.{◌≡◌, inl, inr, ℕ, ◌<◌, List, [], ◌∷◌, ◌++◌, Contains, length, sym, subst}
 use Rattle.std.proofs.lemmas.List.Elements.{Contains-append_left, Contains-push, Contains-push_cases}
 use Rattle.graph_roots.specs.declared.callees.Callees.{Callees}
 use Rattle.graph_roots.specs.Graphs.{Reaches, Itself, Onward, LeadsIn, StaysWithin, AreClosed, AreWithin, IsVisited}

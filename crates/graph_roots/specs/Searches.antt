@@ -1,5 +1,5 @@
 -- How far a search for roots has come.
-use Rattle.std.specs.Prelude.{◌≡◌, ◌↔◌, ◌⊎◌, ℕ, ◌<◌, List, [], ◌∷◌, ◌++◌, Bool, true, false, Contains, AllPairs, length}
+use Rattle.std.specs.Prelude.{◌≡◌, ◌⊎◌, ℕ, ◌<◌, List, [], ◌∷◌, ◌++◌, Bool, true, false, Contains, AllPairs}
 use Rattle.graph_roots.specs.declared.callees.Callees.{Callees}
 use Rattle.graph_roots.specs.Graphs.{LeadsIn, Reaches, IsUncalled, IsRootBelow, AreWithin}
 use Rattle.least_set.specs.Logs.{IsExactly, SomeGives}

@@ -1,4 +1,4 @@
-use Rattle.std.proofs.Common.{◌≡◌, ◌<◌, length, get_or, nat_eq, Some, slice_get, Contains, refl, sym, ap, ◌∙◌, subst, arith, eqb-true}
+use Rattle.std.proofs.Common.{◌≡◌, ◌<◌, length, get_or, nat_eq, Some, slice_get, Contains, refl, sym, subst, arith, eqb-true}
 use Rattle.std.proofs.lemmas.List.Elements.{Contains-get_or}
 use Rattle.std.proofs.lemmas.Option.{slice_get_read, slice_get-get_or}
 use Rattle.graph_roots.proofs.Visiting.{Visits, visits_begin, visits_more, visits_all, visits_within}
