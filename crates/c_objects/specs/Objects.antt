@@ -1,5 +1,5 @@
 -- Objects: access paths, and their addresses.
-use Rattle.std.specs.Prelude.{◌≡◌, ℕ, ◌≤◌, nat_eq, nat_le, List, [], ◌∷◌, length, Bool, true, false, cond, ◌&&◌, ◌||◌, Option, None, Some}
+use Rattle.std.specs.Prelude.{◌≡◌, ℕ, ◌≤◌, nat_eq, nat_le, List, [], ◌∷◌, length, Bool, true, false, cond, not, ◌&&◌, ◌||◌, Option, None, Some}
 use Rattle.c_typing.specs.Vars.{CVar, Extern, FileStatic, LocalStatic, Param, Local, Result, Called}
 
 -- One step of a path: `*`, `.f` by the name of the member, `[n]` by an integer constant, `[i]` by an integer variable.
@@ -31,6 +31,13 @@ ends_in_star (s ∷ ss) = ends_in_star ss
 pub record IsObject (depth : ℕ) (o : Object) : Type 0 where
   pub short : length o.selectors ≤ depth
   pub plain : o.address ≡ true → ends_in_star o.selectors ≡ false
+
+-- the same as a test, and the object where it is one
+abbrev pub is_object : ℕ → Object → Bool
+is_object depth o = nat_le (length o.selectors) depth && not (o.address && ends_in_star o.selectors)
+
+abbrev pub if_object : ℕ → Object → Option Object
+if_object depth o = cond (is_object depth o) (Some o) None
 
 -- the object, if it has at most so many steps
 abbrev pub up_to : ℕ → Object → Option Object

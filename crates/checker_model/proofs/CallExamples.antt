@@ -52,6 +52,9 @@ local = Some (address_of s []) ∷ []
 pointed : at_entry local (path x (Deref ∷ Field 8 ∷ [])) ≡ Some (path s (Field 8 ∷ []))
 pointed = refl
 
+no_star_behind_address : at_entry local (address_of x (Deref ∷ [])) ≡ None
+no_star_behind_address = refl
+
 changed : at_return local (path s (Field 8 ∷ [])) ≡ Some (path x (Deref ∷ Field 8 ∷ []))
 changed = refl
 

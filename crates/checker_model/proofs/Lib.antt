@@ -1,5 +1,6 @@
 pub mod Laws
-pub mod Short
+pub mod MovedObjects
+pub mod Sources
 pub mod Reaching
 pub mod MoveExamples
 pub mod CallExamples

@@ -125,3 +125,7 @@ exited = refl
 -- what has too many steps is unknown
 unknown : at (Exited place place) (path p (Deref ∷ Deref ∷ Deref ∷ Deref ∷ Deref ∷ [])) ≡ None
 unknown = refl
+
+-- after q = &s, &*q would be an address of what ends in `*`: it is no object
+no_object : behind (assigned assign.Plain (name 5) (address (name 1))) (address_of q (Deref ∷ [])) ≡ None
+no_object = refl

@@ -1,8 +1,8 @@
 -- The object of the callee through which an actual reaches one of the caller.
 use Rattle.std.proofs.Common.{◌≡◌, ◌↔◌, ℕ, ◌≤◌, List, [], length, Bool, true, false, Option, None, Some, refl, ◌∙◌, sym, ap, cond}
-use Rattle.c_objects.specs.Objects.{Object, IsObject, path, up_to, are_static}
+use Rattle.c_objects.specs.Objects.{Object, IsObject, path, are_static}
 use Rattle.c_objects.specs.Paths.{rebase}
-use Rattle.c_objects.proofs.Steps.{short-up_to}
+use Rattle.c_objects.proofs.Plain.{if-object}
 use Rattle.c_typing.specs.Options.{◌>?◌}
 use Rattle.c_typing.specs.Vars.{CVar}
 use Rattle.checker_model.specs.Calls.{if_static, reaching}
@@ -11,7 +11,7 @@ use Rattle.c_objects.proofs.Replacing.{replaced-becomes, becomes-replaced}
 
 module _ (depth : ℕ) (x : CVar) (a o : Object) (io : IsObject depth o) where
   reaching-is : reaching depth x a o ≡ (replaced depth (path x []) a o >? if_static)
-  reaching-is = ap (λ q. (q >? replaced depth (path x []) a) >? if_static) (short-up_to depth o io.short)
+  reaching-is = ap (λ q. (q >? replaced depth (path x []) a) >? if_static) (if-object depth o io)
 
   static : (q : Option Object) (c : Object) → (q >? if_static) ≡ Some c → (q ≡ Some c) × (are_static c.selectors ≡ true)
   static None c h = cc

@@ -1,8 +1,8 @@
 -- CALLS (refine and restore): which states a callee begins with, and which the caller has behind the call.
-use Rattle.std.specs.Prelude.{ℕ, List, [], ◌∷◌, cond, Option, None, Some}
+use Rattle.std.specs.Prelude.{◌≡◌, ℕ, List, [], ◌∷◌, cond, Option, None, Some}
 use Rattle.c_objects.specs.Facts.{Facts}
 use Rattle.c_objects.specs.ObjectOf.{object_of}
-use Rattle.c_objects.specs.Objects.{Object, path, up_to, same_var, is_static_var, are_static, is_static}
+use Rattle.c_objects.specs.Objects.{Object, IsObject, if_object, path, same_var, is_static_var, are_static, is_static}
 use Rattle.c_objects.specs.Paths.{rebase}
 use Rattle.c_tree.specs.Node.{Node, node, Operation, Call, Nodes, no_more, more}
 use Rattle.c_typing.specs.Options.{or_else, ◌>?◌}
@@ -18,6 +18,11 @@ objects_of u depth (more e es) = object_of u depth e ∷ objects_of u depth es
 abbrev pub actuals_of : Facts → ℕ → Node → List (Option Object)
 actuals_of u depth (node i p (Operation (Call callee paren arguments))) = objects_of u depth arguments
 actuals_of u depth _ = []
+
+-- they are objects
+abbrev pub AreObjects : ℕ → List (Option Object) → Type 0
+AreObjects depth [] = Unit {0}
+AreObjects depth (a ∷ actuals) = ((o : Object) → a ≡ Some o → IsObject depth o) × AreObjects depth actuals
 
 abbrev pub first_of : {A : Type 0} → List (Option A) → Option A
 first_of [] = None
@@ -36,7 +41,7 @@ passed depth (Some x ∷ xs) actuals c = cond (same_var c.base x) (first_of actu
 
 -- Index variables of the caller mean nothing in the callee, so all of them have static storage.
 abbrev pub into : ℕ → Site → Object → Option Object
-into depth s c = up_to depth c >? λ o. cond (are_static o.selectors) (passed depth s.formals s.actuals o) None
+into depth s c = if_object depth c >? λ o. cond (are_static o.selectors) (passed depth s.formals s.actuals o) None
 
 -- AT THE RETURN. The object of the callee through which an actual reaches one of the caller: it becomes that where the actual stands in
 -- the place of the formal. Its index variables all have static storage.
@@ -44,7 +49,7 @@ abbrev pub if_static : Object → Option Object
 if_static c = cond (are_static c.selectors) (Some c) None
 
 abbrev pub reaching : ℕ → CVar → Object → Object → Option Object
-reaching depth x a o = up_to depth o >? replaced depth (path x []) a >? if_static
+reaching depth x a o = if_object depth o >? replaced depth (path x []) a >? if_static
 
 -- through the first actual that reaches it
 abbrev pub reached : ℕ → List (Option CVar) → List (Option Object) → Object → Option Object

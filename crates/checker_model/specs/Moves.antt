@@ -1,7 +1,7 @@
 -- MOVES (kills and synonyms): an assignment takes the states of what it writes over, and hands on the states of what it copies.
-use Rattle.std.specs.Prelude.{ℕ, List, [], ◌∷◌, Bool, true, false, cond, not, ◌&&◌, ◌||◌, Option, None, Some}
+use Rattle.std.specs.Prelude.{◌≡◌, ℕ, List, [], ◌∷◌, Bool, true, false, cond, not, ◌&&◌, ◌||◌, Option, None, Some, IfSome}
 use Rattle.c_objects.specs.Facts.{Facts}
-use Rattle.c_objects.specs.Objects.{Selector, Object, path, up_to, is_indexed_by, mentions}
+use Rattle.c_objects.specs.Objects.{Selector, Object, IsObject, if_object, path, is_indexed_by, mentions}
 use Rattle.c_objects.specs.ObjectOf.{object_of}
 use Rattle.c_objects.specs.Paths.{rest, has_access, rebase}
 use Rattle.c_paths.specs.Events.{Variable, Event, Evaluated, Declared, Branched, Exited}
@@ -19,6 +19,11 @@ use Rattle.path_subjects.specs.Subjects.{Subject, Tree, DerefOf}
 pub record Move : Type 0 where
   pub to : Object
   pub from : Option Object
+
+-- what is written over is a path, and what is copied is an object
+pub record IsMove (depth : ℕ) (m : Move) : Type 0 where
+  pub path : m.to.address ≡ false
+  pub object : IfSome m.from (IsObject depth)
 
 -- to an object that is a path; nothing moves where there is none, or the address of one
 abbrev pub moving : Option Object → Option Object → Option Move
@@ -80,7 +85,7 @@ copied depth m o r = cond (indexes m.to r) None (m.from >? λ a. rebase depth o 
 abbrev pub source_of : ℕ → Move → Object → Option Object
 source_of depth m o = if_there (under m.to o) (cond (indexes m.to o.selectors) None (Some o)) (copied depth m o)
 
--- an object with too many steps has none
+-- what is no object at the depth has none
 abbrev pub source : ℕ → Option Move → Object → Option Object
-source depth None o = up_to depth o
-source depth (Some m) o = up_to depth o >? source_of depth m
+source depth None o = if_object depth o
+source depth (Some m) o = if_object depth o >? source_of depth m

@@ -8,7 +8,7 @@ use Rattle.checker_model.specs.Choices.{State, Taken, stop, first_some, applied,
 use Rattle.checker_model.specs.Happenings.{Function, Happening}
 use Rattle.checker_model.specs.Reports.{Checker, Fires, report_of}
 use Rattle.checker_programs.specs.Relevant.{Binds}
-use Rattle.checker_model.proofs.Short.{given, tested, untested}
+use Rattle.checker_model.proofs.Sources.{given, tested, untested}
 use Rattle.hole_matching.specs.Alternatives.{bound_object}
 use Rattle.hole_matching.specs.Holes.{Setting}
 use Rattle.hole_matching.specs.Matching.{Binding}

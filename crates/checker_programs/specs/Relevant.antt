@@ -1,6 +1,6 @@
 -- THE RELEVANT OBJECTS of a program's functions: the least sets that have what rules bind, and with an object each from which it takes its
 -- state, or that takes its state from it.
-use Rattle.std.specs.Prelude.{◌≡◌, ℕ, ◌≤◌, ◌<◌, length, List, Option, Some}
+use Rattle.std.specs.Prelude.{◌≡◌, ℕ, List, Option, Some}
 use Rattle.c_objects.specs.Objects.{Object}
 use Rattle.c_paths.specs.Membership.{Among}
 use Rattle.checker_model.specs.Calls.{into, out}
@@ -27,20 +27,17 @@ pub record Binds (c : Checker) (f : Function) (h : Happening) (o : Object) : Typ
   pub bound : bound_object (scene c.machine c.depth h f) variable binding ≡ Some o
 
 module _ (c : Checker) (ts : List Text) where
-  abbrev pub IsShort : Object → Type 0
-  IsShort o = length o.selectors ≤ c.depth
-
   pub data Relevant : Function → Object → Type 0 where
     Bound : (f : Function) (h : Happening) (o : Object) → EventOf (model c) (program c ts) f h → Binds c f h o → Relevant f o
-    Taken : (f : Function) (h : Happening) (o b : Object) → EventOf (model c) (program c ts) f h → source_at c.depth h o ≡ Some b → IsShort o → IsShort b
+    Taken : (f : Function) (h : Happening) (o b : Object) → EventOf (model c) (program c ts) f h → source_at c.depth h o ≡ Some b
         → Relevant f o → Relevant f b
-    Given : (f : Function) (h : Happening) (o b : Object) → EventOf (model c) (program c ts) f h → source_at c.depth h o ≡ Some b → IsShort o → IsShort b
+    Given : (f : Function) (h : Happening) (o b : Object) → EventOf (model c) (program c ts) f h → source_at c.depth h o ≡ Some b
         → Relevant f b → Relevant f o
-    PassedBy : (f g : Function) (s : Site) (o b : Object) → CallOf (model c) (program c ts) f s g → into c.depth s o ≡ Some b → IsShort o → IsShort b
+    PassedBy : (f g : Function) (s : Site) (o b : Object) → CallOf (model c) (program c ts) f s g → into c.depth s o ≡ Some b
         → Relevant g o → Relevant f b
-    PassedOn : (f g : Function) (s : Site) (o b : Object) → CallOf (model c) (program c ts) f s g → into c.depth s o ≡ Some b → IsShort o → IsShort b
+    PassedOn : (f g : Function) (s : Site) (o b : Object) → CallOf (model c) (program c ts) f s g → into c.depth s o ≡ Some b
         → Relevant f b → Relevant g o
-    HandedBy : (f g : Function) (s : Site) (o b : Object) → CallOf (model c) (program c ts) f s g → out c.depth s o ≡ Some b → IsShort o → IsShort b
+    HandedBy : (f g : Function) (s : Site) (o b : Object) → CallOf (model c) (program c ts) f s g → out c.depth s o ≡ Some b
         → Relevant f o → Relevant g b
-    HandedBack : (f g : Function) (s : Site) (o b : Object) → CallOf (model c) (program c ts) f s g → out c.depth s o ≡ Some b → IsShort o → IsShort b
+    HandedBack : (f g : Function) (s : Site) (o b : Object) → CallOf (model c) (program c ts) f s g → out c.depth s o ≡ Some b
         → Relevant g b → Relevant f o

@@ -3,4 +3,4 @@
 
 mod theorems;
 
-pub use theorems::relevant_objects_are_closed;
+pub use theorems::{relevant_objects_are_closed, relevant_objects_are_objects};

@@ -1,8 +1,13 @@
-// The theorem about relevant objects, in the contract of a function that does nothing: a call of it hands the fact to a caller's proof.
+// The theorems about relevant objects, each in the contract of a function that does nothing: a call of it hands the fact to a caller's proof.
 
-ghost use Rattle.checker_programs.specs.Theorems.{RelevantObjectsAreClosed};
+ghost use Rattle.checker_programs.specs.Theorems.{RelevantObjectsAreClosed, RelevantObjectsAreObjects};
 
 /// Whatever is left out where relevant objects alone are followed is unknown on every path, and takes no rule with a report.
 pub fn relevant_objects_are_closed()
     ensures { RelevantObjectsAreClosed }
+{}
+
+/// Relevant objects have at most as many steps as the depth, and none is the address of what ends in `*`.
+pub fn relevant_objects_are_objects()
+    ensures { RelevantObjectsAreObjects }
 {}

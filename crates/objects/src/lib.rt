@@ -12,7 +12,7 @@ mod text;
 mod trees;
 mod variables;
 
-pub use object::{Object, copy, is_static, mentions, variable};
+pub use object::{Object, copy, is_object, is_static, mentions, variable};
 pub use origin::Origin;
 pub use paths::{append, begins_with, rebase, replaced, rest};
 pub use selector::Selector;

@@ -1,12 +1,12 @@
 //! Objects.
 
 ghost use Rattle.std.specs.Prelude.{◌≡◌, ◌≤◌, [], length};
-ghost use Rattle.c_objects.specs.Objects.{path, is_static, mentions};
+ghost use Rattle.c_objects.specs.Objects.{path, is_object, is_static, mentions};
 ghost use Rattle.c_unit.specs.Vars.{cvar_of};
 ghost use Rattle.objects.specs.Selectors.{selectors_of};
 
 use crate::selector::Selector;
-use crate::steps::{are_static, is_indexed_by, joined};
+use crate::steps::{are_static, ends_in_star, is_indexed_by, joined};
 use crate::variables::is_static_var;
 use arrayvec::ArrayVec;
 use c_unit::Var;
@@ -75,6 +75,14 @@ pub fn copy(object: &Object) -> Object
         base: object.base,
         selectors: joined(object.selectors.as_slice(), &[]),
     }
+}
+
+/// Whether it is an object at this depth: it has at most `depth` steps, and what it is the address of doesn't end in `*`.
+pub fn is_object(object: &Object, depth: u8) -> bool
+    ensures { result ≡ is_object depth object.now }
+{
+    let steps = object.selectors.as_slice();
+    steps.len() <= depth as usize && !(object.address && ends_in_star(steps))
 }
 
 /// Whether an object's variable and all its index variables have static storage.

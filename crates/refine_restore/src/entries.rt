@@ -15,7 +15,9 @@ ghost use Rattle.refine_restore.specs.Sites.{formals_of, site_of};
 use crate::site::{Site, actuals};
 use c_tree::Tree;
 use c_unit::Var;
-use objects::{Object, Origin, are_static, is_static_var, object_of, rebase, same_var, variable};
+use objects::{
+    Object, Origin, are_static, is_object, is_static_var, object_of, rebase, same_var, variable,
+};
 use typed_unit::TypedUnit;
 
 // The source of an object behind a formal: what stands there behind the first of these actuals.
@@ -81,8 +83,7 @@ pub fn into_callee(site: &Site, callee_object: &Object, depth: u8) -> Origin
     requires { depth ≤ 8 }
     ensures { origin_of callee_object.now result ≡ into depth (site_of depth site.now) callee_object.now }
 {
-    let steps = callee_object.selectors();
-    if steps.len() > depth as usize || !are_static(steps) {
+    if !is_object(callee_object, depth) || !are_static(callee_object.selectors()) {
         return Origin::Nothing;
     }
     passed(

@@ -12,7 +12,7 @@ use crate::entries::behind_first;
 use crate::site::{Site, actuals};
 use c_tree::Tree;
 use c_unit::Var;
-use objects::{Object, are_static, copy, is_static, object_of, replaced, variable};
+use objects::{Object, are_static, copy, is_object, is_static, object_of, replaced, variable};
 use typed_unit::TypedUnit;
 
 // The object of the callee through which the first of these actuals reaches one of the caller.
@@ -26,7 +26,7 @@ fn reaching(
     requires { depth ≤ 8 }
     ensures { result ≡ (first_of (objects_of (facts_in unit.now) depth (nodes_in actuals.now)) >? λ a. reaching depth (cvar_of formal) a object.now) }
 {
-    if object.selectors().len() > depth as usize {
+    if !is_object(object, depth) {
         return None;
     }
     let [actual, ..] = actuals else {

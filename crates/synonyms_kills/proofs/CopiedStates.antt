@@ -1,39 +1,31 @@
 -- The list of targets has exactly the objects with that source.
-use Rattle.std.proofs.Common.{arith, ◌≡◌, ◌⊎◌, inl, inr, ℕ, ◌≤◌, ◌<◌, List, [], ◌∷◌, ◌++◌, length, Bool, true, false, Option, None, Some, refl, ◌∙◌, sym, ap, subst, cond, not, ◌&&◌, IfSome, Result, Ok, Err, IfOk}
+use Rattle.std.proofs.Common.{◌≡◌, ◌⊎◌, inl, inr, ℕ, List, [], ◌∷◌, ◌++◌, Bool, true, false, Option, None, Some, refl, ◌∙◌, sym, ap, subst, cond, not, ◌&&◌, true≢false, Result, Ok, Err, IfOk}
 use Rattle.std.specs.Prelude.{is_none}
 use Rattle.std.specs.Option.{option_to_list}
 use Rattle.c_objects.specs.Facts.{Facts}
-use Rattle.c_objects.specs.Objects.{Selector, Object, IsObject, path, up_to}
-use Rattle.c_objects.specs.ObjectOf.{object_of}
+use Rattle.c_objects.specs.Objects.{Selector, Object, IsObject, is_object, if_object}
 use Rattle.c_objects.specs.Paths.{rebase}
 use Rattle.c_objects.specs.Replaced.{replaced}
-use Rattle.c_objects.proofs.Plain.{object-object}
-use Rattle.c_objects.proofs.Replacing.{kept, replaces}
-use Rattle.c_objects.proofs.Steps.{short-up_to, long-up_to, by-length}
-use Rattle.c_paths.specs.Events.{Event, Evaluated, Declared, Branched, Exited}
+use Rattle.c_objects.proofs.Plain.{is-object, object-is, if-object, object-if}
+use Rattle.c_objects.proofs.Replacing.{replaces}
+use Rattle.c_paths.specs.Events.{Event}
 use Rattle.c_paths.specs.Membership.{Among}
-use Rattle.c_tree.specs.declared.operator.AssignOp.{AssignOp}
-use Rattle.c_tree.specs.declared.operator.AssignOp.TheVariants as assign
-use Rattle.c_tree.specs.declared.operator.UnaryOp.{UnaryOp}
-use Rattle.c_tree.specs.declared.operator.UnaryOp.TheVariants as unary
-use Rattle.c_tree.specs.Node.{Node, node, Operation, Initializer, Assign, Unary, Init}
 use Rattle.c_typing.specs.Options.{◌>?◌, if_there}
-use Rattle.checker_model.specs.Moves.{Move, moving, assigned, stepped, initialized, tree_move, local_of, move_of, under, indexes, copied, source_of, source}
-use Rattle.checker_model.proofs.Short.{given, source-short}
-use Rattle.hole_matching.specs.Subjects.{is_braced}
-use Rattle.path_subjects.specs.Subjects.{Tree, DerefOf}
-use Rattle.synonyms_kills.specs.Targets.{AreDistinct, AreTargets, IsMove, stays, if_copied, copy_of, targets}
+use Rattle.checker_model.specs.Moves.{Move, IsMove, move_of, under, indexes, copied, source_of, source}
+use Rattle.checker_model.proofs.MovedObjects.{move-is}
+use Rattle.checker_model.proofs.Sources.{given, some-copied, source-object}
+use Rattle.synonyms_kills.specs.Targets.{AreDistinct, AreTargets, stays, if_copied, copy_of, targets}
 
 module _ (depth : ℕ) (m : Move) (o : Object) (is : IsMove depth m) (io : IsObject depth o) where
-  some-copied : (a : Object) → m.from ≡ Some a → IsObject depth a
-  some-copied a e = by m.from e is.object
-    where
-      by : (x : Option Object) → x ≡ Some a → IfSome x (IsObject depth) → IsObject depth a
-      by None e h = cc
-      by (Some b) e h = let same : b ≡ a = cc in subst (IsObject depth) same h
+  source-is : (q : Object) → IsObject depth q → source depth (Some m) q ≡ source_of depth m q
+  source-is q iq = ap (λ z. z >? source_of depth m) (if-object depth q iq)
 
-  source-is : (q : Object) → length q.selectors ≤ depth → source depth (Some m) q ≡ source_of depth m q
-  source-is q s = ap (λ z. z >? source_of depth m) (short-up_to depth q s)
+  -- what has a source is an object
+  has-source : (q : Object) → source depth (Some m) q ≡ Some o → IsObject depth q
+  has-source q h =
+      let g = given (if_object depth q) (source_of depth m) o h in
+      let k = object-if depth q g.0 g.1 in
+      subst (IsObject depth) (sym k.0) k.1
 
   -- the object itself, where it isn't under what is written over
   stays-by : (q : Object) → stays m q ≡ true → source_of depth m q ≡ Some q
@@ -67,7 +59,7 @@ module _ (depth : ℕ) (m : Move) (o : Object) (is : IsMove depth m) (io : IsObj
       let u = given (under m.to p) (λ r. cond (indexes m.to r) None (Some p)) q h in
       let t = untested (indexes m.to u.0) u.2 in
       let same : p ≡ q = t.1 in
-      let both = (replaces depth m.to a o p is.path (some-copied a f) io).0 r in
+      let both = (replaces depth m.to a o p is.path (some-copied depth m a is f) io).0 r in
       subst IsCopy same (record { from = a; copies = f; steps = u.0; lies = u.1; keeps = t.0; object = both.0; becomes = both.1 })
     where
       untested : (b : Bool) → cond b None (Some p) ≡ Some q → (b ≡ false) × (p ≡ q)
@@ -83,7 +75,7 @@ module _ (depth : ℕ) (m : Move) (o : Object) (is : IsMove depth m) (io : IsObj
   is-copy : (q : Object) → IsCopy q → copy_of depth m o ≡ Some q
   is-copy q c =
       ap (λ z. z >? λ a. replaced depth m.to a o >? if_copied m) c.copies
-      ∙ ap (λ z. z >? if_copied m) ((replaces depth m.to c.from o q is.path (some-copied c.from c.copies) io).1 (c.object, c.becomes))
+      ∙ ap (λ z. z >? if_copied m) ((replaces depth m.to c.from o q is.path (some-copied depth m c.from is c.copies) io).1 (c.object, c.becomes))
       ∙ ap (λ z. z >? λ r. cond (indexes m.to r) None (Some q)) c.lies
       ∙ ap (λ z. cond z None (Some q)) c.keeps
 
@@ -133,10 +125,10 @@ module _ (depth : ℕ) (m : Move) (o : Object) (is : IsMove depth m) (io : IsObj
       objects false None s e q h = absurd h
 
       itself : stays m o ≡ true → source depth (Some m) o ≡ Some o
-      itself s = source-is o io.short ∙ stays-by o s
+      itself s = source-is o io ∙ stays-by o s
 
       copy : (p : Object) → copy_of depth m o ≡ Some p → source depth (Some m) p ≡ Some o
-      copy p e = let c = copy-is p e in source-is p c.object.short ∙ copies-by p c.from c.steps c.lies c.keeps c.copies c.becomes
+      copy p e = let c = copy-is p e in source-is p c.object ∙ copies-by p c.from c.steps c.lies c.keeps c.copies c.becomes
 
       real : (b : Bool) (c : Option Object) → stays m o ≡ b → copy_of depth m o ≡ c → (q : Object) → Among q (cond b (o ∷ []) [] ++ option_to_list c) → source depth (Some m) q ≡ Some o
       real true c s e q (inl h) = ap (source depth (Some m)) h ∙ itself s
@@ -163,8 +155,8 @@ module _ (depth : ℕ) (m : Move) (o : Object) (is : IsMove depth m) (io : IsObj
       found false (Some p) s e q (inr c) = let same : Some q ≡ Some p = sym (is-copy q c) ∙ e in inl cc
       found b None s e q (inr c) = absurd (some≢none q (sym (is-copy q c) ∙ e))
 
-      whole : (b : Bool) (c : Option Object) → stays m o ≡ b → copy_of depth m o ≡ c → (q : Object) → IsObject depth q → source depth (Some m) q ≡ Some o → Among q (cond b (o ∷ []) [] ++ option_to_list c)
-      whole b c s e q iq h = found b c s e q (back q iq (sym (source-is q iq.short) ∙ h))
+      whole : (b : Bool) (c : Option Object) → stays m o ≡ b → copy_of depth m o ≡ c → (q : Object) → source depth (Some m) q ≡ Some o → Among q (cond b (o ∷ []) [] ++ option_to_list c)
+      whole b c s e q h = let iq = has-source q h in found b c s e q (back q iq (sym (source-is q iq) ∙ h))
 
       distinct : (b : Bool) (c : Option Object) → stays m o ≡ b → copy_of depth m o ≡ c → AreDistinct (cond b (o ∷ []) [] ++ option_to_list c)
       distinct true None s e = (λ h. h, tt)
@@ -176,53 +168,6 @@ module _ (depth : ℕ) (m : Move) (o : Object) (is : IsMove depth m) (io : IsObj
       distinct false None s e = tt
       distinct false (Some p) s e = ((λ h. h), tt)
 
--- what events write over is a path, and what they copy is an object
-moving-is : (depth : ℕ) (to from : Option Object) (m : Move) → ((a : Object) → from ≡ Some a → IsObject depth a) → moving to from ≡ Some m → IsMove depth m
-moving-is depth None from m h e = cc
-moving-is depth (Some l) from m h e = by l.address refl e
-  where
-    some : (x : Option Object) → ((a : Object) → x ≡ Some a → IsObject depth a) → IfSome x (IsObject depth)
-    some None k = tt
-    some (Some a) k = k a refl
-
-    by : (b : Bool) → l.address ≡ b → cond b None (Some (record { to = l; from = from })) ≡ Some m → IsMove depth m
-    by true a k = cc
-    by false a k = let same : record { to = l; from = from } ≡ m = cc in subst (IsMove depth) same (record { path = a; object = some from h })
-
-no-object : (depth : ℕ) (a : Object) → None ≡ Some a → IsObject depth a
-no-object depth a h = cc
-
-assigned-is : (u : Facts) (depth : ℕ) (op : AssignOp) (l r : Node) (m : Move) → assigned u depth op l r ≡ Some m → IsMove depth m
-assigned-is u depth assign.Plain l r m h = moving-is depth (object_of u depth l) (object_of u depth r) m (object-object u depth r) h
-assigned-is u depth op l r m h = moving-is depth (object_of u depth l) None m (no-object depth) h
-
-stepped-is : (u : Facts) (depth : ℕ) (op : UnaryOp) (x : Node) (m : Move) → stepped u depth op x ≡ Some m → IsMove depth m
-stepped-is u depth unary.PostInc x m h = moving-is depth (object_of u depth x) None m (no-object depth) h
-stepped-is u depth unary.PostDec x m h = moving-is depth (object_of u depth x) None m (no-object depth) h
-stepped-is u depth unary.PreInc x m h = moving-is depth (object_of u depth x) None m (no-object depth) h
-stepped-is u depth unary.PreDec x m h = moving-is depth (object_of u depth x) None m (no-object depth) h
-stepped-is u depth op x m h = cc
-
-initialized-is : (u : Facts) (depth : ℕ) (name initial : Node) (m : Move) → initialized u depth name initial ≡ Some m → IsMove depth m
-initialized-is u depth name initial m h = moving-is depth (object_of u depth name) (cond (is_braced initial) None (object_of u depth initial)) m (by (is_braced initial)) h
-  where
-    by : (b : Bool) (a : Object) → cond b None (object_of u depth initial) ≡ Some a → IsObject depth a
-    by true a e = cc
-    by false a e = object-object u depth initial a e
-
-tree-is : (u : Facts) (depth : ℕ) (e : Node) (m : Move) → tree_move u depth e ≡ Some m → IsMove depth m
-tree-is u depth (node i p (Operation (Assign op l r))) m h = assigned-is u depth op l r m h
-tree-is u depth (node i p (Operation (Unary op x))) m h = stepped-is u depth op x m h
-tree-is u depth (node i p (Initializer (Init name declarator initial))) m h = initialized-is u depth name initial m h
-tree-is u depth e m h = cc
-
-move-is : (u : Facts) (depth : ℕ) (e : Event) (m : Move) → move_of u depth e ≡ Some m → IsMove depth m
-move-is u depth (Evaluated (Tree e)) m h = tree-is u depth e m h
-move-is u depth (Evaluated (DerefOf x)) m h = cc
-move-is u depth (Declared x) m h = moving-is depth (Some (path (local_of x) [])) None m (no-object depth) h
-move-is u depth (Branched n truth) m h = cc
-move-is u depth (Exited function place) m h = cc
-
 nothing-moves : (depth : ℕ) (o : Object) → IsObject depth o → AreTargets depth None o (o ∷ [])
 nothing-moves depth o io = record { objects = objects; real = real; whole = whole; distinct = ((λ h. h), tt) }
   where
@@ -231,31 +176,32 @@ nothing-moves depth o io = record { objects = objects; real = real; whole = whol
     objects q (inr h) = absurd h
 
     real : (q : Object) → Among q (o ∷ []) → source depth None q ≡ Some o
-    real q (inl h) = ap (source depth None) h ∙ short-up_to depth o io.short
+    real q (inl h) = ap (source depth None) h ∙ if-object depth o io
     real q (inr h) = absurd h
 
-    whole : (q : Object) → IsObject depth q → source depth None q ≡ Some o → Among q (o ∷ [])
-    whole q iq h = inl (kept depth q o h).0
+    whole : (q : Object) → source depth None q ≡ Some o → Among q (o ∷ [])
+    whole q h = inl (object-if depth q o h).0
 
--- THE TARGETS at an event, of an object with no more steps than the depth
-pub are_targets : (u : Facts) (depth : ℕ) (e : Event) (o : Object) → IsObject 8 o → length o.selectors ≤ depth → AreTargets depth (move_of u depth e) o (targets depth (move_of u depth e) o)
-are_targets u depth e o is fits = by (move_of u depth e) refl
-  where
-    here : IsObject depth o
-    here = record { short = fits; plain = is.plain }
+module _ (u : Facts) (depth : ℕ) (e : Event) (o : Object) where
+  -- THE TARGETS of an object at an event
+  pub are_targets : is_object depth o ≡ true → AreTargets depth (move_of u depth e) o (targets depth (move_of u depth e) o)
+  are_targets h = by (move_of u depth e) refl
+    where
+      here : IsObject depth o
+      here = is-object depth o h
 
-    by : (m : Option Move) → move_of u depth e ≡ m → AreTargets depth m o (targets depth m o)
-    by None h = nothing-moves depth o here
-    by (Some m) h = listed depth m o (move-is u depth e m h) here (stays m o) (copy_of depth m o) refl refl
+      by : (m : Option Move) → move_of u depth e ≡ m → AreTargets depth m o (targets depth m o)
+      by None k = nothing-moves depth o here
+      by (Some m) k = listed depth m o (move-is u depth e m k) here (stays m o) (copy_of depth m o) refl refl
 
--- one with more steps has none
-pub no_targets : (depth : ℕ) (m : Option Move) (o : Object) → depth < length o.selectors → AreTargets depth m o []
-no_targets depth m o long = record {
-  objects = λ q h. absurd h;
-  real = λ q h. absurd h;
-  whole = λ q iq h. let s = source-short depth m q o h in absurd (omega (arith, s.1, long));
-  distinct = tt;
-}
+  -- what is no object has none
+  pub no_targets : is_object depth o ≡ false → AreTargets depth (move_of u depth e) o []
+  no_targets h = record {
+    objects = λ q k. absurd k;
+    real = λ q k. absurd k;
+    whole = λ q k. let s = source-object depth (move_of u depth e) q o (move-is u depth e) k in absurd (true≢false (sym (object-is depth o s.1) ∙ h));
+    distinct = tt;
+  }
 
 pub if-ok : {A E : Type 0} (P Q : A → Type 0) (r : Result A E) → ((a : A) → P a → Q a) → IfOk r P → IfOk r Q
 if-ok P Q (Ok a) f h = f a h

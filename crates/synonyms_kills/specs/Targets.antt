@@ -1,5 +1,5 @@
 -- The targets of an object: those whose source it is.
-use Rattle.std.specs.Prelude.{◌≡◌, ◌++◌, ℕ, List, [], ◌∷◌, Bool, false, cond, not, ◌&&◌, is_none, Option, None, Some, IfSome}
+use Rattle.std.specs.Prelude.{◌≡◌, ◌++◌, ℕ, List, [], ◌∷◌, Bool, cond, not, ◌&&◌, is_none, Option, None, Some}
 use Rattle.std.specs.Option.{option_to_list}
 use Rattle.c_objects.specs.Objects.{Object, IsObject}
 use Rattle.c_objects.specs.Replaced.{replaced}
@@ -15,13 +15,8 @@ AreDistinct (q ∷ qs) = (Among q qs → ⊥) × AreDistinct qs
 pub record AreTargets (depth : ℕ) (m : Option Move) (o : Object) (targets : List Object) : Type 0 where
   pub objects : (q : Object) → Among q targets → IsObject depth q
   pub real : (q : Object) → Among q targets → source depth m q ≡ Some o
-  pub whole : (q : Object) → IsObject depth q → source depth m q ≡ Some o → Among q targets
+  pub whole : (q : Object) → source depth m q ≡ Some o → Among q targets
   pub distinct : AreDistinct targets
-
--- what is written over is a path, and what is copied is an object
-pub record IsMove (depth : ℕ) (m : Move) : Type 0 where
-  pub path : m.to.address ≡ false
-  pub object : IfSome m.from (IsObject depth)
 
 -- the object keeps its own state
 abbrev pub stays : Move → Object → Bool

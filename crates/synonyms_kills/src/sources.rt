@@ -11,7 +11,7 @@ ghost use Rattle.synonyms_kills.specs.Values.{move_in};
 
 use crate::moves::{Move, move_of};
 use flow_graph::Event;
-use objects::{Object, Origin, Selector, has_access, is_indexed_by, rebase, rest};
+use objects::{Object, Origin, Selector, has_access, is_indexed_by, is_object, rebase, rest};
 use typed_unit::TypedUnit;
 
 // The steps by which an object lies under a path that is written over: it goes on behind it, or is the address of what does so by way of
@@ -68,13 +68,13 @@ fn source_of(change: &Move, object: &Object, depth: u8) -> Origin
     }
 }
 
-/// The object whose state before an event's move an object has behind it, among objects with at most `depth` steps: kills and synonyms
-/// (Hallem, Chelf, Xie and Engler, PLDI 2002). It takes no memory.
+/// The object whose state before an event's move an object has behind it, among the objects at this depth: kills and synonyms (Hallem,
+/// Chelf, Xie and Engler, PLDI 2002). It takes no memory.
 pub fn source_before(event: &Event, unit: &TypedUnit, object: &Object, depth: u8) -> Origin
     requires { depth ≤ 8 }
     ensures { origin_of object.now result ≡ source depth (move_of (facts_in unit.now) depth (event_of event.now)) object.now }
 {
-    if object.selectors().len() > depth as usize {
+    if !is_object(object, depth) {
         return Origin::Nothing;
     }
     match move_of(unit, event, depth) {

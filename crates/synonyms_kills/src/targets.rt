@@ -2,7 +2,6 @@
 
 ghost use Rattle.std.specs.Prelude.{◌≡◌, ◌≤◌, IfOk};
 ghost use Rattle.std.specs.Option.{option_map};
-ghost use Rattle.c_objects.specs.Objects.{IsObject};
 ghost use Rattle.checker_model.specs.Moves.{move_of};
 ghost use Rattle.flow_graph.specs.Values.{event_of};
 ghost use Rattle.objects.specs.Units.{facts_in};
@@ -12,7 +11,7 @@ ghost use Rattle.synonyms_kills.specs.Values.{move_in};
 use crate::moves::{Move, move_of};
 use crate::sources::{indexes, under};
 use flow_graph::Event;
-use objects::{Object, copy, replaced};
+use objects::{Object, copy, is_object, replaced};
 use std::alloc::{AllocError, Global};
 use typed_unit::TypedUnit;
 
@@ -77,8 +76,7 @@ fn targets(
     Ok(list)
 }
 
-/// The objects with at most `depth` steps whose source an object is at an event: those that have its state behind the event's move, each
-/// once.
+/// The objects at this depth whose source an object is at an event: those that have its state behind the event's move, each once.
 #[tactic(auto, using(crate::proofs::CopiedStates::are_targets, crate::proofs::CopiedStates::no_targets))]
 pub fn targets_after(
     alloc: Global,
@@ -87,11 +85,10 @@ pub fn targets_after(
     object: &Object,
     depth: u8,
 ) -> Result<Vec<Object>, AllocError>
-    requires depth { depth ≤ 8 }
-    requires object { IsObject 8 object.now }
+    requires { depth ≤ 8 }
     ensures { IfOk result (λ list. AreTargets depth (move_of (facts_in unit.now) depth (event_of event.now)) object.now list.items) }
 {
-    if object.selectors().len() > depth as usize {
+    if !is_object(object, depth) {
         return Ok(Vec::new(alloc));
     }
     let change = move_of(unit, event, depth);
