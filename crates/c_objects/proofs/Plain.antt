@@ -1,5 +1,5 @@
 -- The object of a tree is an object: short enough, and no address of what ends in `*`.
-use Rattle.std.proofs.Common.{arith, rules, ◌≡◌, ℕ, ◌≤◌, nat_le, length, List, [], ◌∷◌, Bool, true, false, Option, None, Some, refl, ◌∙◌, sym, ap, subst, cond, not, ◌&&◌, ◌||◌}
+use Rattle.std.proofs.Common.{arith, rules, ◌≡◌, ℕ, nat_le, length, List, [], ◌∷◌, Bool, true, false, Option, None, Some, refl, ◌∙◌, ap, subst, cond, not, ◌&&◌, ◌||◌}
 use Rattle.std.specs.Bool.{⊤}
 use Rattle.std.specs.Option.{option_map}
 use Rattle.c_objects.specs.Facts.{Facts, numbered_var}

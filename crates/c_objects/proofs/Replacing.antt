@@ -1,8 +1,8 @@
 -- The way back from `rebase`: the object that is found for another becomes it, and no other does.
-use Rattle.std.proofs.Common.{arith, ◌≡◌, ◌↔◌, ℕ, ◌≤◌, List, [], ◌∷◌, ◌++◌, length, Bool, true, false, Option, None, Some, refl, ◌∙◌, sym, ap, subst, cond, not, ◌&&◌, ◌||◌}
+use Rattle.std.proofs.Common.{◌≡◌, ◌↔◌, ℕ, ◌≤◌, List, [], ◌∷◌, ◌++◌, length, Bool, true, false, Option, None, Some, refl, ◌∙◌, sym, ap, subst, cond, not, ◌&&◌, ◌||◌}
 use Rattle.std.proofs.lemmas.List.{append-nil}
 use Rattle.c_objects.specs.Objects.{Selector, Deref, Field, At, AtVar, Object, IsObject, path, address_of, up_to, same_var, ends_in_star}
-use Rattle.c_objects.specs.Paths.{append, joined, joined_address, addressed, behind, rest, has_access, rebased_address, rebase}
+use Rattle.c_objects.specs.Paths.{append, addressed, behind, rest, has_access, rebased_address, rebase}
 use Rattle.c_objects.proofs.Begins.{behind-some, rest-itself}
 use Rattle.c_objects.proofs.Steps.{short-up_to, long-up_to, by-length}
 use Rattle.c_objects.proofs.Vars.{same_var-true}
