@@ -22,8 +22,8 @@ use objects::Object;
 use rule_choices::{Asked, Fired, first_rule};
 use typed_unit::TypedUnit;
 
-// The global state that nothing leaves.
-const STOP: u16 = 1;
+/// The number of the global state `stop`, which nothing leaves.
+pub const STOP: u16 = 1;
 
 // Whether an object's path goes from a variable of a block with automatic storage (ISO 9899:1990, 6.1.2.4).
 fn is_local(object: &Object) -> bool
