@@ -5,7 +5,7 @@ use Rattle.command_words.proofs.reading.read.Given as goal
 
 abbrev pub invariant-loop-index : goal.invariant-loop-index
 invariant-loop-index l = record {
-  rest : reading (chosen l.given.waits l.given.depth (option_copied l.given.format) l.given.stats) (map string_bytes (drop l.index l.words)) ≡ reading nothing_chosen (map string_bytes l.words);
+  rest : reading (chosen l.given.0 l.given.1.0 (option_copied l.given.1.1.0) l.given.1.1.1.0) (map string_bytes (drop l.index l.words)) ≡ reading nothing_chosen (map string_bytes l.words);
   bound : l.index ≤ length l.words;
 }
 
