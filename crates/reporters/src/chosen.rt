@@ -49,14 +49,14 @@ pub fn render_at(
     render_box(&mut reporters[index], reports)
 }
 
-fn has_name(reporter: &Box<dyn Reporter>, name: &str) -> bool
+fn has_name(reporter: &Box<dyn Reporter>, name: &[u8]) -> bool
     ensures { result ≡ bytes_eq name.now (called reporter.now) }
 {
-    name == reporter.name()
+    name == reporter.name().as_bytes()
 }
 
 // The place of the first reporter of a name, or the number of reporters.
-fn place_or_count(reporters: &[Box<dyn Reporter>], name: &str) -> usize
+fn place_or_count(reporters: &[Box<dyn Reporter>], name: &[u8]) -> usize
     ensures { result ≡ position_or_len (bytes_eq name.now) (map (λ b. called b) reporters.now) }
 {
     let mut place = 0;
@@ -69,8 +69,8 @@ fn place_or_count(reporters: &[Box<dyn Reporter>], name: &str) -> usize
     place
 }
 
-/// The place of the first reporter of a name, from 0, if there is one.
-pub fn place_of(reporters: &[Box<dyn Reporter>], name: &str) -> Option<usize>
+/// The place of the first reporter of a name, which is given by its bytes. Places count from 0.
+pub fn place_of(reporters: &[Box<dyn Reporter>], name: &[u8]) -> Option<usize>
     ensures within { IfSome result (λ place. place < length reporters.now) }
     ensures first { result ≡ position (bytes_eq name.now) (map (λ b. called b) reporters.now) }
 {
