@@ -15,7 +15,8 @@ use std::alloc::{AllocError, Global};
 enum Value<'a> {
     Number(u32),
     Text(&'a [u8]),
-    Null,
+    /// `null` where there is no text.
+    TextOrNull(&'a Option<Text>),
 }
 
 /// A value, and the punctuation and the name before it.
@@ -69,6 +70,15 @@ fn write_quoted(bytes: &[u8], into: &mut Text) -> Result<(), AllocError>
     into.push_all(b"\"")
 }
 
+fn write_quoted_or_null(text: &Option<Text>, into: &mut Text) -> Result<(), AllocError>
+    ensures { OnOk result (into.new ≡ into.old ++ quoted_or_null text.now) }
+{
+    match text {
+        None => into.push_all(b"null"),
+        Some(text) => write_quoted(text.as_bytes(), into),
+    }
+}
+
 fn write_value(value: &Value<'_>, into: &mut Text) -> Result<(), AllocError>
     ensures { OnOk result (into.new ≡ into.old ++ value_text value.now) }
 {
@@ -78,7 +88,7 @@ fn write_value(value: &Value<'_>, into: &mut Text) -> Result<(), AllocError>
             into.push_all(buffer.format(*number).as_bytes())
         }
         Value::Text(bytes) => write_quoted(bytes, into),
-        Value::Null => into.push_all(b"null"),
+        Value::TextOrNull(text) => write_quoted_or_null(text, into),
     }
 }
 
@@ -90,16 +100,6 @@ fn write_members(members: &[Member<'_>], into: &mut Text) -> Result<(), AllocErr
         write_value(&member.value, into)?;
     }
     Ok(())
-}
-
-// The value of an object that may be missing.
-fn object_value(object: &Option<Text>) -> Value<'_>
-    ensures { value_text result ≡ quoted_or_null object.now }
-{
-    match object {
-        None => Value::Null,
-        Some(text) => Value::Text(text.as_bytes()),
-    }
 }
 
 // Appends the line of a report.
@@ -129,7 +129,7 @@ fn write_object(report: &Report, into: &mut Text) -> Result<(), AllocError>
         },
         Member {
             before: b",\"object\":",
-            value: object_value(&report.object),
+            value: Value::TextOrNull(&report.object),
         },
         Member {
             before: b",\"message\":",
