@@ -109,10 +109,8 @@ fn read<'a>(words: &'a [String]) -> Option<Asked<'a>>
 /// What the words ask for; `None` exactly where they stand for no request. It takes no memory.
 pub fn read_asked<'a>(words: &'a [String]) -> Option<Asked<'a>>
     ensures request { IfSome result (λ asked. IsRequest (map string_bytes words.now) (request_of asked)) }
+    ensures only { IfSome result (λ asked. (request : Request) → IsRequest (map string_bytes words.now) request → request ≡ request_of asked) }
     ensures none { result ≡ None → (request : Request) → IsRequest (map string_bytes words.now) request → ⊥ }
 {
-    match read(words) {
-        Some(asked) => Some(asked),
-        None => None,
-    }
+    read(words)
 }

@@ -1,10 +1,12 @@
 use Rattle.std.proofs.Common.{map, string_bytes}
-use Rattle.command_words.specs.Views.{request_of}
-use Rattle.command_words.proofs.Sound.{found, refused}
+use Rattle.command_words.proofs.Answered.{asked_found, asked_only, asked_none}
 use Rattle.command_words.proofs.reading.read_asked.Goals as goal
 
-pub returns-in-Some-clause-request : goal.returns-in-Some-clause-request
-returns-in-Some-clause-request c = found (map string_bytes c.args.words.now) (request_of c.in-Some.asked) c.in-Some.ensures
+pub returns-clause-request : goal.returns-clause-request
+returns-clause-request c = asked_found (map string_bytes c.args.words.now) c.read.result c.read.ensures
 
-pub returns-in-None-clause-none : goal.returns-in-None-clause-none
-returns-in-None-clause-none c z = refused (map string_bytes c.args.words.now) c.in-None.ensures
+pub returns-clause-only : goal.returns-clause-only
+returns-clause-only c = asked_only (map string_bytes c.args.words.now) c.read.result c.read.ensures
+
+pub returns-clause-none : goal.returns-clause-none
+returns-clause-none c = asked_none (map string_bytes c.args.words.now) c.read.result c.read.ensures
