@@ -1,7 +1,7 @@
 -- What the program has read of words, or that it has read nothing, is what they stand for.
 use Rattle.std.specs.Prelude.{IfSome}
 use Rattle.std.specs.Option.{option_map}
-use Rattle.std.proofs.Common.{◌≡◌, ℕ, List, Option, None, Some, sym, ◌∙◌, ap, is_some, true≢false}
+use Rattle.std.proofs.Common.{◌≡◌, ℕ, List, Option, None, Some, ap, is_some, true≢false}
 use Rattle.command_words.specs.declared.asked.Asked.{Asked}
 use Rattle.command_words.specs.Words.{Request, IsRequest}
 use Rattle.command_words.specs.Reading.{reading, nothing_chosen}

@@ -1,5 +1,5 @@
 -- What some lists of words stand for.
-use Rattle.std.specs.Prelude.{◌≡◌, ℕ, List, [], ◌∷◌, ◌++◌, Bool, true, false, Option, None, Some, codes, replicate}
+use Rattle.std.specs.Prelude.{ℕ, List, [], ◌∷◌, ◌++◌, true, false, None, Some, codes, replicate}
 use Rattle.std.proofs.Common.{refl}
 use Rattle.command_words.specs.Words.{Request, IsRequest}
 use Rattle.command_words.specs.Reading.{request}

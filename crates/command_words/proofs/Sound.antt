@@ -1,5 +1,5 @@
 -- The words stand for the request that is read.
-use Rattle.std.proofs.Common.{◌≡◌, ℕ, ◌-◌, Bool, true, false, cond, not, ◌&&◌, ◌||◌, List, [], ◌∷◌, ◌++◌, length, take, drop, Option, None, Some, is_some, unwrap_or, codes, ap, refl, sym, ◌∙◌, subst, true≢false}
+use Rattle.std.proofs.Common.{◌≡◌, ℕ, ◌-◌, Bool, true, false, cond, not, ◌&&◌, List, [], ◌∷◌, ◌++◌, length, take, drop, Option, None, Some, is_some, unwrap_or, codes, ap, refl, sym, ◌∙◌, subst, true≢false}
 use Rattle.std.specs.List.{list_any, list_all, flat_map}
 use Rattle.std.specs.Str.{bytes_eq}
 use Rattle.std.proofs.lemmas.List.{take-append-drop}
@@ -8,7 +8,7 @@ use Rattle.command_words.specs.declared.given.Waits.{Waits}
 use Rattle.command_words.specs.declared.given.Waits.TheVariants.{ForOption, ForDepth, ForFormat}
 use Rattle.command_words.specs.Words.{Setting, DepthApart, DepthJoined, FormatApart, FormatJoined, Stats, spelled, is_setting, is_depth_digit, is_option, starts_with_minus, are_few, depths, formats, marks, IsOnly, depth_or_usual, is_marked, divider, Request, IsRequest}
 use Rattle.command_words.specs.Reading.{Chosen, chosen, Turn, Next, File, End, Wrong, depth_of, depth_turn, format_turn, stats_turn, turn_for, behind, joined_depth, joined_format, joined_turn, option_turn, turn, turn_of, turned, request, finished, plainly_finished, reading, nothing_chosen}
-use Rattle.command_words.proofs.Complete.{listed, flag, both_true, read_as}
+use Rattle.command_words.proofs.Complete.{listed, flag, read_as}
 
 -- the words that are left stand for the request, behind what was set before
 record Continues (d : Option ℕ) (f : Option (List ℕ)) (s : Bool) (words : List (List ℕ)) (r : Request) : Type 0 where

@@ -1,9 +1,9 @@
 -- One step of the loops over words.
-use Rattle.std.proofs.Common.{◌≡◌, ℕ, suc, ◌+◌, ◌<◌, ◌≤◌, Bool, true, false, cond, ◌||◌, List, [], ◌∷◌, length, get_or, drop, map, Option, None, Some, ap, refl, sym, ◌∙◌, add-one, drop-cons, arith}
+use Rattle.std.proofs.Common.{◌≡◌, ℕ, suc, ◌+◌, ◌<◌, ◌≤◌, Bool, true, false, cond, ◌||◌, List, [], ◌∷◌, length, get_or, drop, map, None, ap, sym, ◌∙◌, add-one, drop-cons, arith}
 use Rattle.std.proofs.lemmas.List.{drop_all}
 use Rattle.std.specs.List.{list_any}
-use Rattle.command_words.specs.Words.{is_option, counted, Request}
-use Rattle.command_words.specs.Reading.{Chosen, Turn, Next, File, End, Wrong, turn_of, turned, finished, plainly_finished, reading}
+use Rattle.command_words.specs.Words.{is_option, counted}
+use Rattle.command_words.specs.Reading.{Chosen, Next, File, End, Wrong, turn_of, turned, finished, plainly_finished, reading}
 
 -- the word with a number, and those behind it
 pub word_next : {X : Type 0} (f : X → List ℕ) (xs : List X) (i : ℕ) (x : X) (w : List ℕ) → i < length xs → x ≡ get_or xs i x → w ≡ f x → map f (drop i xs) ≡ w ∷ map f (drop (i + 1) xs)

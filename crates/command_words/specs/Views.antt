@@ -1,6 +1,6 @@
 -- What the program keeps of words, as lists of bytes.
-use Rattle.std.specs.Prelude.{List, map, string_bytes, Option, None, Some}
-use Rattle.std.specs.Option.{option_copied, option_map}
+use Rattle.std.specs.Prelude.{map, string_bytes}
+use Rattle.std.specs.Option.{option_copied}
 use Rattle.command_words.specs.declared.asked.Asked.{Asked}
 use Rattle.command_words.specs.declared.given.Given.{Given}
 use Rattle.command_words.specs.declared.given.Turn as turn_type
