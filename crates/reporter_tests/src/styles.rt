@@ -32,7 +32,7 @@ fn rendered(alloc: Global, name: &str, reports: &[Report]) -> Result<Vec<u8>, Al
     let mut reporters: Vec<Box<dyn Reporter>> = Vec::new(alloc);
     reporters.push(Box::new(alloc, table)?)?;
     reporters.push(Box::new(alloc, lines)?)?;
-    match place_of(&reporters, name) {
+    match place_of(&reporters, name.as_bytes()) {
         None => Ok(Vec::new(alloc)),
         Some(place) => render_at(&mut reporters, place, reports),
     }
