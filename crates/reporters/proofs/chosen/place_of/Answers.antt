@@ -1,6 +1,6 @@
 use Rattle.std.proofs.Common.{arith}
 use Rattle.std.specs.Str.{bytes_eq}
-use Rattle.reporters.proofs.Places.{position_past, position_here, place_within}
+use Rattle.reporters.proofs.Places.{position_here, place_within}
 use Rattle.reporters.proofs.chosen.place_of.Goals as goal
 
 pub returns-clause-first : goal.returns-clause-first

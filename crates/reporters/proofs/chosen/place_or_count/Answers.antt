@@ -1,4 +1,4 @@
-use Rattle.std.proofs.Common.{◌≡◌, sym, ap, ◌∙◌, arith}
+use Rattle.std.proofs.Common.{sym, ◌∙◌, arith}
 use Rattle.std.specs.Str.{bytes_eq}
 use Rattle.reporters.proofs.Places.{place_here, place_next}
 use Rattle.reporters.proofs.chosen.place_or_count.Goals as goal

@@ -1,4 +1,4 @@
-use Rattle.std.proofs.Common.{◌≡◌, ◌<◌, Some, [], Result, Ok, Err, OnOk, IfOk, ap, sym, ◌∙◌, length, arith}
+use Rattle.std.proofs.Common.{Some, ap, sym, ◌∙◌, arith}
 use Rattle.reporters.proofs.Places.{if_ok, read_here, set_kept, set_others, set_here}
 use Rattle.reporters.proofs.chosen.render_at.Goals as goal
 

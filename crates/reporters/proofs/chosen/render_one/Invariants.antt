@@ -1,5 +1,5 @@
 -- the reports so far were taken
-use Rattle.std.proofs.Common.{◌≡◌, ◌++◌, take}
+use Rattle.std.proofs.Common.{◌≡◌, take}
 use Rattle.reporters.proofs.chosen.render_one.Given as goal
 
 abbrev pub invariant-loop-report : goal.invariant-loop-report
