@@ -1,0 +1,53 @@
+-- Roots by a table are roots by the calls that it is of.
+use Rattle.std.proofs.Common.{arith, ◌≡◌, ◌↔◌, ◌⊎◌, inl, inr, ⊎_elim, ℕ, zero, suc, ◌<◌, List, Some, Contains, length, slice_get, refl, sym, ap, ◌∙◌, subst}
+use Rattle.checker_programs.specs.Roots as program
+use Rattle.checker_programs.specs.Roots.{Leads, Itself, Onward}
+use Rattle.checker_programs.specs.Texts.{Text, functions_in}
+use Rattle.graph_roots.specs.declared.callees.Callees.{Callees}
+use Rattle.graph_roots.specs.Graphs as graph
+use Rattle.graph_roots.specs.Graphs.{LeadsIn}
+use Rattle.graph_roots.specs.Listed.{AreListed}
+use Rattle.least_set.specs.Logs.{IsExactly}
+use Rattle.metal_machines.specs.Machine.{Machine}
+use Rattle.root_functions.specs.Callees.{HaveCallees}
+
+module _ (m : Machine) (ts : List Text) (L : ℕ → ℕ → Type 0) (to : (f g : ℕ) → L f g → Leads m ts f g) (back : (f g : ℕ) → Leads m ts f g → L f g) where
+  reach_to : {f g : ℕ} → graph.Reaches L f g → program.Reaches m ts f g
+  reach_to (graph.Itself f) = Itself f
+  reach_to (graph.Onward {g = g} {h = h} r s) = Onward (reach_to r) (to g h s)
+
+  reach_back : {f g : ℕ} → program.Reaches m ts f g → graph.Reaches L f g
+  reach_back (Itself f) = graph.Itself f
+  reach_back (Onward {g = g} {h = h} r s) = graph.Onward (reach_back r) (back g h s)
+
+  uncalled_to : (g : ℕ) → graph.IsUncalled L g → program.IsUncalled m ts g
+  uncalled_to g none f s = none f (back f g s)
+
+  uncalled_back : (g : ℕ) → program.IsUncalled m ts g → graph.IsUncalled L g
+  uncalled_back g none f s = none f (to f g s)
+
+  mutual
+    below_to : (n f : ℕ) → graph.IsRootBelow L n f → program.IsRootBelow m ts n f
+    below_to zero f r = r
+    below_to (suc n) f (inl r) = inl (below_to n f r)
+    below_to (suc n) f (inr (e, inl none)) = inr (e, inl (uncalled_to n none))
+    below_to (suc n) f (inr (e, inr free)) = inr (e, inr (λ g h r. free g (⊎_elim (λ u. inl (uncalled_back g u)) (λ b. inr (below_back n g b)) h) (reach_back r)))
+
+    below_back : (n f : ℕ) → program.IsRootBelow m ts n f → graph.IsRootBelow L n f
+    below_back zero f r = r
+    below_back (suc n) f (inl r) = inl (below_back n f r)
+    below_back (suc n) f (inr (e, inl none)) = inr (e, inl (uncalled_back n none))
+    below_back (suc n) f (inr (e, inr free)) = inr (e, inr (λ g h r. free g (⊎_elim (λ u. inl (uncalled_to g u)) (λ b. inr (below_to n g b)) h) (reach_to r)))
+
+  listed_to : (count : ℕ) (roots : List ℕ) → AreListed (graph.IsUncalled L) (graph.IsRoot L) count roots → AreListed (program.IsUncalled m ts) (program.IsRoot m ts) count roots
+  listed_to count roots a = record {
+    exact = λ f h. (λ c. below_to (suc f) f ((a.exact f h).0 c), λ r. (a.exact f h).1 (below_back (suc f) f r));
+    within = a.within;
+    uncalled = a.uncalled;
+    others = a.others;
+    in_order = a.in_order;
+    first = λ f c. uncalled_to f (a.first f c);
+    last = λ f c none. a.last f c (uncalled_back f none);
+    first_rise = a.first_rise;
+    last_rise = a.last_rise;
+  }
