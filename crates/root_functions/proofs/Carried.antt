@@ -1,5 +1,7 @@
 -- Roots by a table are roots by the calls that it is of.
 use Rattle.std.proofs.Common.{arith, ◌≡◌, ◌↔◌, ◌⊎◌, inl, inr, ⊎_elim, ℕ, zero, suc, ◌<◌, List, Some, Contains, length, slice_get, refl, sym, ap, ◌∙◌, subst}
+use Rattle.std.proofs.Math.Logic.{∥∥₁_map}
+use Rattle.std.proofs.lemmas.Option.{slice_get_within, slice_get_cases}
 use Rattle.checker_programs.specs.Roots as program
 use Rattle.checker_programs.specs.Roots.{Leads, Itself, Onward}
 use Rattle.checker_programs.specs.Texts.{Text, functions_in}
@@ -51,3 +53,21 @@ module _ (m : Machine) (ts : List Text) (L : ℕ → ℕ → Type 0) (to : (f g 
     first_rise = a.first_rise;
     last_rise = a.last_rise;
   }
+
+-- the rows of all functions say where their calls lead
+rows_to : (m : Machine) (ts : List Text) (rows : List Callees) → HaveCallees m ts rows → (f g : ℕ) → LeadsIn rows f g → Leads m ts f g
+rows_to m ts rows all f g s = (all f s.0 s.1).0 g s.2
+
+rows_back : (m : Machine) (ts : List Text) (rows : List Callees) → length rows ≡ length (functions_in ts) → HaveCallees m ts rows → (f g : ℕ) → Leads m ts f g → LeadsIn rows f g
+rows_back m ts rows count all f g l =
+    let within : f < length rows = subst (λ n. f < n) (sym count) (slice_get_within (functions_in ts) f l.defined l.is) in
+    elim (slice_get_cases rows f).1 [ inl p ↦ (p.0, p.2, (all f p.0 p.2).1 g l) | inr q ↦ absurd (omega (arith, within, q.0)) ]
+
+pub roots_listed : (m : Machine) (ts : List Text) (rows : List Callees) (count : ℕ) (numbers roots : List ℕ)
+    → count ≡ length (functions_in ts) → length rows ≡ count → ∥ HaveCallees m ts rows ∥₁
+    → AreListed (graph.IsUncalled (LeadsIn rows)) (graph.IsRoot (LeadsIn rows)) (length rows) numbers → roots ≡ numbers
+    → ∥ AreListed (program.IsUncalled m ts) (program.IsRoot m ts) count roots ∥₁
+roots_listed m ts rows count numbers roots whole each known a same =
+    ∥∥₁_map known (λ all. subst (λ (k : ℕ). AreListed (program.IsUncalled m ts) (program.IsRoot m ts) k roots) each
+    (subst (λ (l : List ℕ). AreListed (program.IsUncalled m ts) (program.IsRoot m ts) (length rows) l) (sym same)
+    (listed_to m ts (LeadsIn rows) (rows_to m ts rows all) (rows_back m ts rows (each ∙ whole) all) (length rows) numbers a)))

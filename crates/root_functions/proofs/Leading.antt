@@ -46,9 +46,6 @@ pub leads_exactly : (m : Machine) (units : List (Bor TypedUnit)) (f : ℕ) (d : 
     → IsExactly callees (FollowedBy m units d.file calls) → IsExactly callees (Leads m (texts_of units) f)
 leads_exactly m units f d calls callees at inside exact = (to, back)
   where
-    ts : _
-    ts = texts_of units
-
     facts : flow_facts (texts_of units) (function_of d) ≡ facts_in units d.file
     facts = same_facts units f d at
 

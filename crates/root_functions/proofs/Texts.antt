@@ -4,6 +4,7 @@ use Rattle.std.specs.Prelude.{⊤}
 use Rattle.std.specs.Option.{option_map}
 use Rattle.c_tree.specs.declared.token.Token.{Token}
 use Rattle.c_tree.specs.Node.{Node, node, Primary, Operation, Initializer, Specifier, Declarator, Part, Outer, Statement, Iteration, Jump, Declaration, Function, Empty, Nodes, no_more, more}
+use Rattle.c_tree.specs.Views.{nodes_of}
 use Rattle.c_typing.specs.Declarators.{name_of}
 use Rattle.c_typing.specs.Definition.{after}
 use Rattle.c_typing.specs.Functions as typing
@@ -22,7 +23,7 @@ use Rattle.typed_unit.specs.declared.typed_unit.TypedUnit.{TypedUnit}
 
 same_trees : (units : List (Bor TypedUnit)) → map (λ t. t.trees) (texts_of units) ≡ trees_in units
 same_trees [] = refl
-same_trees (u ∷ us) = ap (λ ns. _ ∷ ns) (same_trees us)
+same_trees (u ∷ us) = ap (λ (ns : List Nodes). nodes_of u.now.unit.chunks ∷ ns) (same_trees us)
 
 pub same_functions : (units : List (Bor TypedUnit)) → functions_in (texts_of units) ≡ definitions (trees_in units)
 same_functions units = ap definitions (same_trees units)

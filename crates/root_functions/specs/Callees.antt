@@ -6,6 +6,7 @@ use Rattle.call_graph.specs.Followed.{followed}
 pub use Rattle.checker_programs.specs.Roots.{Leads}
 use Rattle.checker_programs.specs.Texts.{Text}
 use Rattle.graph_roots.specs.declared.callees.Callees.{Callees}
+use Rattle.graph_roots.specs.Graphs.{LeadsIn}
 use Rattle.least_set.specs.Logs.{IsExactly, SomeGives}
 use Rattle.metal_machines.specs.Machine.{Machine}
 use Rattle.programs.specs.Calls.{table_in}
@@ -22,6 +23,10 @@ FollowedBy m units file calls g = SomeGives {T = Node} {M = ℕ} (λ call h. fol
 
 abbrev pub AreBelow : ℕ → List ℕ → Type 0
 AreBelow count fs = (f : ℕ) → Contains fs f → f < count
+
+-- these rows lead to nothing else than the first so many
+abbrev pub LeadBelow : ℕ → List Callees → Type 0
+LeadBelow count rows = (f g : ℕ) → LeadsIn rows f g → g < count
 
 -- each row has exactly the functions to which that of its position leads
 abbrev pub HaveCallees : Machine → List Text → List Callees → Type 0
