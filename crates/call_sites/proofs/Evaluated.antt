@@ -1,15 +1,15 @@
 -- The calls of a tree are those that are evaluated in it.
-use Rattle.std.proofs.Common.{◌≡◌, ◌↔◌, ◌⊎◌, inl, inr, ⊎_elim, ℕ, Bool, true, false, List, [], ◌∷◌, ◌++◌, Option, None, Some, Contains, refl, sym, ap, ◌∙◌, subst, arith}
+use Rattle.std.proofs.Common.{◌≡◌, ◌↔◌, ◌⊎◌, inl, inr, ⊎_elim, Bool, true, false, List, [], ◌∷◌, ◌++◌, Option, None, Some, Contains, refl, sym, ap, subst, arith}
 use Rattle.c_tree.specs.declared.operator.BinaryOp.{BinaryOp}
 use Rattle.c_tree.specs.declared.operator.BinaryOp.TheVariants as binary
 use Rattle.c_tree.specs.declared.operator.UnaryOp.{UnaryOp}
 use Rattle.c_tree.specs.declared.operator.UnaryOp.TheVariants as unary
 use Rattle.c_tree.specs.declared.place.Place.{Place}
 use Rattle.c_tree.specs.Node.{Node, node, Primary, Operation, Initializer, Specifier, Declarator, Part, Outer, Statement, Iteration, Jump, PrimaryShape, OperationShape, InitializerShape, OuterShape, StatementShape, IterationShape, JumpShape, Ident, Constant, StrConst, Paren, VaArg, Offsetof, Hole, Index, Call, Member, Arrow, CompoundLit, Unary, SizeofType, Cast, Binary, Cond, Assign, Init, Braces, Designated, Declaration, Function, Empty, Block, ExprStmt, If, Switch, Case, Default, Label, While, Do, For, ForDeclaration, Goto, Continue, Break, Return, MaybeNode, absent, present, Nodes, no_more, more}
-use Rattle.path_theory.specs.Marks.{Mark, EventMark, CallMark}
-use Rattle.c_paths.specs.Events.{Event, Item, Variable, called, dereferenced}
+use Rattle.path_theory.specs.Marks.{EventMark}
+use Rattle.c_paths.specs.Events.{Event, Variable, called, dereferenced}
 use Rattle.c_paths.specs.Facts.{Facts}
-use Rattle.c_paths.specs.Forms.{Form, Plain, Inverts, Keeps, Both, Any, Chooses, Follows, Row, done, operand, item}
+use Rattle.c_paths.specs.Forms.{Form, Plain, Inverts, Chooses, Row, done, operand, item}
 use Rattle.c_paths.specs.Occurrences.{InForm, InRow, InMaybe, InFlow, InFlows}
 use Rattle.c_paths.specs.TreeForms.{is_zero, itself, call_itself, unary_form, binary_form, form_of, primary_form, operation_form, initializer_form, operands}
 use Rattle.c_paths.specs.TreeFlow.{maybe_row, maybe_form, declared_then, initialized_then, declarator_then, declarators_row, outer_row, declaration_row, flow_of, statement_flow, iteration_flow, jump_flow, maybe_flow, flows_of}

@@ -1,5 +1,5 @@
 -- Roots by a table are roots by the calls that it is of.
-use Rattle.std.proofs.Common.{arith, ◌≡◌, ◌↔◌, ◌⊎◌, inl, inr, ⊎_elim, ℕ, zero, suc, ◌<◌, List, Some, Contains, length, slice_get, refl, sym, ap, ◌∙◌, subst}
+use Rattle.std.proofs.Common.{arith, ◌≡◌, ◌⊎◌, inl, inr, ⊎_elim, ℕ, zero, suc, ◌<◌, List, length, sym, ◌∙◌, subst}
 use Rattle.std.proofs.Math.Logic.{∥∥₁_map}
 use Rattle.std.proofs.lemmas.Option.{slice_get_within, slice_get_cases}
 use Rattle.checker_programs.specs.Roots as program
@@ -9,9 +9,9 @@ use Rattle.graph_roots.specs.declared.callees.Callees.{Callees}
 use Rattle.graph_roots.specs.Graphs as graph
 use Rattle.graph_roots.specs.Graphs.{LeadsIn}
 use Rattle.graph_roots.specs.Listed.{AreListed}
-use Rattle.least_set.specs.Logs.{IsExactly}
 use Rattle.metal_machines.specs.Machine.{Machine}
 use Rattle.root_functions.specs.Callees.{HaveCallees}
+use Rattle.root_functions.specs.Roots.{AreRoots}
 
 module _ (m : Machine) (ts : List Text) (L : ℕ → ℕ → Type 0) (to : (f g : ℕ) → L f g → Leads m ts f g) (back : (f g : ℕ) → Leads m ts f g → L f g) where
   reach_to : {f g : ℕ} → graph.Reaches L f g → program.Reaches m ts f g
@@ -63,11 +63,10 @@ rows_back m ts rows count all f g l =
     let within : f < length rows = subst (λ n. f < n) (sym count) (slice_get_within (functions_in ts) f l.defined l.is) in
     elim (slice_get_cases rows f).1 [ inl p ↦ (p.0, p.2, (all f p.0 p.2).1 g l) | inr q ↦ absurd (omega (arith, within, q.0)) ]
 
-pub roots_listed : (m : Machine) (ts : List Text) (rows : List Callees) (count : ℕ) (numbers roots : List ℕ)
-    → count ≡ length (functions_in ts) → length rows ≡ count → ∥ HaveCallees m ts rows ∥₁
-    → AreListed (graph.IsUncalled (LeadsIn rows)) (graph.IsRoot (LeadsIn rows)) (length rows) numbers → roots ≡ numbers
-    → ∥ AreListed (program.IsUncalled m ts) (program.IsRoot m ts) count roots ∥₁
-roots_listed m ts rows count numbers roots whole each known a same =
+pub roots_listed : (m : Machine) (ts : List Text) (rows : List Callees) (numbers roots : List ℕ)
+    → length rows ≡ length (functions_in ts) → ∥ HaveCallees m ts rows ∥₁
+    → AreListed (graph.IsUncalled (LeadsIn rows)) (graph.IsRoot (LeadsIn rows)) (length rows) numbers → roots ≡ numbers → ∥ AreRoots m ts roots ∥₁
+roots_listed m ts rows numbers roots each known a same =
     ∥∥₁_map known (λ all. subst (λ (k : ℕ). AreListed (program.IsUncalled m ts) (program.IsRoot m ts) k roots) each
     (subst (λ (l : List ℕ). AreListed (program.IsUncalled m ts) (program.IsRoot m ts) (length rows) l) (sym same)
-    (listed_to m ts (LeadsIn rows) (rows_to m ts rows all) (rows_back m ts rows (each ∙ whole) all) (length rows) numbers a)))
+    (listed_to m ts (LeadsIn rows) (rows_to m ts rows all) (rows_back m ts rows each all) (length rows) numbers a)))

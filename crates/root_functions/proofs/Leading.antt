@@ -1,7 +1,6 @@
 -- The functions to which the calls of a function lead.
-use Rattle.std.proofs.Common.{arith, ◌≡◌, ◌↔◌, ◌⊎◌, inl, inr, ℕ, zero, suc, ◌+◌, ◌<◌, ◌≤◌, List, [], ◌∷◌, ◌++◌, map, Bool, true, false, cond, Option, None, Some, is_some, Contains, length, slice_get, get_or, take, Bor, refl, sym, ap, ◌∙◌, subst}
-use Rattle.std.proofs.Math.Logic.{∥∥₁_elim, ∥∥₁_map}
-use Rattle.std.proofs.lemmas.Option.{same_Some, slice_get_within}
+use Rattle.std.proofs.Common.{◌≡◌, ◌↔◌, ℕ, List, Bool, true, false, cond, Option, None, Some, is_some, Contains, slice_get, Bor, refl, sym, ap, ◌∙◌, subst}
+use Rattle.std.proofs.lemmas.Option.{same_Some}
 use Rattle.c_paths.specs.Events.{called}
 use Rattle.c_paths.specs.Facts.{Facts}
 use Rattle.c_paths.specs.Occurrences.{InFlow}
@@ -16,13 +15,12 @@ use Rattle.checker_programs.specs.Roots.{Leads}
 use Rattle.checker_programs.specs.Texts.{functions_in, table_of, flow_facts, function_of}
 use Rattle.checker_programs.specs.Units.{texts_of}
 use Rattle.function_graphs.specs.Known.{facts_in}
-use Rattle.graph_roots.specs.declared.callees.Callees.{Callees}
 use Rattle.least_set.specs.Logs.{IsExactly}
 use Rattle.metal_machines.specs.Machine.{Machine}
 use Rattle.programs.specs.Bodies.{body_of}
 use Rattle.programs.specs.Calls.{called_name, body_called, table_in}
 use Rattle.programs.specs.Definitions.{definitions, trees_in}
-use Rattle.root_functions.specs.Callees.{FollowedBy, HaveCallees}
+use Rattle.root_functions.specs.Callees.{FollowedBy}
 use Rattle.root_functions.proofs.Texts.{same_functions, same_table, same_facts}
 use Rattle.typed_unit.specs.declared.typed_unit.TypedUnit.{TypedUnit}
 

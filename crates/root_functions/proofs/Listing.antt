@@ -1,8 +1,8 @@
 -- Lists of functions, made of calls one after the other.
-use Rattle.std.proofs.Common.{arith, ◌≡◌, ◌⊎◌, inl, inr, ℕ, zero, suc, ◌+◌, ◌<◌, List, [], ◌∷◌, ◌++◌, map, Option, None, Some, IfSome, Contains, length, slice_get, get_or, take, Bor, append-nil, refl, sym, ap, ◌∙◌, subst}
+use Rattle.std.proofs.Common.{◌≡◌, ◌⊎◌, inl, inr, ℕ, zero, suc, ◌+◌, ◌<◌, List, [], ◌∷◌, ◌++◌, map, Option, None, Some, IfSome, Contains, length, slice_get, get_or, take, Bor, append-nil, refl, sym, ap, ◌∙◌, subst}
 use Rattle.std.specs.Option.{option_map}
 use Rattle.std.proofs.lemmas.List.{take_more, map-append}
-use Rattle.std.proofs.lemmas.List.Elements.{Contains-append_cases, Contains-push_cases}
+use Rattle.std.proofs.lemmas.List.Elements.{Contains-push_cases}
 use Rattle.std.proofs.lemmas.Option.{same_Some}
 use Rattle.c_tree.specs.declared.tree.Tree.{Tree}
 use Rattle.c_tree.specs.Node.{Node}
@@ -11,10 +11,8 @@ use Rattle.call_graph.specs.Followed.{followed}
 use Rattle.call_sites.specs.Calls.{nodes_at}
 use Rattle.checker_programs.specs.Texts.{Text}
 use Rattle.graph_roots.specs.declared.callees.Callees.{Callees}
-use Rattle.graph_roots.specs.Graphs.{LeadsIn}
 use Rattle.least_set.specs.Logs.{IsExactly, SomeGives}
 use Rattle.least_set.proofs.Enumerating.{exactly_more, exactly_skip}
-use Rattle.least_set.proofs.Growing.{nothing}
 use Rattle.metal_machines.specs.Machine.{Machine}
 use Rattle.programs.specs.declared.functions.FnId.{FnId}
 use Rattle.programs.specs.Calls.{table_in}
@@ -78,3 +76,13 @@ lead_next count row old new e below all f g s = elim (placed old row f s.0 (sym 
   | inl o ↦ all f g (s.0, o, s.2)
   | inr p ↦ below g (subst (λ (x : Callees). Contains x.numbers.items g) (sym p.1) s.2)
 ]
+
+-- one more function, and its number
+pub number_next : (xs : List ℕ) (i d : ℕ) (f : FnId) (old new : List FnId) → i < length xs → f.number ≡ get_or xs i d → new ≡ old ++ (f ∷ [])
+    → map (λ f. f.number) old ≡ take i xs → map (λ f. f.number) new ≡ take (i + 1) xs
+number_next xs i d f old new h is e k =
+    ap (λ (fs : List FnId). map (λ f. f.number) fs) e
+    ∙ map-append (λ (g : FnId). g.number) old (f ∷ [])
+    ∙ ap (λ (l : List ℕ). l ++ (f.number ∷ [])) k
+    ∙ ap (λ (n : ℕ). take i xs ++ (n ∷ [])) is
+    ∙ sym (take_more xs i d h)

@@ -1,19 +1,18 @@
 //! The functions to which the followed calls of each function lead.
 
-ghost use Rattle.std.specs.Prelude.{◌≡◌, ◌<◌, ◌++◌, length, IfOk, OnOk};
+ghost use Rattle.std.specs.Prelude.{◌≡◌, ◌<◌, ◌^◌, ◌++◌, length, IfOk, OnOk};
 ghost use Rattle.std.specs.Option.{option_map};
 ghost use Rattle.call_sites.specs.Calls.{nodes_at};
 ghost use Rattle.checker_programs.specs.Units.{texts_of};
 ghost use Rattle.graph_roots.specs.Graphs.{StaysWithin};
 ghost use Rattle.least_set.specs.Logs.{IsExactly};
 ghost use Rattle.metal_tree.specs.Whole.{machine_view};
-ghost use Rattle.programs.specs.Calls.{table_in};
 ghost use Rattle.programs.specs.Definitions.{definitions, trees_in};
 ghost use Rattle.root_functions.specs.Callees.{FollowedBy, Leads, AreBelow, HaveCallees, listed};
 
+use c_tree::Tree;
 use call_graph::followed;
 use call_sites::calls_in;
-use c_tree::Tree;
 use function_graphs::UnitFacts;
 use graph_roots::Callees;
 use metal_tree::Machine;
@@ -77,6 +76,7 @@ pub(crate) fn all_callees(
     machine: &Machine,
 ) -> Result<Vec<Callees>, AllocError>
     ensures count { IfOk result (λ rows. length rows.items ≡ length (definitions (trees_in program.now.units.items))) }
+    ensures few { IfOk result (λ rows. length rows.items < 2 ^ 32) }
     ensures exact { IfOk result (λ rows. ∥ HaveCallees (machine_view machine.now) (texts_of program.now.units.items) rows.items ∥₁) }
     ensures stays { IfOk result (λ rows. StaysWithin rows.items) }
 {

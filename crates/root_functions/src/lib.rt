@@ -2,6 +2,6 @@
 #![tactic(auto)]
 
 mod callees;
-mod roots;
+mod root_list;
 
-pub use roots::roots;
+pub use root_list::roots;
