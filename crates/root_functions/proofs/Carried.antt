@@ -1,5 +1,5 @@
 -- Roots by a table are roots by the calls that it is of.
-use Rattle.std.proofs.Common.{arith, ◌≡◌, ◌⊎◌, inl, inr, ⊎_elim, ℕ, zero, suc, ◌<◌, List, length, sym, ◌∙◌, subst}
+use Rattle.std.proofs.Common.{arith, Result, Ok, Err, IfOk, ◌≡◌, ◌⊎◌, inl, inr, ⊎_elim, ℕ, zero, suc, ◌<◌, List, length, sym, ◌∙◌, subst}
 use Rattle.std.proofs.Math.Logic.{∥∥₁_map}
 use Rattle.std.proofs.lemmas.Option.{slice_get_within, slice_get_cases}
 use Rattle.checker_programs.specs.Roots as program
@@ -63,10 +63,14 @@ rows_back m ts rows count all f g l =
     let within : f < length rows = subst (λ n. f < n) (sym count) (slice_get_within (functions_in ts) f l.defined l.is) in
     elim (slice_get_cases rows f).1 [ inl p ↦ (p.0, p.2, (all f p.0 p.2).1 g l) | inr q ↦ absurd (omega (arith, within, q.0)) ]
 
-pub roots_listed : (m : Machine) (ts : List Text) (rows : List Callees) (numbers roots : List ℕ)
+pub roots_listed : (m : Machine) (ts : List Text) (rows : List Callees) (numbers : List ℕ)
     → length rows ≡ length (functions_in ts) → ∥ HaveCallees m ts rows ∥₁
-    → AreListed (graph.IsUncalled (LeadsIn rows)) (graph.IsRoot (LeadsIn rows)) (length rows) numbers → roots ≡ numbers → ∥ AreRoots m ts roots ∥₁
-roots_listed m ts rows numbers roots each known a same =
-    ∥∥₁_map known (λ all. subst (λ (k : ℕ). AreListed (program.IsUncalled m ts) (program.IsRoot m ts) k roots) each
-    (subst (λ (l : List ℕ). AreListed (program.IsUncalled m ts) (program.IsRoot m ts) (length rows) l) (sym same)
-    (listed_to m ts (LeadsIn rows) (rows_to m ts rows all) (rows_back m ts rows each all) (length rows) numbers a)))
+    → AreListed (graph.IsUncalled (LeadsIn rows)) (graph.IsRoot (LeadsIn rows)) (length rows) numbers → ∥ AreRoots m ts numbers ∥₁
+roots_listed m ts rows numbers each known a =
+    ∥∥₁_map known (λ all. subst (λ (k : ℕ). AreListed (program.IsUncalled m ts) (program.IsRoot m ts) k numbers) each
+    (listed_to m ts (LeadsIn rows) (rows_to m ts rows all) (rows_back m ts rows each all) (length rows) numbers a))
+
+-- what holds of numbers holds of a result that has them
+pub seen : {A E : Type 0} (view : A → List ℕ) (r : Result A E) (P : List ℕ → Type 0) (numbers : List ℕ) → P numbers → IfOk r (λ a. view a ≡ numbers) → IfOk r (λ a. P (view a))
+seen view (Ok a) P numbers p e = subst P (sym e) p
+seen view (Err x) P numbers p e = e

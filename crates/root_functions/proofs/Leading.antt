@@ -1,5 +1,6 @@
 -- The functions to which the calls of a function lead.
-use Rattle.std.proofs.Common.{◌≡◌, ◌↔◌, ℕ, List, Bool, true, false, cond, Option, None, Some, is_some, Contains, slice_get, Bor, refl, sym, ap, ◌∙◌, subst}
+use Rattle.std.proofs.Common.{◌≡◌, ◌↔◌, ℕ, List, Bool, true, false, cond, Option, None, Some, Result, Ok, Err, IfOk, is_some, Contains, slice_get, Bor, refl, sym, ap, ◌∙◌, subst}
+use Rattle.std.proofs.Math.Logic.{∥∥₁_map}
 use Rattle.std.proofs.lemmas.Option.{same_Some}
 use Rattle.c_paths.specs.Events.{called}
 use Rattle.c_paths.specs.Facts.{Facts}
@@ -15,6 +16,7 @@ use Rattle.checker_programs.specs.Roots.{Leads}
 use Rattle.checker_programs.specs.Texts.{functions_in, table_of, flow_facts, function_of}
 use Rattle.checker_programs.specs.Units.{texts_of}
 use Rattle.function_graphs.specs.Known.{facts_in}
+use Rattle.graph_roots.specs.declared.callees.Callees.{Callees}
 use Rattle.least_set.specs.Logs.{IsExactly}
 use Rattle.metal_machines.specs.Machine.{Machine}
 use Rattle.programs.specs.Bodies.{body_of}
@@ -38,7 +40,7 @@ body_if_followed m table file fs call g h = by (called_name table call) h
     by (Some name) h = at (machine_calls name m) (body_of file name fs) h
 
 -- what the calls in a body lead to
-pub leads_exactly : (m : Machine) (units : List (Bor TypedUnit)) (f : ℕ) (d : Defined) (calls : List Node) (callees : List ℕ)
+leads_exactly : (m : Machine) (units : List (Bor TypedUnit)) (f : ℕ) (d : Defined) (calls : List Node) (callees : List ℕ)
     → slice_get (definitions (trees_in units)) f ≡ Some d
     → ((p : Place) (n : Node) → (facts_in units d.file).has_body n ≡ true → Contains calls n ↔ InFlow (called n) (flow_of (facts_in units d.file) p d.body))
     → IsExactly callees (FollowedBy m units d.file calls) → IsExactly callees (Leads m (texts_of units) f)
@@ -71,3 +73,14 @@ leads_exactly m units f d calls callees at inside exact = (to, back)
 
     back : (g : ℕ) → Leads m (texts_of units) f g → Contains callees g
     back g l = by g l.defined (same_Some _ _ (sym l.is ∙ ap (λ fs. slice_get fs f) (same_functions units) ∙ at)) l.call l.stands l.follows
+
+-- the same of a result, and of a function of which the program says which definition it is
+pub all_lead : {E : Type 0} (m : Machine) (units : List (Bor TypedUnit)) (f : ℕ) (d : Defined) (calls : List Node) (F : Facts) (r : Result Callees E)
+    → ∥ slice_get (definitions (trees_in units)) f ≡ Some d ∥₁ → F ≡ facts_in units d.file
+    → ((p : Place) (n : Node) → F.has_body n ≡ true → Contains calls n ↔ InFlow (called n) (flow_of F p d.body))
+    → IfOk r (λ callees. IsExactly callees.numbers.items (FollowedBy m units d.file calls))
+    → IfOk r (λ callees. ∥ IsExactly callees.numbers.items (Leads m (texts_of units) f) ∥₁)
+all_lead m units f d calls F (Ok callees) known same inside exact =
+    let inside_file = subst (λ (G : Facts). (p : Place) (n : Node) → G.has_body n ≡ true → Contains calls n ↔ InFlow (called n) (flow_of G p d.body)) same inside in
+    ∥∥₁_map known (λ at. leads_exactly m units f d calls callees.numbers.items at inside_file exact)
+all_lead m units f d calls F (Err x) known same inside exact = exact

@@ -1,6 +1,7 @@
 -- Lists of functions, made of calls one after the other.
 use Rattle.std.proofs.Common.{◌≡◌, ◌⊎◌, inl, inr, ℕ, zero, suc, ◌+◌, ◌<◌, List, [], ◌∷◌, ◌++◌, map, Option, None, Some, IfSome, Contains, length, slice_get, get_or, take, Bor, append-nil, refl, sym, ap, ◌∙◌, subst}
 use Rattle.std.specs.Option.{option_map}
+use Rattle.std.proofs.Math.Logic.{∥∥₁_map₂}
 use Rattle.std.proofs.lemmas.List.{take_more, map-append}
 use Rattle.std.proofs.lemmas.List.Elements.{Contains-push_cases}
 use Rattle.std.proofs.lemmas.Option.{same_Some}
@@ -65,11 +66,14 @@ placed [] x (suc k) y e = cc
 placed (r ∷ rs) x zero y e = inl e
 placed (r ∷ rs) x (suc k) y e = elim (placed rs x k y e) [ inl l ↦ inl l | inr p ↦ inr (ap suc p.0, p.1) ]
 
-pub callees_next : (m : Machine) (ts : List Text) (n : ℕ) (row : Callees) (old new : List Callees) → length old ≡ n → new ≡ old ++ (row ∷ []) → IsExactly row.numbers.items (Leads m ts n) → HaveCallees m ts old → HaveCallees m ts new
-callees_next m ts n row old new count e exact all f r is = elim (placed old row f r (sym (ap (λ l. slice_get l f) e) ∙ is)) [
+row_next : (m : Machine) (ts : List Text) (n : ℕ) (row : Callees) (old new : List Callees) → length old ≡ n → new ≡ old ++ (row ∷ []) → IsExactly row.numbers.items (Leads m ts n) → HaveCallees m ts old → HaveCallees m ts new
+row_next m ts n row old new count e exact all f r is = elim (placed old row f r (sym (ap (λ l. slice_get l f) e) ∙ is)) [
   | inl o ↦ all f r o
   | inr p ↦ subst (λ (x : Callees). IsExactly x.numbers.items (Leads m ts f)) p.1 (subst (λ k. IsExactly row.numbers.items (Leads m ts k)) (sym count ∙ p.0) exact)
 ]
+
+pub callees_next : (m : Machine) (ts : List Text) (n : ℕ) (row : Callees) (old new : List Callees) → length old ≡ n → new ≡ old ++ (row ∷ []) → ∥ IsExactly row.numbers.items (Leads m ts n) ∥₁ → ∥ HaveCallees m ts old ∥₁ → ∥ HaveCallees m ts new ∥₁
+callees_next m ts n row old new count e exact all = ∥∥₁_map₂ exact all (λ x h. row_next m ts n row old new count e x h)
 
 pub lead_next : (count : ℕ) (row : Callees) (old new : List Callees) → new ≡ old ++ (row ∷ []) → AreBelow count row.numbers.items → LeadBelow count old → LeadBelow count new
 lead_next count row old new e below all f g s = elim (placed old row f s.0 (sym (ap (λ l. slice_get l f) e) ∙ s.1)) [
