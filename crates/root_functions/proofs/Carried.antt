@@ -1,5 +1,5 @@
 -- Roots by a table are roots by the calls that it is of.
-use Rattle.std.proofs.Common.{arith, Result, Ok, Err, IfOk, ◌≡◌, ◌⊎◌, inl, inr, ⊎_elim, ℕ, zero, suc, ◌<◌, List, length, sym, ◌∙◌, subst}
+use Rattle.std.proofs.Common.{arith, Result, Ok, Err, IfOk, ◌≡◌, inl, inr, ⊎_elim, ℕ, zero, suc, ◌<◌, List, length, sym, subst}
 use Rattle.std.proofs.Math.Logic.{∥∥₁_map}
 use Rattle.std.proofs.lemmas.Option.{slice_get_within, slice_get_cases}
 use Rattle.checker_programs.specs.Roots as program

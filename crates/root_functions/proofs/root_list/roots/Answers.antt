@@ -1,4 +1,4 @@
-use Rattle.std.proofs.Common.{ℕ, ◌<◌, map, length, sym, ap, ◌∙◌, subst}
+use Rattle.std.proofs.Common.{◌<◌, map, length, sym, ap, ◌∙◌, subst}
 use Rattle.std.specs.Global.{Vec}
 use Rattle.checker_programs.specs.Units.{texts_of}
 use Rattle.metal_tree.specs.Whole.{machine_view}
