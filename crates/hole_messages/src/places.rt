@@ -30,9 +30,5 @@ pub fn from_place<'a>(unit: &TypedUnit<'a>, place: Place) -> &'a [Token]
     ensures { result.now ≡ from_place place unit.now.unit.tokens.now }
 {
     let rest = from_number(unit, place.token);
-    if begins_at(place, rest) {
-        rest
-    } else {
-        &[]
-    }
+    if begins_at(place, rest) { rest } else { &[] }
 }

@@ -1,5 +1,5 @@
 -- The report of a rule by its number is that of the taken rule.
-use Rattle.std.proofs.Common.{◌≡◌, ℕ, nat_eq, List, [], ◌∷◌, Bool, true, false, cond, not, ◌&&◌, is_some, slice_get, Option, Some, None, refl, sym, ap, subst, ◌∙◌, true≢false}
+use Rattle.std.proofs.Common.{◌≡◌, ℕ, nat_eq, List, [], ◌∷◌, Bool, true, false, cond, not, is_some, slice_get, Option, Some, None, refl, sym, ap, subst, ◌∙◌}
 use Rattle.std.proofs.lemmas.Bool.{eqb-true, true≢false}
 use Rattle.std.specs.Borrow.{Bor}
 use Rattle.std.specs.Option.{option_map, option_copied}
@@ -19,16 +19,13 @@ use Rattle.hole_matching.specs.Matching.{Binding}
 use Rattle.hole_matching.specs.Message.{Source, is_at, from_place, message}
 use Rattle.hole_messages.specs.RuleMessages.{rule_message}
 use Rattle.hole_messages.specs.Sources.{source_in}
-use Rattle.hole_messages.specs.Sources.{source_in}
 use Rattle.least_set.specs.Same.{both}
 use Rattle.metal_machines.specs.Machine.{Piece, Rule, Machine}
 use Rattle.metal_machines.specs.Rules.{rule_numbered}
 use Rattle.metal_tree.specs.Views.{action_view, rule_view}
 use Rattle.metal_tree.specs.Whole.{machine_view}
 use Rattle.metal_tree.specs.declared.messages.Action.{Action}
-use Rattle.metal_tree.specs.declared.messages.Action.{Action}
 use Rattle.metal_tree.specs.declared.rules.Rule as code
-use Rattle.objects.specs.Units.{facts_in}
 use Rattle.objects.specs.Units.{facts_in}
 use Rattle.path_model.specs.declared.report.Report.{Report}
 use Rattle.transition_reports.specs.TakenRules.{IsTaken, checker_at, happening_in, report_with}

@@ -4,7 +4,7 @@ ghost use Rattle.std.specs.Prelude.{◌≡◌};
 ghost use Rattle.std.specs.Option.{option_copied};
 ghost use Rattle.c_paths.specs.EventPlaces.{event_place};
 ghost use Rattle.c_tree.specs.Views.{node_of};
-ghost use Rattle.checker_model.specs.Reports.{first_token, token_at};
+ghost use Rattle.checker_model.specs.Reports.{token_at};
 ghost use Rattle.flow_graph.specs.Values.{event_of};
 ghost use Rattle.path_subjects.specs.Subjects.{tree_place, subject_place};
 ghost use Rattle.path_subjects.specs.Values.{subject_of};

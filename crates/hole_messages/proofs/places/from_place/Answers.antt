@@ -1,4 +1,4 @@
-use Rattle.std.proofs.Common.{◌≡◌, List, [], cond, sym, ap, ◌∙◌}
+use Rattle.std.proofs.Common.{List, [], cond, sym, ap, ◌∙◌}
 use Rattle.c_tree.specs.declared.token.Token.{Token}
 use Rattle.hole_messages.proofs.Placed.{found_by}
 use Rattle.hole_messages.proofs.places.from_place.Goals as goal
