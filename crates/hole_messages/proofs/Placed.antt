@@ -1,5 +1,5 @@
 -- The tokens from a place on are those from its number on, where they begin there.
-use Rattle.std.proofs.Common.{◌≡◌, ◌≤◌, ◌<◌, ◌+◌, ℕ, List, [], ◌∷◌, Bool, true, false, cond, leb, nat_eq, ◌&&◌, refl, sym, ap, ◌∙◌, arith, ltb-true, ltb-false, ltb, le-leb}
+use Rattle.std.proofs.Common.{◌≡◌, ◌≤◌, ◌<◌, ◌+◌, ℕ, List, [], ◌∷◌, Bool, true, false, cond, nat_eq, ◌&&◌, refl, sym, ap, ◌∙◌, arith, ltb-true, ltb-false, ltb, le-leb}
 use Rattle.std.proofs.Math.Logic.{∥∥₁_elim}
 use Rattle.std.proofs.Props.{props}
 use Rattle.std.specs.Coded.{×_prop, Unit-prop}
