@@ -1,5 +1,4 @@
-pub mod Images
-pub mod ImageExamples
 pub mod Gathering
 pub mod Found
 pub mod Positions
+pub mod TakerExamples

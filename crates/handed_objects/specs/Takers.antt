@@ -1,7 +1,7 @@
 -- How they are found: one candidate for each formal, and the object itself; those are kept that take its state.
-use Rattle.std.specs.Prelude.{ℕ, nat_le, List, [], ◌∷◌, ◌++◌, length, Bool, false, cond, not, ◌&&◌, Option, None, Some}
+use Rattle.std.specs.Prelude.{ℕ, List, [], ◌∷◌, ◌++◌, Bool, false, cond, not, ◌&&◌, Option, None, Some}
 use Rattle.std.specs.List.{list_any}
-use Rattle.c_objects.specs.Objects.{Object, path, ends_in_star}
+use Rattle.c_objects.specs.Objects.{Object, path}
 use Rattle.c_objects.specs.Paths.{rebase}
 use Rattle.c_objects.specs.Replaced.{replaced}
 use Rattle.c_typing.specs.Options.{◌>?◌}
@@ -11,9 +11,6 @@ use Rattle.checker_model.specs.Happenings.{Site}
 use Rattle.handed_objects.specs.declared.ends.End.{End}
 use Rattle.handed_objects.specs.declared.ends.End.TheVariants as end
 use Rattle.objects.specs.Equality.{same_object}
-
-abbrev pub is_object : ℕ → Object → Bool
-is_object depth o = nat_le (length o.selectors) depth && not (o.address && ends_in_star o.selectors)
 
 -- the object whose state another one takes at an end of a call
 abbrev pub origin : End → ℕ → Site → Object → Option Object
@@ -25,7 +22,7 @@ is_this o None = false
 is_this o (Some q) = same_object q o
 
 abbrev pub is_taker : End → ℕ → Site → Object → Object → Bool
-is_taker e depth s o q = is_object depth q && is_this o (origin e depth s q)
+is_taker e depth s o q = is_this o (origin e depth s q)
 
 -- what an object is behind a formal and its actual, seen from the other end
 abbrev pub behind_formal : End → ℕ → Object → CVar → Object → Option Object

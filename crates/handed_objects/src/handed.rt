@@ -10,8 +10,8 @@ use objects::Object;
 use refine_restore::Site;
 use std::alloc::{AllocError, Global};
 
-/// The callee's objects with at most `depth` steps that begin with the state of an object of the caller: each once, those whose
-/// `into_callee` it is.
+/// The callee's objects that begin with the state of an object of the caller: each once, exactly those whose `into_callee` it is. They have
+/// at most `depth` steps.
 pub fn entered_by(
     alloc: Global,
     site: &Site,
@@ -24,8 +24,8 @@ pub fn entered_by(
     takers(alloc, site, End::Entry, caller_object, depth)
 }
 
-/// The caller's objects with at most `depth` steps that have the state of an object of the callee behind the call: each once, those
-/// whose `out_of_callee` it is.
+/// The caller's objects that have the state of an object of the callee behind the call: each once, exactly those whose `out_of_callee` it
+/// is. They have at most `depth` steps where that of the callee has.
 pub fn handed_to(
     alloc: Global,
     site: &Site,

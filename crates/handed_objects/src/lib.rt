@@ -3,7 +3,6 @@
 
 mod ends;
 mod handed;
-mod plain;
 mod takers;
 
 pub use handed::{entered_by, handed_to};

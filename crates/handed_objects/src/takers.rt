@@ -10,7 +10,6 @@ ghost use Rattle.handed_objects.specs.Takers.{is_taker, behind_formal, candidate
 ghost use Rattle.refine_restore.specs.Sites.{site_of};
 
 use crate::ends::End;
-use crate::plain::is_object;
 use c_tree::{Kind, Operation, Tree};
 use c_unit::Var;
 use objects::{Object, Origin, copy, object_of, rebase, replaced, variable};
@@ -94,14 +93,11 @@ fn candidate_at(
     candidate(end, object, site.formals[position], actual, depth)
 }
 
-// Whether an object is one at this depth, and takes the state of another.
+// Whether an object takes the state of another.
 fn is_taker(site: &Site, end: End, object: &Object, taker: &Object, depth: u8) -> bool
     requires { depth ≤ 8 }
     ensures { result ≡ is_taker end depth (site_of depth site.now) object.now taker.now }
 {
-    if !is_object(taker, depth) {
-        return false;
-    }
     match end {
         End::Entry => match into_callee(site, taker, depth) {
             Origin::Same => taker == object,
