@@ -1,7 +1,7 @@
 //! Which blocks of a flow graph control may come to.
 #![tactic(auto)]
 
+mod blocks;
 mod onward;
-mod reached;
 
-pub use reached::reached;
+pub use blocks::reached;

@@ -33,6 +33,7 @@ fn after(alloc: Global, graph: &Graph, block: u32) -> Result<Vec<u32>, AllocErro
 }
 
 /// A graph as rules: its entry, and with a block each one in which control may go on behind it.
+#[derive(Drop)]
 pub(crate) struct Onward<'g, 'a> {
     pub(crate) graph: &'g Graph<'a>,
 }
