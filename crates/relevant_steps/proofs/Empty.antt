@@ -6,7 +6,7 @@ use Rattle.c_paths.specs.BlockGraphs.{events_at}
 use Rattle.c_paths.specs.Building.{Graph, graph_of}
 use Rattle.c_paths.specs.Events.{Event, Exited}
 use Rattle.c_paths.specs.Facts.{Facts}
-use Rattle.c_paths.specs.Graphs.{ToAny, Calls, Stops}
+use Rattle.c_paths.specs.Graphs.{Block, Ending, ToAny, Calls, Stops}
 use Rattle.c_paths.specs.Membership.{Among}
 use Rattle.c_tree.specs.Node.{Node}
 use Rattle.c_tree.specs.declared.place.Place.{Place}
@@ -14,11 +14,9 @@ use Rattle.c_typing.specs.Functions.{Defined}
 use Rattle.c_typing.specs.Options.{if_there, ◌>?◌}
 use Rattle.checker_graphs.specs.Graphs.{number_of, function_at, graph_at}
 use Rattle.checker_graphs.proofs.Numbers.{defines-is, found-at}
-use Rattle.checker_model.specs.Choices.{applied, scene}
-use Rattle.checker_model.specs.Happenings.{Function, Happening}
-use Rattle.checker_model.specs.Reports.{Checker}
+use Rattle.checker_model.specs.Choices.{applied}
+use Rattle.checker_model.specs.Happenings.{Function}
 use Rattle.checker_model.proofs.Sources.{tested}
-use Rattle.checker_programs.specs.Relevant.{Binds}
 use Rattle.checker_programs.specs.Texts.{Text, functions_in, function_of, defines, defined_as, empty, with_close, definition_of, flow_facts}
 use Rattle.hole_matching.specs.Alternatives.{has_end_of_path, all_hold, object_taken, bound_object}
 use Rattle.hole_matching.specs.Holes.{Setting}
@@ -30,31 +28,36 @@ use Rattle.reached_blocks.specs.Reached.{Happens, Called}
 
 -- ---- the graph of an empty body
 
-abbrev exit : Place → Event
+abbrev pub exit : Place → Event
 exit p = Exited p p
 
 -- nothing happens in it but the exit
-abbrev alone : Place → Graph
+abbrev pub alone : Place → Graph
 alone p = record { blocks = record { events = []; ending = ToAny [] } ∷ record { events = exit p ∷ []; ending = Stops } ∷ []; entry = 1 }
 
 empty-graph : (F : Facts) (p : Place) → graph_of F (empty p) ≡ alone p
 empty-graph F p = refl
 
-only-exit : (p : Place) (e : Event) → Happens (alone p) e → e ≡ exit p
+pub only-exit : (p : Place) (e : Event) → Happens (alone p) e → e ≡ exit p
 only-exit p e h = by h.block h.among
   where
     by : (b : ℕ) → Among e (events_at (slice_get (alone p).blocks b)) → e ≡ exit p
-    by 0 m = absurd m
-    by 1 (inl k) = k
-    by 1 (inr m) = absurd m
+    by zero m = absurd m
+    by (suc zero) (inl k) = k
+    by (suc zero) (inr m) = absurd m
     by (suc (suc b)) m = absurd m
+
+-- how a block ends that is there
+abbrev ending-at : Option Block → Ending
+ending-at None = Stops
+ending-at (Some s) = s.ending
 
 no-call : (p : Place) (n : Node) → Called (alone p) n → ⊥
 no-call p n k = by k.block k.has
   where
     by : (b : ℕ) → slice_get (alone p).blocks b ≡ Some (record { events = k.events; ending = Calls n k.next }) → ⊥
-    by 0 m = cc
-    by 1 m = cc
+    by zero m = let e : ToAny [] ≡ Calls n k.next = ap ending-at m in cc
+    by (suc zero) m = let e : Stops ≡ Calls n k.next = ap ending-at m in cc
     by (suc (suc b)) m = cc
 
 -- ---- what is no function

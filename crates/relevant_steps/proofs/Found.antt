@@ -1,5 +1,5 @@
 -- What is found in steps is relevant, and what is relevant is found.
-use Rattle.std.proofs.Common.{◌≡◌, ◌↔◌, ◌⊎◌, inl, inr, ℕ, List, Option, None, Some, refl, ◌∙◌, sym, ap, subst}
+use Rattle.std.proofs.Common.{◌≡◌, ◌↔◌, ◌⊎◌, inl, inr, ℕ, List, Some, ◌∙◌, sym, subst}
 use Rattle.c_objects.specs.Objects.{Object}
 use Rattle.c_paths.specs.Building.{Graph}
 use Rattle.c_paths.specs.Events.{Event}
@@ -7,7 +7,7 @@ use Rattle.checker_graphs.specs.Graphs.{AreGraphs, AreApartPlaces, function_at, 
 use Rattle.checker_graphs.proofs.Numbers.{one-number}
 use Rattle.checker_model.specs.Choices.{scene}
 use Rattle.checker_model.specs.Checkers.{model, source_at}
-use Rattle.checker_model.specs.Happenings.{Function, Happening, Site}
+use Rattle.checker_model.specs.Happenings.{Function, Happening}
 use Rattle.checker_model.specs.Reports.{Checker}
 use Rattle.checker_programs.specs.Paths.{program}
 use Rattle.checker_programs.specs.Relevant.{Binds, Relevant, Bound, Taken, Given, PassedBy, PassedOn, HandedBy, HandedBack}
@@ -15,7 +15,7 @@ use Rattle.checker_programs.specs.Texts.{Text, functions_in, happening}
 use Rattle.least_set.specs.OnePremise.{Least, LeastBase, LeastOne}
 use Rattle.path_theory.specs.Relevant.{EventOf}
 use Rattle.reached_blocks.specs.Reached.{Happens}
-use Rattle.relevant_steps.specs.Steps.{Member, IsBound, Moves, IsCall, Takes, AtEvent, AtEntry, AtReturn, Base, Goes}
+use Rattle.relevant_steps.specs.Steps.{Member, IsBound, Moves, Takes, AtEvent, AtEntry, AtReturn, Base, Goes}
 use Rattle.relevant_steps.proofs.Empty.{alone, exit, only-exit, numbered, exit-binds}
 use Rattle.relevant_steps.proofs.Traced.{one-some, own-graph, event-of, of-event, call-of, of-call}
 
@@ -49,21 +49,21 @@ module _ (c : Checker) (ts : List Text) (gs : List Graph) (A : AreGraphs ts gs) 
       let f = v.function in
       let h = happening ts f v.event in
       let w = event-of c ts gs A apart n f v.graph v.event v.is v.happens in
-      (f, v.is.named, f, v.is.named, Taken f h o b w v.source, Given f h o b w v.source)
+      (f, v.is.named, f, v.is.named, (Taken f h o b w v.source, Given f h o b w v.source))
   takes-alike _ _ _ _ (AtEntry {n} {m} {o} {b} s k i) =
       let w = call-of c ts gs A apart n m s k in
-      (k.callee, k.named, k.function, k.is.named, PassedBy k.function k.callee s o b w i, PassedOn k.function k.callee s o b w i)
+      (k.callee, k.named, k.function, k.is.named, (PassedBy k.function k.callee s o b w i, PassedOn k.function k.callee s o b w i))
   takes-alike _ _ _ _ (AtReturn {n} {m} {o} {b} s k i) =
       let w = call-of c ts gs A apart n m s k in
-      (k.function, k.is.named, k.callee, k.named, HandedBy k.function k.callee s o b w i, HandedBack k.function k.callee s o b w i)
+      (k.function, k.is.named, k.callee, k.named, (HandedBy k.function k.callee s o b w i, HandedBack k.function k.callee s o b w i))
 
   goes-alike : (x y : Member) → Goes c ts gs x y → (f : Function) × (function_at ts x.0 ≡ Some f) × (g : Function) × (function_at ts y.0 ≡ Some g) × (Relevant c ts f x.1 → Relevant c ts g y.1)
-  goes-alike x y (inl t) = let k = takes-alike x.0 x.1 y.0 y.1 t in (k.0, k.1, k.2, k.3, k.4)
-  goes-alike x y (inr t) = let k = takes-alike y.0 y.1 x.0 x.1 t in (k.2, k.3, k.0, k.1, k.5)
+  goes-alike x y (inl t) = let k = takes-alike x.0 x.1 y.0 y.1 t in (k.0, k.1, k.2, k.3, k.4.0)
+  goes-alike x y (inr t) = let k = takes-alike y.0 y.1 x.0 x.1 t in (k.2, k.3, k.0, k.1, k.4.1)
 
   pub found-relevant : {x : Member} → Least (Base c ts gs) (Goes c ts gs) x → (f : Function) → function_at ts x.0 ≡ Some f → Relevant c ts f x.1
-  found-relevant (LeastBase {x} b) f e = bound-relevant x.0 x.1 f b e
-  found-relevant (LeastOne {x} {y} l k) f e =
+  found-relevant (LeastBase {c = x} b) f e = bound-relevant x.0 x.1 f b e
+  found-relevant (LeastOne {a = x} {c = y} l k) f e =
       let a = goes-alike x y k in
       subst (λ g. Relevant c ts g y.1) (one-function y.0 a.2 f a.3 e) (a.4 (found-relevant l a.0 a.1))
 

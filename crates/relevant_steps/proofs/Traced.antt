@@ -1,15 +1,14 @@
 -- What the traces of the program's functions meet, in words of their graphs: an event of a block that control reaches, or a followed call at
 -- its end.
-use Rattle.std.proofs.Common.{◌≡◌, ℕ, zero, suc, List, [], ◌∷◌, Option, None, Some, length, slice_get, refl, ◌∙◌, sym, ap, subst}
+use Rattle.std.proofs.Common.{arith, ◌≡◌, ℕ, zero, suc, List, [], ◌∷◌, Option, None, Some, length, slice_get, refl, ◌∙◌, sym, ap, subst}
 use Rattle.std.specs.Option.{option_map}
 use Rattle.c_paths.specs.Building.{Graph}
 use Rattle.c_paths.specs.Events.{Event}
-use Rattle.c_tree.specs.Node.{Node}
 use Rattle.c_typing.specs.Functions.{Defined}
 use Rattle.c_typing.specs.Options.{◌>?◌}
 use Rattle.call_graph.specs.Followed.{followed}
 use Rattle.checker_graphs.specs.Graphs.{AreGraphs, AreApartPlaces, function_at, graph_at}
-use Rattle.checker_graphs.proofs.Calls.{followed-number, of-number}
+use Rattle.checker_graphs.proofs.Calls.{followed-number}
 use Rattle.checker_graphs.proofs.GraphTraces.{in_blocks, graphs_have_traces}
 use Rattle.checker_graphs.proofs.Numbers.{graph-at}
 use Rattle.checker_graphs.proofs.SameTraces.{event_on, call_on}
@@ -34,6 +33,11 @@ there [] ys n x l e = cc
 there (z ∷ xs) [] n x l e = cc
 there (z ∷ xs) (y ∷ ys) zero x l e = (y, refl)
 there (z ∷ xs) (y ∷ ys) (suc n) x l e = there xs ys n x (grind arith) e
+
+-- the definition behind a function
+of-number : (o : Option Defined) (f : Function) → option_map function_of o ≡ Some f → (d : Defined) × (o ≡ Some d) × (f ≡ function_of d)
+of-number None f e = cc
+of-number (Some d) f e = let s : function_of d ≡ f = cc in (d, refl, sym s)
 
 -- the number to which a call is followed, by the function
 pub by-number : {D F : Type 0} (f : D → F) (at : ℕ → Option D) (o : Option ℕ) (x : F) → option_map f (o >? at) ≡ Some x → (m : ℕ) × (o ≡ Some m) × (option_map f (at m) ≡ Some x)
