@@ -9,7 +9,7 @@ use Rattle.checker_model.specs.Moves.{move_of, source}
 
 -- at an event, either way
 abbrev pub AreLinkedAt : Facts → ℕ → Object → Event → Object → Type 0
-AreLinkedAt u depth o e b = (source depth (move_of u depth e) o ≡ Some b) ⊎ (source depth (move_of u depth e) b ≡ Some o)
+AreLinkedAt u depth o e b = (source depth (move_of u depth e) b ≡ Some o) ⊎ (source depth (move_of u depth e) o ≡ Some b)
 
 -- an object of the caller and one of the callee, over a call
 abbrev pub AreLinkedOver : ℕ → Site → Object → Object → Type 0

@@ -5,7 +5,7 @@ ghost use Rattle.least_set.specs.Logs.{IsExactly};
 ghost use Rattle.linked_objects.specs.Linked.{AreLinkedOver};
 ghost use Rattle.refine_restore.specs.Sites.{site_of};
 
-use crate::origins::add;
+use crate::lists::{add, named};
 use handed_objects::{entered_by, handed_to};
 use objects::Object;
 use refine_restore::{Site, into_callee, out_of_callee};
@@ -22,9 +22,7 @@ pub fn callee_objects(
     ensures { IfOk result (λ list. IsExactly list.items (λ c. AreLinkedOver depth (site_of depth site.now) caller_object.now c)) }
 {
     let mut found = entered_by(alloc, site, caller_object, depth)?;
-    if let Some(through) = out_of_callee(site, caller_object, depth) {
-        found.push(through)?;
-    }
+    add(&mut found, out_of_callee(site, caller_object, depth))?;
     Ok(found)
 }
 
@@ -39,6 +37,7 @@ pub fn caller_objects(
     ensures { IfOk result (λ list. IsExactly list.items (λ o. AreLinkedOver depth (site_of depth site.now) o callee_object.now)) }
 {
     let mut found = handed_to(alloc, site, callee_object, depth)?;
-    add(&mut found, callee_object, into_callee(site, callee_object, depth))?;
+    let source = named(callee_object, into_callee(site, callee_object, depth));
+    add(&mut found, source)?;
     Ok(found)
 }

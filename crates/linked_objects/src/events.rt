@@ -2,11 +2,11 @@
 
 ghost use Rattle.std.specs.Prelude.{◌≤◌, IfOk};
 ghost use Rattle.flow_graph.specs.Values.{event_of};
-ghost use Rattle.least_set.specs.Logs.{IsExactly, SomeGives};
+ghost use Rattle.least_set.specs.Logs.{IsExactly};
 ghost use Rattle.linked_objects.specs.Linked.{AreLinkedAt};
 ghost use Rattle.objects.specs.Units.{facts_in};
 
-use crate::origins::add;
+use crate::lists::{add, named};
 use flow_graph::Event;
 use objects::Object;
 use std::alloc::{AllocError, Global};
@@ -25,25 +25,7 @@ pub fn linked_at(
     ensures { IfOk result (λ list. IsExactly list.items (AreLinkedAt (facts_in unit.now) depth object.now (event_of event.now))) }
 {
     let mut found = targets_after(alloc, event, unit, object, depth)?;
-    add(&mut found, object, source_before(event, unit, object, depth))?;
-    Ok(found)
-}
-
-/// The same at any of these events.
-pub fn linked_in(
-    alloc: Global,
-    events: &[Event],
-    unit: &TypedUnit,
-    object: &Object,
-    depth: u8,
-) -> Result<Vec<Object>, AllocError>
-    requires { depth ≤ 8 }
-    ensures { IfOk result (λ list. IsExactly list.items (SomeGives (λ e. AreLinkedAt (facts_in unit.now) depth object.now (event_of e)) events.now)) }
-{
-    let mut found = Vec::new(alloc);
-    for event in events {
-        let list = linked_at(alloc, event, unit, object, depth)?;
-        add_all(&mut found, list)?;
-    }
+    let source = named(object, source_before(event, unit, object, depth));
+    add(&mut found, source)?;
     Ok(found)
 }

@@ -3,7 +3,7 @@
 
 mod calls;
 mod events;
-mod origins;
+mod lists;
 
 pub use calls::{callee_objects, caller_objects};
-pub use events::{linked_at, linked_in};
+pub use events::linked_at;

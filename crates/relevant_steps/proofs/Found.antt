@@ -5,12 +5,12 @@ use Rattle.c_paths.specs.Building.{Graph}
 use Rattle.c_paths.specs.Events.{Event}
 use Rattle.checker_graphs.specs.Graphs.{AreGraphs, AreApartPlaces, function_at, graph_at}
 use Rattle.checker_graphs.proofs.Numbers.{one-number}
-use Rattle.checker_model.specs.Choices.{scene}
+use Rattle.checker_model.specs.Choices.{Binds, scene}
 use Rattle.checker_model.specs.Checkers.{model, source_at}
 use Rattle.checker_model.specs.Happenings.{Function, Happening}
 use Rattle.checker_model.specs.Reports.{Checker}
 use Rattle.checker_programs.specs.Paths.{program}
-use Rattle.checker_programs.specs.Relevant.{Binds, Relevant, Bound, Taken, Given, PassedBy, PassedOn, HandedBy, HandedBack}
+use Rattle.checker_programs.specs.Relevant.{Relevant, Bound, Taken, Given, PassedBy, PassedOn, HandedBy, HandedBack}
 use Rattle.checker_programs.specs.Texts.{Text, functions_in, happening}
 use Rattle.least_set.specs.OnePremise.{Least, LeastBase, LeastOne}
 use Rattle.path_theory.specs.Relevant.{EventOf}
@@ -20,9 +20,9 @@ use Rattle.relevant_steps.proofs.Empty.{alone, exit, only-exit, numbered, exit-b
 use Rattle.relevant_steps.proofs.Traced.{one-some, own-graph, event-of, of-event, call-of, of-call}
 
 -- an object bound at an exit
-bound-exit : (c : Checker) (ts : List Text) (f : Function) (o : Object) (e : Event) → e ≡ exit f.place → Binds c f (happening ts f e) o → ⊥
+bound-exit : (c : Checker) (ts : List Text) (f : Function) (o : Object) (e : Event) → e ≡ exit f.place → Binds c.machine c.depth f (happening ts f e) o → ⊥
 bound-exit c ts f o e same b =
-    let k : Binds c f (happening ts f (exit f.place)) o = subst (λ x. Binds c f (happening ts f x) o) same b in
+    let k : Binds c.machine c.depth f (happening ts f (exit f.place)) o = subst (λ x. Binds c.machine c.depth f (happening ts f x) o) same b in
     exit-binds (scene c.machine c.depth (happening ts f (exit f.place)) f) f.place f.place k.rule.dest k.items k.binding k.variable o k.applies k.bound
 
 module _ (c : Checker) (ts : List Text) (gs : List Graph) (A : AreGraphs ts gs) (apart : AreApartPlaces (functions_in ts)) where
@@ -86,7 +86,7 @@ module _ (c : Checker) (ts : List Text) (gs : List Graph) (A : AreGraphs ts gs) 
       let v = of-event c ts gs A apart f h w in
       record { function = f; graph = graph_at ts gs f; is = own-graph c ts gs A apart n f e; event = v.0; happens = v.1; source = subst (λ z. source_at c.depth z o ≡ Some b) v.2 s }
 
-  bound : (f : Function) (h : Happening) (o : Object) → EventOf (model c) (program c ts) f h → Binds c f h o → IsFound f o
+  bound : (f : Function) (h : Happening) (o : Object) → EventOf (model c) (program c ts) f h → Binds c.machine c.depth f h o → IsFound f o
   bound f h o w k = by (numbered ts gs f)
     where
       by : ((n : ℕ) × (function_at ts n ≡ Some f)) ⊎ (graph_at ts gs f ≡ alone f.place) → IsFound f o
@@ -95,11 +95,11 @@ module _ (c : Checker) (ts : List Text) (gs : List Graph) (A : AreGraphs ts gs) 
           record {
             number = x.0;
             named = x.1;
-            least = LeastBase (record { function = f; graph = graph_at ts gs f; is = own-graph c ts gs A apart x.0 f x.1; event = v.0; happens = v.1; binds = subst (λ z. Binds c f z o) v.2 k });
+            least = LeastBase (record { function = f; graph = graph_at ts gs f; is = own-graph c ts gs A apart x.0 f x.1; event = v.0; happens = v.1; binds = subst (λ z. Binds c.machine c.depth f z o) v.2 k });
           }
       by (inr e) =
           let v = of-event c ts gs A apart f h w in
-          absurd (bound-exit c ts f o v.0 (only-exit f.place v.0 (subst (λ g. Happens g v.0) e v.1)) (subst (λ z. Binds c f z o) v.2 k))
+          absurd (bound-exit c ts f o v.0 (only-exit f.place v.0 (subst (λ g. Happens g v.0) e v.1)) (subst (λ z. Binds c.machine c.depth f z o) v.2 k))
 
   pub relevant-found : (f : Function) (o : Object) → Relevant c ts f o → IsFound f o
   relevant-found f o (Bound _ h _ w b) = bound f h o w b

@@ -9,9 +9,9 @@ use Rattle.call_graph.specs.Followed.{followed}
 use Rattle.checker_graphs.specs.Graphs.{function_at}
 use Rattle.checker_model.specs.Calls.{into, out}
 use Rattle.checker_model.specs.Checkers.{source_at}
+use Rattle.checker_model.specs.Choices.{Binds}
 use Rattle.checker_model.specs.Happenings.{Function, Site}
 use Rattle.checker_model.specs.Reports.{Checker}
-use Rattle.checker_programs.specs.Relevant.{Binds}
 use Rattle.checker_programs.specs.Texts.{Text, functions_in, table_of, happening, site}
 use Rattle.reached_blocks.specs.Reached.{Happens, Called}
 
@@ -32,7 +32,7 @@ module _ (c : Checker) (ts : List Text) (gs : List Graph) where
     pub is : IsNumbered n function graph
     pub event : Event
     pub happens : Happens graph event
-    pub binds : Binds c function (happening ts function event) o
+    pub binds : Binds c.machine c.depth function (happening ts function event) o
 
   -- the object takes its state from the other at such an event
   pub record Moves (n : ℕ) (o b : Object) : Type 0 where
