@@ -1,7 +1,6 @@
 -- CHOICES: the rule that the global state takes at an event, and the rule that an object takes. All of them look at the states behind
 -- the event's move.
 use Rattle.std.specs.Prelude.{◌≡◌, ℕ, nat_eq, List, [], ◌∷◌, Bool, true, false, cond, not, ◌&&◌, ◌||◌, Option, None, Some}
-use Rattle.std.specs.Option.{option_map}
 use Rattle.c_objects.specs.Objects.{Object}
 use Rattle.c_paths.specs.Events.{Event, Evaluated, Declared, Branched, Exited}
 use Rattle.c_paths.specs.Membership.{Among}
@@ -13,7 +12,7 @@ use Rattle.hole_matching.specs.MachineMatches.{setting_of}
 use Rattle.hole_matching.specs.Matched.{nothing_taken}
 use Rattle.hole_matching.specs.Matching.{Binding}
 use Rattle.objects.specs.Equality.{same_object}
-use Rattle.metal_machines.specs.Machine.{Source, FromGlobal, FromObject, Target, ToGlobal, ToObject, ToUnknown, Dest, Always, ByTruth, Item, Piece, Rule, Machine}
+use Rattle.metal_machines.specs.Machine.{Source, FromGlobal, FromObject, Target, ToGlobal, ToObject, ToUnknown, Dest, Always, ByTruth, Item, Rule, Machine}
 use Rattle.path_subjects.specs.Subjects.{Tree}
 use Rattle.checker_model.specs.Happenings.{Function, Happening}
 

@@ -1,19 +1,17 @@
 -- An object that takes a rule while it is unknown is bound by an alternative of that rule.
-use Rattle.std.proofs.Common.{◌≡◌, ◌⊎◌, inl, inr, ℕ, List, [], ◌∷◌, Bool, true, false, Option, None, Some, refl, ◌∙◌, sym, ap, subst, cond, not, ◌&&◌, ◌||◌, nat_eq}
+use Rattle.std.proofs.Common.{◌≡◌, inl, inr, ℕ, List, [], ◌∷◌, Bool, true, false, Option, None, Some, refl, ◌∙◌, sym, ap, cond, not, ◌||◌, nat_eq}
 use Rattle.c_objects.specs.Objects.{Object}
 use Rattle.objects.specs.Equality.{same_object, same_object-true}
 use Rattle.c_paths.specs.Membership.{Among}
 use Rattle.c_typing.specs.Options.{◌>?◌, if_there, or_else}
-use Rattle.checker_model.specs.Choices.{Binds, State, Taken, stop, first_some, applied, target_at, by_alternative, from_global, variable_of, binds, is_asked, object_rule, unknown_rule, scene, taken, chosen, object_behind}
+use Rattle.checker_model.specs.Choices.{Binds, State, Taken, stop, first_some, applied, target_at, by_alternative, from_global, variable_of, binds, is_asked, object_rule, scene, taken, chosen, object_behind}
 use Rattle.checker_model.specs.Happenings.{Function, Happening}
 use Rattle.checker_model.specs.Reports.{Checker, Fires, report_of}
 use Rattle.checker_model.proofs.Sources.{given, tested, untested}
 use Rattle.hole_matching.specs.Alternatives.{bound_object}
-use Rattle.hole_matching.specs.Holes.{Setting}
 use Rattle.hole_matching.specs.Matching.{Binding}
-use Rattle.metal_machines.specs.Machine.{Item, Rule}
+use Rattle.metal_machines.specs.Machine.{Rule}
 use Rattle.path_model.specs.declared.report.Report.{Report}
-use Rattle.c_paths.specs.Events.{Event}
 
 -- the first that gives something is among them
 first-found : {A B : Type 0} (f : A → Option B) (xs : List A) (y : B) → first_some f xs ≡ Some y → (x : A) × Among x xs × (f x ≡ Some y)
