@@ -1,5 +1,5 @@
 -- The linked objects are those of the one way, and that of the other.
-use Rattle.std.proofs.Common.{◌≡◌, ◌⊎◌, ℕ, List, ◌++◌, Option, Some, sym, subst}
+use Rattle.std.proofs.Common.{◌≡◌, ◌⊎◌, ℕ, List, ◌++◌, Option, Some, subst}
 use Rattle.std.specs.Option.{option_to_list}
 use Rattle.c_objects.specs.Facts.{Facts}
 use Rattle.c_objects.specs.Objects.{Object}
