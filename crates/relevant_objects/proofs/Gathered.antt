@@ -40,3 +40,7 @@ least-log Base Goes log closed only = (only, λ c l. listed c l)
 pub if-ok : {A E : Type 0} (P Q : A → Type 0) (r : Result A E) → ((a : A) → P a → Q a) → IfOk r P → IfOk r Q
 if-ok P Q (Ok a) f h = f a h
 if-ok P Q (Err e) f h = tt
+
+pub if-both : {A E : Type 0} (P Q R : A → Type 0) (r : Result A E) → ((a : A) → P a → Q a → R a) → IfOk r P → IfOk r Q → IfOk r R
+if-both P Q R (Ok a) f g h = f a g h
+if-both P Q R (Err e) f g h = tt

@@ -1,6 +1,7 @@
 //! Links as rules.
 
-ghost use Rattle.std.specs.Prelude.{◌≡◌, ◌≤◌, IfOk, Contains};
+ghost use Rattle.std.specs.Prelude.{◌≡◌, ◌≤◌, IfOk, Contains, slice_get};
+ghost use Rattle.std.specs.Option.{option_map};
 ghost use Rattle.least_set.specs.Logs.{IsExactly};
 ghost use Rattle.relevant_objects.specs.Links.{LinksIn, LinksFrom};
 
@@ -27,6 +28,16 @@ fn linked_in(
     Ok(found)
 }
 
+// The function with a number.
+fn row_at<'r, 's, 'a>(
+    rows: &'r [FunctionRow<'s, 'a>],
+    number: u32,
+) -> Option<&'r FunctionRow<'s, 'a>>
+    ensures { option_map (λ row. row.now) result ≡ slice_get rows.now number }
+{
+    rows.get(number as usize)
+}
+
 // The same by the number of the function; nothing where there is none with this number.
 fn linked_from(
     alloc: Global,
@@ -37,7 +48,7 @@ fn linked_from(
     requires { depth ≤ 8 }
     ensures { IfOk result (λ list. IsExactly list.items (LinksFrom depth rows.now member.now)) }
 {
-    match rows.get(member.0 as usize) {
+    match row_at(rows, member.0) {
         Some(row) => linked_in(alloc, row, member, depth),
         None => Ok(Vec::new(alloc)),
     }

@@ -1,7 +1,7 @@
 use Rattle.std.proofs.Common.{◌≡◌, ◌∷◌, [], ◌++◌, List, length, refl, sym, ap, subst, ◌∙◌, append_assoc, append-nil, arith}
 use Rattle.std.specs.Vec.Iter.{into_iter_items}
 use Rattle.relevant_objects.specs.Links.{members}
-use Rattle.relevant_objects.proofs.Members.{pushed-member}
+use Rattle.relevant_objects.proofs.Adding.{pushed-member}
 use Rattle.relevant_objects.proofs.members.add_members.Goals as goal
 
 nothing_left : {X : Type 0} (l : List X) → length l ≡ 0 → l ≡ []

@@ -1,14 +1,14 @@
 -- Objects with the number of their function, put behind others.
-use Rattle.std.proofs.Common.{◌≡◌, ◌⊎◌, inl, inr, ℕ, List, [], ◌∷◌, ◌++◌, Contains, refl, ◌∙◌, sym, ap, subst, append_assoc}
+use Rattle.std.proofs.Common.{◌≡◌, ◌⊎◌, inl, inr, ℕ, List, [], ◌∷◌, ◌++◌, Contains, ◌+◌, ◌<◌, length, take, get_or, refl, ◌∙◌, sym, ap, subst, append_assoc}
 use Rattle.std.proofs.lemmas.List.Elements.{Contains-append_right}
 use Rattle.c_objects.specs.Objects.{Object}
 use Rattle.c_paths.specs.Membership.{Among}
-use Rattle.least_set.specs.Logs.{IsExactly, Adds}
-use Rattle.least_set.proofs.Growing.{adds_none, adds_same}
+use Rattle.least_set.specs.Logs.{IsExactly, Adds, SomeGives}
+use Rattle.least_set.proofs.Growing.{adds_none, adds_same, adds_both, adds_next}
 use Rattle.linked_objects.proofs.Listed.{among-contains, contains-among}
 use Rattle.linked_objects.specs.Linked.{AreLinkedOver}
 use Rattle.refine_restore.specs.Sites.{site_of}
-use Rattle.relevant_objects.specs.Links.{Member, members, LinksInto, LinksBack}
+use Rattle.relevant_objects.specs.Links.{Member, members, LinksInto, LinksBack, LinksOver}
 use Rattle.relevant_objects.specs.declared.rows.FollowedCall.{FollowedCall}
 
 members-push : (n : ℕ) (os : List Object) (o : Object) → members n (os ++ (o ∷ [])) ≡ members n os ++ ((n, o) ∷ [])
@@ -59,3 +59,11 @@ back-added depth x k os old new from is e =
 
 pub back-none : (depth : ℕ) (x : Member) (k : FollowedCall) (old : List Member) → (k.callee ≡ x.0 → ⊥) → Adds (LinksBack depth x k) old old
 back-none depth x k old away = adds_none old (λ y h. away h.0)
+
+-- both ways of a call
+pub over-added : (depth : ℕ) (x : Member) (k : FollowedCall) (old mid new : List Member) → Adds (LinksInto depth x k) old mid → Adds (LinksBack depth x k) mid new → Adds (LinksOver depth x k) old new
+over-added depth x k old mid new v w = adds_both {R = LinksOver depth x k} v w (λ y s. s) (λ y p. inl p) (λ y q. inr q)
+
+-- one more of a list gave what it gives
+pub next-added : {T : Type 0} (G : T → Member → Type 0) (xs : List T) (i : ℕ) (x : T) (old mid new : List Member) → i < length xs → x ≡ get_or xs i x → Adds (SomeGives G (take i xs)) old mid → Adds (G x) mid new → Adds (SomeGives G (take (i + 1) xs)) old new
+next-added G xs i x old mid new h e v w = adds_next G xs i x h v (subst (λ z. Adds (G z) mid new) e w)
