@@ -1,5 +1,7 @@
 //! Tuples: the global state, and the state of one object.
 
+ghost use Rattle.std.specs.Prelude.{◌≡◌, ◌||◌, is_none, is_some, true};
+
 use least_set::Key;
 use objects::Object;
 
@@ -12,6 +14,7 @@ pub struct Tuple {
     pub object: Option<Object>,
     /// The variable and the number of the object's state; `None` where there is no object or its state is unknown.
     pub state: Option<(u8, u16)>,
+    ghost bare: { is_some object || is_none state ≡ true },
 }
 
 impl Key for Tuple {
