@@ -1,0 +1,62 @@
+-- Lists of objects and of tuples.
+use Rattle.std.proofs.Common.{◌≡◌, ◌⊎◌, inl, inr, ℕ, zero, suc, ◌+◌, ◌<◌, List, [], ◌∷◌, ◌++◌, map, length, get_or, Contains, refl, sym, ap, subst, ◌∙◌, arith}
+use Rattle.std.proofs.lemmas.List.Elements.{Contains-append_left, Contains-append_cases, Contains-push, Contains-push_cases}
+use Rattle.c_paths.specs.Membership.{Among}
+use Rattle.least_set.specs.Logs.{IsExactly}
+use Rattle.least_set.proofs.Growing.{nothing}
+
+module _ {A : Type 0} where
+  -- a list of one more at its front
+  pub contains-first : (x : A) (xs : List A) → Contains (x ∷ xs) x
+  contains-first x xs = (0, omega arith, refl)
+
+  pub contains-later : (x y : A) (xs : List A) → Contains xs y → Contains (x ∷ xs) y
+  contains-later x y xs (k, h, e) = (suc k, omega arith, e)
+
+  pub contains-cases : (x y : A) (xs : List A) → Contains (x ∷ xs) y → (x ≡ y) ⊎ Contains xs y
+  contains-cases x y xs (zero, h, e) = inl e
+  contains-cases x y xs (suc k, h, e) = inr (k, omega arith, e)
+
+  pub contains-among : (xs : List A) (x : A) → Among x xs → Contains xs x
+  contains-among (y ∷ ys) x (inl e) = subst (λ z. Contains (y ∷ ys) z) (sym e) (contains-first y ys)
+  contains-among (y ∷ ys) x (inr h) = contains-later y x ys (contains-among ys x h)
+  contains-among [] x h = absurd h
+
+  pub among-contains : (xs : List A) (x : A) → Contains xs x → Among x xs
+  among-contains [] x h = absurd (nothing x h)
+  among-contains (y ∷ ys) x h = elim (contains-cases y x ys h) [ inl e ↦ inl (sym e) | inr k ↦ inr (among-contains ys x k) ]
+
+module _ {A B : Type 0} (f : A → B) where
+  pub contains-map : (xs : List A) (x : A) → Contains xs x → Contains (map f xs) (f x)
+  contains-map [] x h = absurd (nothing x h)
+  contains-map (y ∷ ys) x h = elim (contains-cases y x ys h) [
+    | inl e ↦ subst (λ z. Contains (f y ∷ map f ys) (f z)) e (contains-first (f y) (map f ys))
+    | inr k ↦ contains-later (f y) (f x) (map f ys) (contains-map ys x k)
+  ]
+
+  pub map-contains : (xs : List A) (b : B) → Contains (map f xs) b → (x : A) × Contains xs x × (f x ≡ b)
+  map-contains [] b h = absurd (nothing b h)
+  map-contains (y ∷ ys) b h = elim (contains-cases (f y) b (map f ys) h) [
+    | inl e ↦ (y, contains-first y ys, e)
+    | inr k ↦ let m = map-contains ys b k in (m.0, contains-later y m.0 ys m.1, m.2)
+  ]
+
+-- one more value, which is the only one of its kind
+pub exactly-push : {B : Type 0} (P Q : B → Type 0) (out : List B) (d : B) → IsExactly out P → Q d → ((b : B) → P b → Q b) → ((b : B) → Q b → P b ⊎ (d ≡ b))
+    → IsExactly (out ++ d ∷ []) Q
+exactly-push P Q out d e there within split = (
+  λ b m. elim (Contains-push_cases out d b m) [ inl o ↦ within b (e.0 b o) | inr s ↦ subst Q s there ],
+  λ b q. elim (split b q) [
+    | inl p ↦ Contains-append_left out (d ∷ []) b (e.1 b p)
+    | inr s ↦ subst (λ z. Contains (out ++ d ∷ []) z) s (Contains-push out d)
+  ],
+)
+
+pub exactly-same : {B : Type 0} (P Q : B → Type 0) (out : List B) → IsExactly out P → ((b : B) → P b → Q b) → ((b : B) → Q b → P b) → IsExactly out Q
+exactly-same P Q out e to from = (λ b m. to b (e.0 b m), λ b q. e.1 b (from b q))
+
+pub exactly-alone : {B : Type 0} (Q : B → Type 0) (d : B) → Q d → ((b : B) → Q b → d ≡ b) → IsExactly (d ∷ []) Q
+exactly-alone Q d there one = (
+  λ b m. elim (contains-cases d b [] m) [ inl e ↦ subst Q e there | inr n ↦ absurd (nothing b n) ],
+  λ b q. subst (λ z. Contains (d ∷ []) z) (one b q) (contains-first d []),
+)

@@ -1,0 +1,45 @@
+//! Tuples with another object.
+
+ghost use Rattle.std.specs.Prelude.{◌≡◌, map, IfOk};
+ghost use Rattle.tuple_flows.specs.Facts.{with_object, without_object};
+
+use objects::{Object, copy};
+use state_tuples::Tuple;
+use std::alloc::{AllocError, Global};
+
+/// This object in the states of a tuple; unknown where that has no object.
+pub(crate) fn with_object(tuple: &Tuple, object: Object) -> Tuple
+    ensures { result ≡ with_object tuple.now object }
+{
+    Tuple {
+        global: tuple.global,
+        object: Some(object),
+        state: tuple.state,
+    }
+}
+
+/// No object, in the global state of a tuple.
+pub(crate) fn without_object(tuple: &Tuple) -> Tuple
+    ensures { result ≡ without_object tuple.now }
+{
+    Tuple {
+        global: tuple.global,
+        object: None,
+        state: None,
+    }
+}
+
+/// Each of these objects in the states of a tuple.
+pub(crate) fn with_objects(
+    alloc: Global,
+    tuple: &Tuple,
+    objects: &[Object],
+) -> Result<Vec<Tuple>, AllocError>
+    ensures { IfOk result (λ list. list.items ≡ map (with_object tuple.now) objects.now) }
+{
+    let mut list = Vec::new(alloc);
+    for object in objects {
+        list.push(with_object(tuple, copy(object)))?;
+    }
+    Ok(list)
+}
