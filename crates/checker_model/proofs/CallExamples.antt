@@ -3,7 +3,7 @@
 use Rattle.std.proofs.Common.{◌≡◌, List, [], ◌∷◌, Option, None, Some, refl}
 use Rattle.c_objects.specs.Objects.{Object, Deref, Field, At, AtVar, path, address_of}
 use Rattle.c_objects.proofs.Building.{p, s, a, i, q}
-use Rattle.c_typing.specs.Vars.{CVar, Param, Local}
+use Rattle.c_typing.specs.Vars.{CVar, Param}
 use Rattle.checker_model.specs.Calls.{into, out}
 use Rattle.checker_model.specs.Happenings.{Site}
 

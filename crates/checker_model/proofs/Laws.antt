@@ -1,9 +1,8 @@
 -- The laws of the theory of paths, for every checker.
-use Rattle.std.proofs.Common.{◌≡◌, ◌⊎◌, inl, inr, ℕ, Bool, true, false, cond, not, ◌&&◌, ◌||◌, Option, None, Some, refl, sym, ap, ◌∙◌, nat_eq, option_and_then}
+use Rattle.std.proofs.Common.{◌≡◌, ℕ, Bool, true, false, cond, not, ◌||◌, Option, None, Some, refl, sym, ap, ◌∙◌, nat_eq, option_and_then}
 use Rattle.c_objects.specs.Objects.{Object}
 use Rattle.c_paths.specs.Events.{Event}
 use Rattle.c_typing.specs.Options.{◌>?◌, if_there}
-use Rattle.hole_matching.specs.Callouts.{is_local}
 use Rattle.path_model.specs.declared.report.Report.{Report}
 use Rattle.path_theory.specs.FrameEnds.{IgnoresKind, EndsQuietly}
 use Rattle.path_theory.specs.Origins.{IsLocal, handed}

@@ -1,6 +1,6 @@
 -- What assignments move, by computation. The names and variables are those of the examples of objects: the parameter p 0, the locals
 -- s 1 and q 5, the array a 2 and the index i 3 over all files, the function g 6 and the member f 8.
-use Rattle.std.proofs.Common.{◌≡◌, ℕ, true, false, List, [], ◌∷◌, Option, None, Some, refl}
+use Rattle.std.proofs.Common.{◌≡◌, true, [], ◌∷◌, Option, None, Some, refl}
 use Rattle.c_objects.specs.Objects.{Object, Deref, Field, At, AtVar, path, address_of}
 use Rattle.c_objects.proofs.Building.{p, s, a, i, q, facts, place, name, number, star, address, index, arrow, call, unary_of}
 use Rattle.c_paths.specs.Events.{Event, Evaluated, Declared, Branched, Exited}

@@ -1,5 +1,5 @@
 -- What events write over is a path, and what they copy is an object; so are the actuals of calls.
-use Rattle.std.proofs.Common.{◌≡◌, ℕ, List, [], ◌∷◌, Bool, true, false, Option, None, Some, IfSome, refl, subst, cond}
+use Rattle.std.proofs.Common.{◌≡◌, ℕ, [], Bool, true, false, Option, None, Some, IfSome, refl, subst, cond}
 use Rattle.c_objects.specs.Facts.{Facts}
 use Rattle.c_objects.specs.Objects.{Object, IsObject, path}
 use Rattle.c_objects.specs.ObjectOf.{object_of}

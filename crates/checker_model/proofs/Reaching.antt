@@ -1,5 +1,5 @@
 -- The object of the callee through which an actual reaches one of the caller.
-use Rattle.std.proofs.Common.{◌≡◌, ◌↔◌, ℕ, ◌≤◌, List, [], length, Bool, true, false, Option, None, Some, refl, ◌∙◌, sym, ap, cond}
+use Rattle.std.proofs.Common.{◌≡◌, ◌↔◌, ℕ, [], Bool, true, false, Option, None, Some, refl, ◌∙◌, sym, ap, cond}
 use Rattle.c_objects.specs.Objects.{Object, IsObject, path, are_static}
 use Rattle.c_objects.specs.Paths.{rebase}
 use Rattle.c_objects.proofs.Plain.{if-object}

@@ -1,5 +1,5 @@
 -- What states come from and go to are objects.
-use Rattle.std.proofs.Common.{◌≡◌, ℕ, List, [], ◌∷◌, Bool, true, false, Option, None, Some, IfSome, refl, ◌∙◌, sym, ap, subst, cond}
+use Rattle.std.proofs.Common.{◌≡◌, ℕ, List, [], ◌∷◌, Bool, true, false, Option, None, Some, IfSome, refl, sym, subst, cond}
 use Rattle.c_objects.specs.Objects.{Selector, Object, IsObject, if_object, path, same_var, is_static_var, are_static, is_static}
 use Rattle.c_objects.specs.Paths.{rebase}
 use Rattle.c_objects.specs.Replaced.{replaced}

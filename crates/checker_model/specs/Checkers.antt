@@ -1,5 +1,5 @@
 -- A CHECKER as a model of the theory of paths: it depends on its machine, the depth and the names alone.
-use Rattle.std.specs.Prelude.{ℕ, Bool, Option}
+use Rattle.std.specs.Prelude.{ℕ, Option}
 use Rattle.c_objects.specs.Objects.{Object}
 use Rattle.c_typing.specs.Options.{◌>?◌}
 use Rattle.path_model.specs.declared.report.Report.{Report}

@@ -1,9 +1,9 @@
 -- CHOICES: the rule that the global state takes at an event, and the rule that an object takes. All of them look at the states behind
 -- the event's move.
-use Rattle.std.specs.Prelude.{ℕ, nat_eq, List, [], ◌∷◌, Bool, true, false, cond, not, ◌&&◌, ◌||◌, Option, None, Some}
-use Rattle.std.specs.Option.{option_map}
+use Rattle.std.specs.Prelude.{◌≡◌, ℕ, nat_eq, List, [], ◌∷◌, Bool, true, false, cond, not, ◌&&◌, ◌||◌, Option, None, Some}
 use Rattle.c_objects.specs.Objects.{Object}
 use Rattle.c_paths.specs.Events.{Event, Evaluated, Declared, Branched, Exited}
+use Rattle.c_paths.specs.Membership.{Among}
 use Rattle.c_typing.specs.Options.{if_there, or_else, ◌>?◌}
 use Rattle.hole_matching.specs.Alternatives.{matched_alternative, has_end_of_path, all_hold, bound_object}
 use Rattle.hole_matching.specs.Callouts.{is_local}
@@ -12,7 +12,7 @@ use Rattle.hole_matching.specs.MachineMatches.{setting_of}
 use Rattle.hole_matching.specs.Matched.{nothing_taken}
 use Rattle.hole_matching.specs.Matching.{Binding}
 use Rattle.objects.specs.Equality.{same_object}
-use Rattle.metal_machines.specs.Machine.{Source, FromGlobal, FromObject, Target, ToGlobal, ToObject, ToUnknown, Dest, Always, ByTruth, Item, Piece, Rule, Machine}
+use Rattle.metal_machines.specs.Machine.{Source, FromGlobal, FromObject, Target, ToGlobal, ToObject, ToUnknown, Dest, Always, ByTruth, Item, Rule, Machine}
 use Rattle.path_subjects.specs.Subjects.{Tree}
 use Rattle.checker_model.specs.Happenings.{Function, Happening}
 
@@ -142,3 +142,14 @@ next_global m depth h f is_root state = if_there (taken_global m depth h f is_ro
 -- the state of an object behind the event
 abbrev pub chosen : Machine → ℕ → Happening → Function → Bool → ℕ → Object → Option State → Option State
 chosen m depth h f is_root state o x = if_there (taken m depth h f is_root state o x) x (λ t. object_behind (target_at h.event t.rule.dest) x)
+
+-- AN ALTERNATIVE OF A RULE BINDS THE OBJECT at an event, to one of its holes
+pub record Binds (m : Machine) (depth : ℕ) (f : Function) (h : Happening) (o : Object) : Type 0 where
+  pub rule : Rule
+  pub among : Among rule m.rules
+  pub items : List Item
+  pub alternative : Among items rule.alternatives
+  pub binding : Binding
+  pub applies : applied (scene m depth h f) h.event rule.dest items ≡ Some binding
+  pub variable : ℕ
+  pub bound : bound_object (scene m depth h f) variable binding ≡ Some o

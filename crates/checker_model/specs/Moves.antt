@@ -1,7 +1,7 @@
 -- MOVES (kills and synonyms): an assignment takes the states of what it writes over, and hands on the states of what it copies.
 use Rattle.std.specs.Prelude.{◌≡◌, ℕ, List, [], ◌∷◌, Bool, true, false, cond, not, ◌&&◌, ◌||◌, Option, None, Some, IfSome}
 use Rattle.c_objects.specs.Facts.{Facts}
-use Rattle.c_objects.specs.Objects.{Selector, Object, IsObject, if_object, path, is_indexed_by, mentions}
+use Rattle.c_objects.specs.Objects.{Selector, Object, IsObject, if_object, path, is_indexed_by}
 use Rattle.c_objects.specs.ObjectOf.{object_of}
 use Rattle.c_objects.specs.Paths.{rest, has_access, rebase}
 use Rattle.c_paths.specs.Events.{Variable, Event, Evaluated, Declared, Branched, Exited}
@@ -13,7 +13,7 @@ use Rattle.c_tree.specs.Node.{Node, node, Operation, Initializer, Unary, Assign,
 use Rattle.c_typing.specs.Options.{if_there, ◌>?◌}
 use Rattle.c_typing.specs.Vars.{CVar, Local}
 use Rattle.hole_matching.specs.Subjects.{is_braced}
-use Rattle.path_subjects.specs.Subjects.{Subject, Tree, DerefOf}
+use Rattle.path_subjects.specs.Subjects.{Tree, DerefOf}
 
 -- the path that is written over, and the object that is copied to it, if it has one
 pub record Move : Type 0 where

@@ -1,5 +1,5 @@
 -- The laws of checkers as statements, which contracts can name.
-use Rattle.std.specs.Prelude.{◌≡◌, ◌↔◌, ℕ, ◌≤◌, length, true, false, [], Some}
+use Rattle.std.specs.Prelude.{◌≡◌, ◌↔◌, ℕ, true, false, [], Some}
 use Rattle.c_objects.specs.Objects.{Object, IsObject, path, are_static}
 use Rattle.c_objects.specs.Paths.{rebase}
 use Rattle.c_typing.specs.Vars.{CVar}

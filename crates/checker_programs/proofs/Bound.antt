@@ -1,20 +1,17 @@
 -- An object that takes a rule while it is unknown is bound by an alternative of that rule.
-use Rattle.std.proofs.Common.{◌≡◌, ◌⊎◌, inl, inr, ℕ, List, [], ◌∷◌, Bool, true, false, Option, None, Some, refl, ◌∙◌, sym, ap, subst, cond, not, ◌&&◌, ◌||◌, nat_eq}
+use Rattle.std.proofs.Common.{◌≡◌, inl, inr, ℕ, List, [], ◌∷◌, Bool, true, false, Option, None, Some, refl, ◌∙◌, sym, ap, cond, not, ◌||◌, nat_eq}
 use Rattle.c_objects.specs.Objects.{Object}
 use Rattle.objects.specs.Equality.{same_object, same_object-true}
 use Rattle.c_paths.specs.Membership.{Among}
 use Rattle.c_typing.specs.Options.{◌>?◌, if_there, or_else}
-use Rattle.checker_model.specs.Choices.{State, Taken, stop, first_some, applied, target_at, by_alternative, from_global, variable_of, binds, is_asked, object_rule, unknown_rule, scene, taken, chosen, object_behind}
+use Rattle.checker_model.specs.Choices.{Binds, State, Taken, stop, first_some, applied, target_at, by_alternative, from_global, variable_of, binds, is_asked, object_rule, scene, taken, chosen, object_behind}
 use Rattle.checker_model.specs.Happenings.{Function, Happening}
 use Rattle.checker_model.specs.Reports.{Checker, Fires, report_of}
-use Rattle.checker_programs.specs.Relevant.{Binds}
 use Rattle.checker_model.proofs.Sources.{given, tested, untested}
 use Rattle.hole_matching.specs.Alternatives.{bound_object}
-use Rattle.hole_matching.specs.Holes.{Setting}
 use Rattle.hole_matching.specs.Matching.{Binding}
-use Rattle.metal_machines.specs.Machine.{Item, Rule}
+use Rattle.metal_machines.specs.Machine.{Rule}
 use Rattle.path_model.specs.declared.report.Report.{Report}
-use Rattle.c_paths.specs.Events.{Event}
 
 -- the first that gives something is among them
 first-found : {A B : Type 0} (f : A → Option B) (xs : List A) (y : B) → first_some f xs ≡ Some y → (x : A) × Among x xs × (f x ≡ Some y)
@@ -35,14 +32,14 @@ module _ (c : Checker) (f : Function) (h : Happening) (o : Object) where
       by (Some q) e k = e ∙ ap Some (sym (same_object-true o q k))
 
   -- the alternative by which a rule binds it
-  by-items : (r : Rule) (v : ℕ) (t : Taken) → Among r c.machine.rules → by_alternative (scene c.machine c.depth h f) h.event r (binds (scene c.machine c.depth h f) v o) ≡ Some t → Binds c f h o
+  by-items : (r : Rule) (v : ℕ) (t : Taken) → Among r c.machine.rules → by_alternative (scene c.machine c.depth h f) h.event r (binds (scene c.machine c.depth h f) v o) ≡ Some t → Binds c.machine c.depth f h o
   by-items r v t among e =
       let found = first-found (λ items. applied (scene c.machine c.depth h f) h.event r.dest items >? λ b. cond (binds (scene c.machine c.depth h f) v o b) (Some (record { rule = r; binding = b })) None) r.alternatives t e in
       let applies = given (applied (scene c.machine c.depth h f) h.event r.dest found.0) (λ b. cond (binds (scene c.machine c.depth h f) v o b) (Some (record { rule = r; binding = b })) None) t found.2 in
       let bound = tested (binds (scene c.machine c.depth h f) v o applies.0) (Some (record { rule = r; binding = applies.0 })) t applies.2 in
       record { rule = r; among = among; items = found.0; alternative = found.1; binding = applies.0; applies = applies.1; variable = v; bound = has-object v applies.0 bound.0 }
 
-  pub taken-binds : (k : Bool) (state : ℕ) (t : Taken) → taken c.machine c.depth h f k state o None ≡ Some t → Binds c f h o
+  pub taken-binds : (k : Bool) (state : ℕ) (t : Taken) → taken c.machine c.depth h f k state o None ≡ Some t → Binds c.machine c.depth f h o
   taken-binds k state t e =
       let some = untested (nat_eq state stop || not (is_asked h.event k o)) (first_some (object_rule (scene c.machine c.depth h f) h.event state o None) c.machine.rules) t e in
       let found = first-found (object_rule (scene c.machine c.depth h f) h.event state o None) c.machine.rules t some.1 in
@@ -51,12 +48,12 @@ module _ (c : Checker) (f : Function) (h : Happening) (o : Object) where
       let v = given (variable_of (target_at h.event rule.dest)) (λ v. by_alternative (scene c.machine c.depth h f) h.event rule (binds (scene c.machine c.depth h f) v o)) t from.1 in
       by-items rule v.0 t found.1 v.2
 
-  pub chosen-binds : (k : Bool) (state : ℕ) (x : State) → chosen c.machine c.depth h f k state o None ≡ Some x → Binds c f h o
+  pub chosen-binds : (k : Bool) (state : ℕ) (x : State) → chosen c.machine c.depth h f k state o None ≡ Some x → Binds c.machine c.depth f h o
   chosen-binds k state x e = by (taken c.machine c.depth h f k state o None) refl e
     where
-      by : (q : Option Taken) → taken c.machine c.depth h f k state o None ≡ q → if_there q None (λ t. object_behind (target_at h.event t.rule.dest) None) ≡ Some x → Binds c f h o
+      by : (q : Option Taken) → taken c.machine c.depth h f k state o None ≡ q → if_there q None (λ t. object_behind (target_at h.event t.rule.dest) None) ≡ Some x → Binds c.machine c.depth f h o
       by None a b = cc
       by (Some t) a b = taken-binds k state t a
 
-  pub fires-binds : (k : Bool) (state : ℕ) (r : Report) → Fires c h f k state o None r → Binds c f h o
+  pub fires-binds : (k : Bool) (state : ℕ) (r : Report) → Fires c h f k state o None r → Binds c.machine c.depth f h o
   fires-binds k state r e = let t = given (taken c.machine c.depth h f k state o None) (report_of c h f (Some o)) r e in taken-binds k state t.0 t.1

@@ -1,24 +1,23 @@
 -- The relevant objects are closed, as the theory wants the objects that are followed, and they are objects.
-use Rattle.std.proofs.Common.{◌≡◌, ℕ, List, [], ◌∷◌, Option, None, Some, refl, sym, subst}
+use Rattle.std.proofs.Common.{◌≡◌, ℕ, List, [], ◌∷◌, Option, None, Some, sym, subst}
 use Rattle.c_objects.specs.Facts.{Facts}
 use Rattle.c_objects.specs.Objects.{Object, Deref, IsObject}
 use Rattle.c_objects.specs.ObjectOf.{object_of}
 use Rattle.c_objects.specs.Paths.{append}
 use Rattle.c_objects.proofs.Plain.{object-object, append-object}
-use Rattle.c_paths.specs.Membership.{Among}
 use Rattle.checker_model.specs.Calls.{AreObjects}
-use Rattle.checker_model.specs.Checkers.{model, origins, source_at}
-use Rattle.checker_model.specs.Choices.{scene}
+use Rattle.checker_model.specs.Checkers.{model, origins}
+use Rattle.checker_model.specs.Choices.{Binds, scene}
 use Rattle.checker_model.specs.Happenings.{Function, Happening, Site}
 use Rattle.checker_model.specs.Moves.{move_of}
 use Rattle.checker_model.specs.Reports.{Checker}
 use Rattle.checker_model.proofs.MovedObjects.{move-is, actuals-are}
 use Rattle.checker_model.proofs.Sources.{given, source-object, into-object, out-object}
 use Rattle.checker_programs.specs.Paths.{program}
-use Rattle.checker_programs.specs.Relevant.{Binds, Relevant, Bound, Taken, Given, PassedBy, PassedOn, HandedBy, HandedBack}
+use Rattle.checker_programs.specs.Relevant.{Relevant, Bound, Taken, Given, PassedBy, PassedOn, HandedBy, HandedBack}
 use Rattle.checker_programs.specs.Texts.{Text, objects_in, site}
 use Rattle.checker_programs.proofs.Bound.{chosen-binds, fires-binds}
-use Rattle.hole_matching.specs.Alternatives.{bound_object, object_taken}
+use Rattle.hole_matching.specs.Alternatives.{object_taken}
 use Rattle.hole_matching.specs.Holes.{Setting}
 use Rattle.hole_matching.specs.Matching as matching
 use Rattle.hole_matching.specs.Subjects.{subject_object}
@@ -36,7 +35,7 @@ taken-object g None o h = cc
 taken-object g (Some (matching.One s)) o h = subject-object g.facts g.depth s o h
 taken-object g (Some (matching.Many ss)) o h = cc
 
-pub binds-object : (c : Checker) (f : Function) (h : Happening) (o : Object) → Binds c f h o → IsObject c.depth o
+pub binds-object : (c : Checker) (f : Function) (h : Happening) (o : Object) → Binds c.machine c.depth f h o → IsObject c.depth o
 binds-object c f h o b = taken-object (scene c.machine c.depth h f) (matching.slot b.variable b.binding) o b.bound
 
 module _ (c : Checker) (ts : List Text) where

@@ -1,5 +1,5 @@
 -- THE PATHS OF A PROGRAM UNDER A CHECKER: those of the theory, over the steps of its functions' bodies.
-use Rattle.std.specs.Prelude.{ℕ, List}
+use Rattle.std.specs.Prelude.{List}
 use Rattle.c_paths.specs.Bodies.{step_bodies}
 use Rattle.checker_model.specs.Checkers.{model}
 use Rattle.checker_model.specs.Reports.{Checker}

@@ -1,34 +1,19 @@
 -- THE RELEVANT OBJECTS of a program's functions: the least sets that have what rules bind, and with an object each from which it takes its
 -- state, or that takes its state from it.
-use Rattle.std.specs.Prelude.{◌≡◌, ℕ, List, Option, Some}
+use Rattle.std.specs.Prelude.{◌≡◌, List, Some}
 use Rattle.c_objects.specs.Objects.{Object}
-use Rattle.c_paths.specs.Membership.{Among}
 use Rattle.checker_model.specs.Calls.{into, out}
 use Rattle.checker_model.specs.Checkers.{model, source_at}
-use Rattle.checker_model.specs.Choices.{applied, scene}
+use Rattle.checker_model.specs.Choices.{Binds}
 use Rattle.checker_model.specs.Happenings.{Function, Happening, Site}
 use Rattle.checker_model.specs.Reports.{Checker}
 use Rattle.checker_programs.specs.Paths.{program}
 use Rattle.checker_programs.specs.Texts.{Text}
-use Rattle.hole_matching.specs.Alternatives.{bound_object}
-use Rattle.hole_matching.specs.Matching.{Binding}
-use Rattle.metal_machines.specs.Machine.{Item, Rule}
 use Rattle.path_theory.specs.Relevant.{EventOf, CallOf}
-
--- an alternative of a rule binds the object at an event, to one of the checker's variables
-pub record Binds (c : Checker) (f : Function) (h : Happening) (o : Object) : Type 0 where
-  pub rule : Rule
-  pub among : Among rule c.machine.rules
-  pub items : List Item
-  pub alternative : Among items rule.alternatives
-  pub binding : Binding
-  pub applies : applied (scene c.machine c.depth h f) h.event rule.dest items ≡ Some binding
-  pub variable : ℕ
-  pub bound : bound_object (scene c.machine c.depth h f) variable binding ≡ Some o
 
 module _ (c : Checker) (ts : List Text) where
   pub data Relevant : Function → Object → Type 0 where
-    Bound : (f : Function) (h : Happening) (o : Object) → EventOf (model c) (program c ts) f h → Binds c f h o → Relevant f o
+    Bound : (f : Function) (h : Happening) (o : Object) → EventOf (model c) (program c ts) f h → Binds c.machine c.depth f h o → Relevant f o
     Taken : (f : Function) (h : Happening) (o b : Object) → EventOf (model c) (program c ts) f h → source_at c.depth h o ≡ Some b
         → Relevant f o → Relevant f b
     Given : (f : Function) (h : Happening) (o b : Object) → EventOf (model c) (program c ts) f h → source_at c.depth h o ≡ Some b

@@ -1,5 +1,5 @@
 -- A program as a checker is told of it: the trees, the types and the tokens of each unit, in the order of their files.
-use Rattle.std.specs.Prelude.{ℕ, List, [], ◌∷◌, map, find, nat_eq, slice_get, Bool, cond, ◌&&◌, Option, None, Some}
+use Rattle.std.specs.Prelude.{ℕ, List, [], ◌∷◌, map, nat_eq, slice_get, Bool, cond, ◌&&◌, Option, None, Some}
 use Rattle.std.specs.Option.{option_map}
 use Rattle.c_objects.specs.Facts as objects
 use Rattle.c_paths.specs.Events.{Event}

@@ -36,8 +36,8 @@ fn object_taken(setting: &Setting, taken: Taken) -> Option<Object>
     }
 }
 
-// The object that a variable is bound to.
-fn bound_object(setting: &Setting, variable: u8, binding: &Binding) -> Option<Object>
+/// The object that a variable is bound to, if what it took has one.
+pub fn bound_object(setting: &Setting, variable: u8, binding: &Binding) -> Option<Object>
     ensures { result ≡ bound_object (setting_in setting.now) variable (binding_of binding.now) }
 {
     match binding.slot(variable) {

@@ -1,4 +1,3 @@
 pub mod Examples
-pub mod Tokens
 pub mod Carried
 pub mod Tables

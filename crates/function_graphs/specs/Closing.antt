@@ -1,11 +1,12 @@
 -- The closing brace of a function's body (ISO 9899:1990, 6.6.2), which no tree has: where its first brace is closed.
-use Rattle.std.specs.Prelude.{ℕ, suc, ◌-◌, leb, List, [], ◌∷◌, Option, None, Some, Bool, true, false, cond, filter}
+use Rattle.std.specs.Prelude.{ℕ, suc, ◌-◌, leb, List, [], ◌∷◌, Option, None, Some, Bool, true, false, cond}
 use Rattle.c_tree.specs.declared.place.Place.{Place}
 use Rattle.c_tree.specs.declared.punctuator.Punctuator.TheVariants as marks
 use Rattle.c_tree.specs.declared.token.Token.{Token}
 use Rattle.c_tree.specs.declared.token.TokenKind.{TokenKind}
 use Rattle.c_tree.specs.declared.token.TokenKind.TheVariants as kinds
 use Rattle.c_typing.specs.Options.{if_there}
+use Rattle.token_search.specs.Numbers.{from}
 
 abbrev pub opens : TokenKind → Bool
 opens (kinds.Punct marks.OpenBrace) = true
@@ -22,10 +23,6 @@ closing open_braces (t ∷ ts) =
     cond (opens t.kind) (closing (suc open_braces) ts)
     (cond (closes t.kind) (cond (leb open_braces 1) (Some t.place) (closing (open_braces - 1) ts))
     (closing open_braces ts))
-
--- the tokens from the one with this number on
-abbrev pub from : ℕ → List Token → List Token
-from number tokens = filter (λ t. leb number t.place.token) tokens
 
 -- THE CLOSING BRACE of the block that begins at this place; the place itself, where no brace closes it
 abbrev pub closing_brace : List Token → Place → Place

@@ -1,20 +1,11 @@
 //! The closing braces of functions' bodies.
 
 ghost use Rattle.std.specs.Prelude.{◌≡◌};
-ghost use Rattle.c_tree.specs.TokenPlaces.{StandInFile};
-ghost use Rattle.function_graphs.specs.Closing.{from, closing, closing_brace};
+ghost use Rattle.function_graphs.specs.Closing.{closing, closing_brace};
 
 use c_tree::{Place, Punctuator, Token, TokenKind};
+use token_search::from_number;
 use typed_unit::TypedUnit;
-
-/// The tokens of a unit from the one with this number on.
-fn from<'a>(unit: &TypedUnit<'a>, number: u32) -> &'a [Token]
-    ensures { result.now ≡ from number unit.now.unit.tokens.now }
-{
-    let tokens = unit.unit.tokens;
-    let index = tokens.partition_point(|token| token.place.token < number);
-    &tokens[index..]
-}
 
 /// The place at which the braces that open among these tokens are closed.
 fn closing(tokens: &[Token]) -> Option<Place>
@@ -40,7 +31,7 @@ fn closing(tokens: &[Token]) -> Option<Place>
 pub(crate) fn closing_brace(unit: &TypedUnit, first: Place) -> Place
     ensures { result ≡ closing_brace unit.now.unit.tokens.now first }
 {
-    match closing(from(unit, first.token)) {
+    match closing(from_number(unit, first.token)) {
         Some(place) => place,
         None => first,
     }

@@ -2,3 +2,5 @@ pub mod Closed
 pub mod Edges
 pub mod Reports
 pub mod OwnValues
+pub mod Squashed
+pub mod Stable

@@ -8,7 +8,7 @@ use Rattle.std.specs.List.{AllWithin}
 use Rattle.std.specs.List.Sorted.{IsNonDecreasingBy}
 use Rattle.c_tree.specs.declared.token.Token.{Token}
 use Rattle.c_tree.specs.TokenPlaces.{Rises, StandInFile}
-use Rattle.function_graphs.specs.Closing.{from}
+use Rattle.token_search.specs.Numbers.{from}
 
 abbrev number_of : Token → ℕ
 number_of t = t.place.token

@@ -1,8 +1,8 @@
 use Rattle.std.proofs.Common.{rules, ltb}
 use Rattle.std.proofs.lemmas.List.Sorted.{IsPartitionPoint-from_clause, IsPartitionedBy-ltb}
 use Rattle.c_tree.specs.declared.token.Token.{Token}
-use Rattle.function_graphs.proofs.Tokens.{all_behind, behind, in_file}
-use Rattle.function_graphs.proofs.closing.from.Goals as goal
+use Rattle.token_search.proofs.Tokens.{all_behind, behind, in_file}
+use Rattle.token_search.proofs.search.from_number.Goals as goal
 
 pub returns : goal.returns
 returns c =
