@@ -31,7 +31,7 @@ pub enum Asked<'o> {
 }
 
 /// Whether a rule begins and leads where who is asked may take it, whatever matches.
-pub(crate) fn may_take(event: &Event, global: u16, asked: Asked, rule: &Rule) -> bool
+pub fn may_take(event: &Event, global: u16, asked: Asked, rule: &Rule) -> bool
     ensures { result ≡ may_take (event_of event.now) global (asker_of asked.entry) (rule_view rule.now) }
 {
     match asked {
@@ -62,13 +62,7 @@ fn fits_unknown(
 }
 
 /// Whether who is asked takes a rule with this binding.
-pub(crate) fn fits(
-    setting: &Setting,
-    event: &Event,
-    asked: Asked,
-    rule: &Rule,
-    binding: &Binding,
-) -> bool
+pub fn fits(setting: &Setting, event: &Event, asked: Asked, rule: &Rule, binding: &Binding) -> bool
     ensures { result ≡ fits (setting_in setting.now) (event_of event.now) (asker_of asked.entry) (rule_view rule.now) (binding_of binding.now) }
 {
     match asked {

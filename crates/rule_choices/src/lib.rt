@@ -6,6 +6,6 @@ mod asked;
 mod fired;
 mod rules;
 
-pub use asked::Asked;
+pub use asked::{Asked, fits, may_take};
 pub use fired::Fired;
 pub use rules::first_rule;

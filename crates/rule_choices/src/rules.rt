@@ -36,7 +36,6 @@ fn by_items<'a>(
 }
 
 // A rule that begins and leads where it has to is taken by the first alternative that applies with a binding that fits.
-
 fn by_alternative<'m, 'a>(
     setting: &Setting<'_, 'a>,
     event: &Event<'a>,
@@ -78,7 +77,6 @@ fn taken_rule<'m, 'a>(
 }
 
 /// The first of these rules that is taken.
-
 pub fn first_rule<'m, 'a>(
     setting: &Setting<'_, 'a>,
     event: &Event<'a>,

@@ -22,8 +22,8 @@ use objects::Object;
 use rule_choices::{Asked, Fired, first_rule};
 use typed_unit::TypedUnit;
 
-// The global state that nothing leaves.
-const STOP: u16 = 1;
+/// The number of the global state `stop`, which nothing leaves.
+pub const STOP: u16 = 1;
 
 // Whether an object's path goes from a variable of a block with automatic storage (ISO 9899:1990, 6.1.2.4).
 fn is_local(object: &Object) -> bool
@@ -35,15 +35,15 @@ fn is_local(object: &Object) -> bool
     }
 }
 
-// Whether an object is asked. At the end of a called function none but those of its own variables are.
-fn is_asked(event: &Event, is_root: bool, object: &Object) -> bool
+/// Whether an object is asked at an event. At the end of a called function none but those of its own variables are.
+pub fn is_asked(event: &Event, is_root: bool, object: &Object) -> bool
     ensures { result ≡ is_asked (event_of event.now) is_root object.now }
 {
     !is_exit(event) || is_root || is_local(object)
 }
 
-// Whether the global state is asked. At the end of a called function it isn't.
-fn is_global_asked(event: &Event, is_root: bool) -> bool
+/// Whether the global state is asked at an event. At the end of a called function it isn't.
+pub fn is_global_asked(event: &Event, is_root: bool) -> bool
     ensures { result ≡ is_global_asked (event_of event.now) is_root }
 {
     !is_exit(event) || is_root
@@ -71,8 +71,8 @@ pub fn fired_global<'m, 'a>(
     first_rule(&setting, event, global, Asked::Global, machine.rules)
 }
 
-// Who is asked, for an object in a state or in none.
-fn asked_object<'o>(object: &'o Object, state: Option<(u8, u16)>) -> Asked<'o>
+/// Who is asked, for an object in this state; `None` where that is unknown.
+pub fn asked_object<'o>(object: &'o Object, state: Option<(u8, u16)>) -> Asked<'o>
     ensures { asker_of result ≡ ObjectIn object.now state }
 {
     match state {

@@ -7,7 +7,7 @@ mod frame;
 mod steps;
 mod tuple;
 
-pub use choices::{fired, fired_global};
+pub use choices::{STOP, asked_object, fired, fired_global, is_asked, is_global_asked};
 pub use frame::Frame;
 pub use rule_choices::Fired;
 pub use steps::{next_global, next_state, next_tuple};
