@@ -115,4 +115,4 @@ module _ (depth : ℕ) (m : Option Move) (followed : List Object) (t : Tuple) wh
       back u w NoObject h = inr (same-tuple (without_object t) u (sym w.global) h)
       back u w (HasObject o x) h =
           let p = moved-with u o x w h in
-          inl (o, follows t.object o e p.0, p.1 ∙ e, p.2)
+          inl (o, follows t.object o e p.0, (p.1 ∙ e, p.2))
