@@ -1,5 +1,6 @@
 -- Which rules with an action are taken while a tuple crosses the events of a block. A report is that of such a rule.
 use Rattle.std.specs.Prelude.{◌≡◌, ℕ, Bool, cond, is_some, List, Option, None, Some}
+use Rattle.std.specs.Option.{option_map}
 use Rattle.c_objects.specs.Objects.{Object}
 use Rattle.c_typing.specs.Options.{if_there, ◌>?◌}
 use Rattle.checker_model.specs.Checkers.{model, origins}
@@ -49,3 +50,7 @@ TakenAt c hs f is_root followed t x =
 abbrev pub fires_here : Checker → Happening → Function → Bool → Tuple → Option Taken
 fires_here c h f is_root t =
     if_there t.object (acting (taken_global c.machine c.depth h f is_root t.global)) (λ o. acting (taken c.machine c.depth h f is_root t.global o t.state))
+
+-- what is noted of it
+abbrev pub fire_of : Checker → Happening → Function → Bool → ℕ → Tuple → Option Fire
+fire_of c h f is_root number t = option_map (λ r. record { event = number; object = t.object; taken = r }) (fires_here c h f is_root t)

@@ -1,10 +1,11 @@
 //! Which rules with an action are taken while a tuple crosses the events of a block.
 
-ghost use Rattle.std.specs.Prelude.{◌≡◌, ℕ, List, map, IfOk};
+ghost use Rattle.std.specs.Prelude.{◌≡◌, ◌+◌, List, map, IfOk};
+ghost use Rattle.std.specs.List.{filter_map};
 ghost use Rattle.std.specs.Option.{option_map};
 ghost use Rattle.applied_rules.specs.Events.{AreOfEvent};
 ghost use Rattle.block_flows.specs.Events.{AreOfEvents};
-ghost use Rattle.block_flows.specs.Firings.{acting, fires_here, fire_in, TakenHere, TakenAt};
+ghost use Rattle.block_flows.specs.Firings.{acting, fires_here, fire_of, fire_in, TakenHere, TakenAt};
 ghost use Rattle.checker_model.specs.Happenings.{Function, Happening};
 ghost use Rattle.checker_model.specs.Reports.{Checker};
 ghost use Rattle.least_set.specs.Logs.{IsExactly, SomeGives};
@@ -63,4 +64,92 @@ fn copy_of(object: &Option<Object>) -> Option<Object>
         Some(object) => Some(copy(object)),
         None => None,
     }
+}
+
+// Which of these tuples behind an event's move take a rule with an action.
+fn fired_each<'r, 'm, 'a>(
+    alloc: Global,
+    rules: &'r EventRules<'m, 'a>,
+    number: usize,
+    is_root: bool,
+    tuples: &[Tuple],
+) -> Result<Vec<Firing<'r, 'm, 'a>>, AllocError>
+    ensures { IfOk result (λ list. (c : Checker) (h : Happening) (f : Function) → AreOfEvent c.machine c.depth h f rules.now → map fire_in list.items ≡ filter_map (fire_of c h f is_root number) tuples.now) }
+{
+    let mut list = Vec::new(alloc);
+    for tuple in tuples {
+        if let Some(taken) = acted(rules, is_root, tuple) {
+            list.push(Firing {
+                event: number,
+                object: copy_of(&tuple.object),
+                taken,
+            })?;
+        }
+    }
+    Ok(list)
+}
+
+// The rules with an action that are taken at an event from a tuple that stands before it.
+fn fired_from<'r, 'm, 'a>(
+    alloc: Global,
+    rules: &'r EventRules<'m, 'a>,
+    number: usize,
+    is_root: bool,
+    tuple: &Tuple,
+    followed: &[Object],
+) -> Result<Vec<Firing<'r, 'm, 'a>>, AllocError>
+    ensures { IfOk result (λ list. (c : Checker) (h : Happening) (f : Function) → AreOfEvent c.machine c.depth h f rules.now → AreObjects c.depth followed.now → IsExactly (map fire_in list.items) (TakenHere c h f is_root followed.now number tuple.now)) }
+{
+    let setting = &rules.setting;
+    let before = moved(
+        alloc,
+        &rules.event,
+        setting.unit,
+        setting.depth,
+        tuple,
+        followed,
+    )?;
+    fired_each(alloc, rules, number, is_root, before.as_slice())
+}
+
+// The same from one of these tuples.
+fn fired_here<'r, 'm, 'a>(
+    alloc: Global,
+    rules: &'r EventRules<'m, 'a>,
+    number: usize,
+    is_root: bool,
+    tuples: &[Tuple],
+    followed: &[Object],
+) -> Result<Vec<Firing<'r, 'm, 'a>>, AllocError>
+    ensures { IfOk result (λ list. (c : Checker) (h : Happening) (f : Function) → AreOfEvent c.machine c.depth h f rules.now → AreObjects c.depth followed.now → IsExactly (map fire_in list.items) (SomeGives (TakenHere c h f is_root followed.now number) tuples.now)) }
+{
+    let mut list = Vec::new(alloc);
+    for tuple in tuples {
+        let mut more = fired_from(alloc, rules, number, is_root, tuple, followed)?;
+        list.append(&mut more)?;
+    }
+    Ok(list)
+}
+
+/// The rules with an action that are taken while this tuple crosses a block's events, in a root's own frame or in a called one: by which
+/// object, or by the global state, and at which event. The rules are those of the events in their order; those that are followed are
+/// objects at the depth of the rules. A report on the way is that of one of these.
+pub fn firings<'r, 'm, 'a>(
+    alloc: Global,
+    rules: &'r [EventRules<'m, 'a>],
+    is_root: bool,
+    tuple: &Tuple,
+    followed: &[Object],
+) -> Result<Vec<Firing<'r, 'm, 'a>>, AllocError>
+    ensures { IfOk result (λ list. (c : Checker) (f : Function) (hs : List Happening) → AreOfEvents c.machine c.depth f hs rules.now → AreObjects c.depth followed.now → IsExactly (map fire_in list.items) (TakenAt c hs f is_root followed.now tuple.now)) }
+{
+    let mut now = first(alloc, tuple)?;
+    let mut list = Vec::new(alloc);
+    for (number, event) in rules.iter().enumerate() {
+        let mut more = fired_here(alloc, event, number, is_root, now.as_slice(), followed)?;
+        list.append(&mut more)?;
+        let behind = next(alloc, event, is_root, now.as_slice(), followed)?;
+        now = in_order(alloc, behind)?;
+    }
+    Ok(list)
 }

@@ -23,13 +23,6 @@ some≢none o h = cc
 no≢has : (o : Object) (x : Option State) → NoObject ≡ HasObject o x → ⊥
 no≢has o x h = cc
 
--- where a site passes states, by what it passes
-pub same-into : (depth : ℕ) (s r : Site) → s.formals ≡ r.formals → s.actuals ≡ r.actuals → (o : Object) → into depth s o ≡ into depth r o
-same-into depth s r p q o = λ i. into depth (record { callee = None; formals = p i; actuals = q i }) o
-
-pub same-out : (depth : ℕ) (s r : Site) → s.formals ≡ r.formals → s.actuals ≡ r.actuals → (o : Object) → out depth s o ≡ out depth r o
-same-out depth s r p q o = λ i. out depth (record { callee = None; formals = p i; actuals = q i }) o
-
 -- a tuple with one of these objects, in the state of the tuple before, where the object that it has its state from is that one's
 abbrev pub From : (Object → Option Object) → Tuple → Object → Tuple → Type 0
 From S t o u = (S o ≡ t.object) × (with_object t o ≡ u)
@@ -136,3 +129,13 @@ module _ (c : Checker) (s : Site) (f : Function) (objects : List Object) (t : Tu
   returned-object-alone list b e x = exactly-same (SomeGives (From (out c.depth s) t) objects) (IsReturned c s f objects t) list x
       (λ u m. subst (IsReturned c s f objects t) m.2.1 (returned-with m.0 b m.1 e m.2.0))
       (λ u w. elim (from-returned u w (fact_in u) refl) [ inl m ↦ m | inr m ↦ absurd (some≢none b (sym e ∙ m.0)) ])
+
+-- what is said of a site of the program is said of a call that passes the same
+module _ (depth d : ℕ) (r s : Site) (objects : List Object) (t : Tuple) (list : List Tuple) (e : d ≡ depth) (p : s.formals ≡ r.formals) (q : s.actuals ≡ r.actuals) where
+  pub into-there : IsExactly list (SomeGives (From (into depth r) t) objects) → IsExactly list (SomeGives (From (into d s) t) objects)
+  into-there x = subst (λ (S : Object → Option Object). IsExactly list (SomeGives (From S t) objects))
+      (λ i o. into (sym e i) (record { callee = None; formals = sym p i; actuals = sym q i }) o) x
+
+  pub out-there : IsExactly list (SomeGives (From (out depth r) t) objects) → IsExactly list (SomeGives (From (out d s) t) objects)
+  out-there x = subst (λ (S : Object → Option Object). IsExactly list (SomeGives (From S t) objects))
+      (λ i o. out (sym e i) (record { callee = None; formals = sym p i; actuals = sym q i }) o) x

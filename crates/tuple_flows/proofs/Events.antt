@@ -1,6 +1,8 @@
 -- Tuples behind events: what is chosen for each that stands behind the move.
 use Rattle.std.proofs.Common.{◌≡◌, ℕ, List, map, Bool, Option, None, Some, Contains, refl, sym, ap, subst, ◌∙◌}
+use Rattle.c_objects.specs.Facts.{Facts}
 use Rattle.c_objects.specs.Objects.{Object}
+use Rattle.c_paths.specs.Events.{Event}
 use Rattle.checker_model.specs.Checkers.{model, origins, source_at}
 use Rattle.checker_model.specs.Choices.{State, next_global, chosen}
 use Rattle.checker_model.specs.Happenings.{Function, Happening}
@@ -12,9 +14,9 @@ use Rattle.path_theory.specs.Flows.{EventFlow, EventNone, EventObject}
 use Rattle.state_tuples.specs.declared.tuple.Tuple.{Tuple}
 use Rattle.tuple_flows.specs.Behind.{IsBehind, chosen_object, chosen_tuple}
 use Rattle.tuple_flows.specs.Facts.{fact_of, fact_in, listed}
-use Rattle.tuple_flows.specs.Moved.{MoveFlow, MovesNone, MovesObject, IsMoved}
+use Rattle.tuple_flows.specs.Moved.{AreObjects, MoveFlow, MovesNone, MovesObject, IsMoved}
 use Rattle.tuple_flows.proofs.Lists.{contains-map, map-contains}
-use Rattle.tuple_flows.proofs.Tuples.{tuple_of, tuple_of-fact, tuple_of-global, same-tuple}
+use Rattle.tuple_flows.proofs.Tuples.{tuple_of, tuple_of-fact, tuple_of-global, same-parts, same-tuple}
 
 module _ (c : Checker) (h : Happening) (f : Function) (k : Bool) (followed : List Object) where
   abbrev M : Option Move
@@ -80,3 +82,19 @@ module _ (c : Checker) (h : Happening) (f : Function) (k : Bool) (followed : Lis
           let p = behind-is u w in
           subst (λ z. Contains (map (chosen_tuple c h f k next) before) z) p.2 (contains-map (chosen_tuple c h f k next) before p.0 (e.1 p.0 p.1)),
     )
+
+module _ (c : Checker) (h : Happening) (f : Function) (k : Bool) (next g : ℕ) (q : Option Object) (x : Option State) (u : Tuple) (to : u.global ≡ next) where
+  -- the tuple of these parts is the one that is chosen
+  pub chosen-some : (o : Object) → q ≡ Some o → u.object ≡ Some o → u.state ≡ chosen c.machine c.depth h f k g o x → u ≡ chosen_object c h f k next g q x
+  chosen-some o e p s = subst (λ z. u ≡ chosen_object c h f k next g z x) (sym e) (same-parts u (chosen_object c h f k next g (Some o) x) to p s)
+
+  pub chosen-none : q ≡ None → u.object ≡ None → u.state ≡ None → u ≡ chosen_object c h f k next g q x
+  chosen-none e p s = subst (λ z. u ≡ chosen_object c h f k next g z x) (sym e) (same-parts u (chosen_object c h f k next g None x) to p s)
+
+-- what is said of one event is said of the same event, by its parts
+pub moved-there : (depth d : ℕ) (u v : Facts) (e i : Event) → depth ≡ d → u ≡ v → e ≡ i → (followed : List Object) (t : Tuple) (list : List Tuple)
+    → (AreObjects depth followed → IsExactly list (IsMoved depth (move_of u depth e) followed t)) → AreObjects d followed → IsExactly list (IsMoved d (move_of v d i) followed t)
+moved-there depth d u v e i p q r followed t list x =
+    let one = subst (λ z. AreObjects z followed → IsExactly list (IsMoved z (move_of u z e) followed t)) p x in
+    let two = subst (λ z. AreObjects d followed → IsExactly list (IsMoved d (move_of z d e) followed t)) q one in
+    subst (λ z. AreObjects d followed → IsExactly list (IsMoved d (move_of v d z) followed t)) r two

@@ -1,5 +1,5 @@
 pub mod Tuples
 pub mod Lists
-pub mod Moves
+pub mod MovedTuples
 pub mod Events
 pub mod Calls

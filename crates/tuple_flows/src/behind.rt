@@ -9,6 +9,7 @@ ghost use Rattle.tuple_flows.specs.Behind.{IsBehind, chosen_tuple};
 ghost use Rattle.tuple_flows.specs.Moved.{AreObjects};
 
 use crate::moves::moved;
+use crate::parts::{of_none, of_object};
 use applied_rules::EventRules;
 use objects::{Object, copy};
 use state_tuples::Tuple;
@@ -21,17 +22,9 @@ fn chosen(rules: &EventRules, is_root: bool, next: u16, tuple: &Tuple) -> Tuple
     match &tuple.object {
         Some(object) => {
             let state = rules.next_state(is_root, tuple.global, object, tuple.state);
-            Tuple {
-                global: next,
-                object: Some(copy(object)),
-                state,
-            }
+            of_object(next, copy(object), state)
         }
-        None => Tuple {
-            global: next,
-            object: None,
-            state: None,
-        },
+        None => of_none(next),
     }
 }
 

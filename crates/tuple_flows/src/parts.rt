@@ -1,11 +1,37 @@
 //! Tuples with another object.
 
-ghost use Rattle.std.specs.Prelude.{◌≡◌, map, IfOk};
+ghost use Rattle.std.specs.Prelude.{◌≡◌, None, Some, map, IfOk};
 ghost use Rattle.tuple_flows.specs.Facts.{with_object, without_object};
 
 use objects::{Object, copy};
 use state_tuples::Tuple;
 use std::alloc::{AllocError, Global};
+
+/// The tuple of a global state and of an object with its state, if that is known.
+pub(crate) fn of_object(global: u16, object: Object, state: Option<(u8, u16)>) -> Tuple
+    ensures global { result.global ≡ global }
+    ensures object { result.object ≡ Some object }
+    ensures state { result.state ≡ state }
+{
+    Tuple {
+        global,
+        object: Some(object),
+        state,
+    }
+}
+
+/// The tuple of a global state alone.
+pub(crate) fn of_none(global: u16) -> Tuple
+    ensures global { result.global ≡ global }
+    ensures object { result.object ≡ None }
+    ensures state { result.state ≡ None }
+{
+    Tuple {
+        global,
+        object: None,
+        state: None,
+    }
+}
 
 /// This object in the states of a tuple; unknown where that has no object.
 pub(crate) fn with_object(tuple: &Tuple, object: Object) -> Tuple

@@ -1,6 +1,6 @@
 //! Tuples at entries of callees, and behind calls.
 
-ghost use Rattle.std.specs.Prelude.{◌≡◌, ◌↔◌, ◌≤◌, [], ◌∷◌, IfOk, IsTrue};
+ghost use Rattle.std.specs.Prelude.{◌≡◌, ◌↔◌, ◌≤◌, [], ◌∷◌, None, true, IfOk};
 ghost use Rattle.checker_model.specs.Calls.{into, out};
 ghost use Rattle.checker_model.specs.Happenings.{Function, Site as Form};
 ghost use Rattle.checker_model.specs.Reports.{Checker};
@@ -17,7 +17,7 @@ use std::alloc::{AllocError, Global};
 
 // Whether both are one object, or both none.
 fn are_same(a: &Option<Object>, b: &Option<Object>) -> bool
-    ensures { IsTrue result ↔ (a.now ≡ b.now) }
+    ensures { (result ≡ true) ↔ (a.now ≡ b.now) }
 {
     *a == *b
 }
@@ -55,6 +55,22 @@ fn entered(
     Ok(list)
 }
 
+// The tuples with which a callee is entered where one without an object stands before the call.
+fn entered_none(
+    alloc: Global,
+    site: &Site,
+    depth: u8,
+    tuple: &Tuple,
+    callee_objects: &[Object],
+) -> Result<Vec<Tuple>, AllocError>
+    requires { depth ≤ 8 }
+    ensures { IfOk result (λ list. tuple.now.object ≡ None → (c : Checker) (s : Form) (callee : Function) → c.depth ≡ depth → IsSite depth site.now s → IsExactly list.items (IsEntered c s callee callee_objects.now tuple.now)) }
+{
+    let mut list = entered(alloc, site, depth, tuple, callee_objects)?;
+    list.push(without_object(tuple))?;
+    Ok(list)
+}
+
 /// The tuples with which a callee is entered where this one stands before the call, among the objects that are followed in the callee.
 pub fn into_call(
     alloc: Global,
@@ -66,11 +82,10 @@ pub fn into_call(
     requires { depth ≤ 8 }
     ensures { IfOk result (λ list. (c : Checker) (s : Form) (callee : Function) → c.depth ≡ depth → IsSite depth site.now s → IsExactly list.items (IsEntered c s callee callee_objects.now tuple.now)) }
 {
-    let mut list = entered(alloc, site, depth, tuple, callee_objects)?;
-    if tuple.object.is_none() {
-        list.push(without_object(tuple))?;
+    match &tuple.object {
+        Some(_) => entered(alloc, site, depth, tuple, callee_objects),
+        None => entered_none(alloc, site, depth, tuple, callee_objects),
     }
-    Ok(list)
 }
 
 // Those of the caller's objects that have their state from the object of a tuple, in the states of the tuple.
