@@ -68,8 +68,7 @@ module _ (c : Checker) (f : Function) (k : Bool) (followed : List Object) where
 
   pub way-end : (hs left : List Happening) (t : Tuple) (now : List Tuple) → left ≡ [] → OnWay hs left t now → IsExactly now (IsEnd c hs f k followed t)
   way-end hs left t now e s =
-      let at = subst (λ z. OnWay hs z t now) e s in
-      (
+      let at = subst (λ z. OnWay hs z t now) e s in (
         λ u m. ends-stand (model c) (origins c) (listed c followed) f k hs t.global (fact_in t) (standing now) at u.global (fact_in u) (u, m, refl, refl),
         λ u w. found u (stands-end (model c) (origins c) (listed c followed) f k hs t.global (fact_in t) (standing now) at u.global (fact_in u) w),
       )

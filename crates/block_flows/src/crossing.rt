@@ -8,8 +8,8 @@ ghost use Rattle.checker_model.specs.Reports.{Checker};
 ghost use Rattle.least_set.specs.Logs.{IsExactly, IsOnce};
 ghost use Rattle.tuple_flows.specs.Moved.{AreObjects};
 
-use crate::fronts::{first, next};
-use crate::sets::in_order;
+use crate::fronts::{copies, first, next};
+use crate::sets::items;
 use applied_rules::EventRules;
 use objects::Object;
 use state_tuples::Tuple;
@@ -29,8 +29,10 @@ pub fn ends(
 {
     let mut now = first(alloc, tuple)?;
     for event in rules {
-        let behind = next(alloc, event, is_root, now.as_slice(), followed)?;
-        now = in_order(alloc, behind)?;
+        let left = items(&now);
+        let behind = next(alloc, event, is_root, left, followed)?;
+        now = behind;
     }
-    Ok(now)
+    let all = items(&now);
+    copies(alloc, all)
 }

@@ -16,30 +16,44 @@ use state_tuples::Tuple;
 use std::alloc::{AllocError, Global};
 use tuple_flows::over_event;
 
+// An equal object, if there is one.
+pub(crate) fn copy_object(object: &Option<Object>) -> Option<Object>
+    ensures { result ≡ object.now }
+{
+    match object {
+        Some(object) => Some(copy(object)),
+        None => None,
+    }
+}
+
 // An equal tuple.
 fn copy_tuple(tuple: &Tuple) -> Tuple
     ensures { result ≡ tuple.now }
 {
-    match &tuple.object {
-        Some(object) => Tuple {
-            global: tuple.global,
-            object: Some(copy(object)),
-            state: tuple.state,
-        },
-        None => Tuple {
-            global: tuple.global,
-            object: None,
-            state: None,
-        },
+    Tuple {
+        global: tuple.global,
+        object: copy_object(&tuple.object),
+        state: tuple.state,
     }
 }
 
 /// The tuple alone, before the first event.
-pub(crate) fn first(alloc: Global, tuple: &Tuple) -> Result<Vec<Tuple>, AllocError>
-    ensures { IfOk result (λ list. list.items ≡ tuple.now ∷ []) }
+pub(crate) fn first(alloc: Global, tuple: &Tuple) -> Result<IndexSet<Tuple>, AllocError>
+    ensures { IfOk result (λ set. set.keys ≡ tuple.now ∷ []) }
+{
+    let mut set = IndexSet::new(alloc);
+    set.insert(copy_tuple(tuple))?;
+    Ok(set)
+}
+
+/// Equal tuples.
+pub(crate) fn copies(alloc: Global, tuples: &[Tuple]) -> Result<Vec<Tuple>, AllocError>
+    ensures { IfOk result (λ list. list.items ≡ tuples.now) }
 {
     let mut list = Vec::new(alloc);
-    list.push(copy_tuple(tuple))?;
+    for tuple in tuples {
+        list.push(copy_tuple(tuple))?;
+    }
     Ok(list)
 }
 

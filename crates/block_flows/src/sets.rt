@@ -5,7 +5,7 @@ ghost use Rattle.least_set.specs.Logs.{Adds, IsOnce};
 
 use indexmap::IndexSet;
 use least_set::Key;
-use std::alloc::{AllocError, Global};
+use std::alloc::AllocError;
 
 /// Puts last those that aren't there yet.
 pub(crate) fn add_all<T: Key>(set: &mut IndexSet<T>, found: Vec<T>) -> Result<(), AllocError>
@@ -18,14 +18,9 @@ pub(crate) fn add_all<T: Key>(set: &mut IndexSet<T>, found: Vec<T>) -> Result<()
 }
 
 /// The values of a set, each once.
-pub(crate) fn in_order<T: Key>(alloc: Global, set: IndexSet<T>) -> Result<Vec<T>, AllocError>
-    ensures same { IfOk result (λ list. list.items ≡ set.keys) }
-    ensures once { IfOk result (λ list. IsOnce list.items) }
+pub(crate) fn items<T: Key>(set: &IndexSet<T>) -> &[T]
+    ensures keys { result.now ≡ set.now.keys }
+    ensures once { IsOnce result.now }
 {
-    let _different = set.len();
-    let mut list = Vec::new(alloc);
-    for value in set {
-        list.push(value)?;
-    }
-    Ok(list)
+    set.as_slice()
 }

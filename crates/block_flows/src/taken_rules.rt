@@ -12,10 +12,10 @@ ghost use Rattle.least_set.specs.Logs.{IsExactly, SomeGives};
 ghost use Rattle.rule_choices.specs.Values.{taken_of};
 ghost use Rattle.tuple_flows.specs.Moved.{AreObjects};
 
-use crate::fronts::{first, next};
-use crate::sets::in_order;
+use crate::fronts::{copy_object, first, next};
+use crate::sets::items;
 use applied_rules::EventRules;
-use objects::{Object, copy};
+use objects::Object;
 use state_tuples::{Fired, Tuple};
 use std::alloc::{AllocError, Global};
 use tuple_flows::moved;
@@ -56,16 +56,6 @@ fn acted<'r, 'm, 'a>(
     }
 }
 
-// An equal object, if there is one.
-fn copy_of(object: &Option<Object>) -> Option<Object>
-    ensures { result ≡ object.now }
-{
-    match object {
-        Some(object) => Some(copy(object)),
-        None => None,
-    }
-}
-
 // Which of these tuples behind an event's move take a rule with an action.
 fn fired_each<'r, 'm, 'a>(
     alloc: Global,
@@ -78,13 +68,14 @@ fn fired_each<'r, 'm, 'a>(
 {
     let mut list = Vec::new(alloc);
     for tuple in tuples {
-        if let Some(taken) = acted(rules, is_root, tuple) {
-            list.push(Firing {
-                event: number,
-                object: copy_of(&tuple.object),
-                taken,
-            })?;
-        }
+        let Some(taken) = acted(rules, is_root, tuple) else {
+            continue;
+        };
+        list.push(Firing {
+            event: number,
+            object: copy_object(&tuple.object),
+            taken,
+        })?;
     }
     Ok(list)
 }
@@ -146,10 +137,11 @@ pub fn firings<'r, 'm, 'a>(
     let mut now = first(alloc, tuple)?;
     let mut list = Vec::new(alloc);
     for (number, event) in rules.iter().enumerate() {
-        let mut more = fired_here(alloc, event, number, is_root, now.as_slice(), followed)?;
+        let left = items(&now);
+        let mut more = fired_here(alloc, event, number, is_root, left, followed)?;
         list.append(&mut more)?;
-        let behind = next(alloc, event, is_root, now.as_slice(), followed)?;
-        now = in_order(alloc, behind)?;
+        let behind = next(alloc, event, is_root, left, followed)?;
+        now = behind;
     }
     Ok(list)
 }
