@@ -13,10 +13,10 @@ pub returns-in_ok-targets-in-Some : goal.returns-in_ok-targets-in-Some
 returns-in_ok-targets-in-Some c =
     let m = move_of (facts_in c.args.unit.now) c.args.depth (event_of c.args.event.now) in
     let t = c.args.tuple.now in
-    let targets = c.in_ok-targets.targets.items in
+    let targets = c.in_ok-targets-in-Some.targets.items in
     if-ok _ _ c.with_objects.result
     (λ list made are. subst (λ l. IsExactly l (IsMoved c.args.depth m c.args.followed.now t)) (sym (made ∙ ap (map (with_object t)) c.as_slice.ensures.value))
-    (of-targets c.args.depth m c.args.followed.now t _ targets c.in-Some.is c.in_ok-targets.ensures))
+    (of-targets c.args.depth m c.args.followed.now t _ targets c.in-Some.is c.in_ok-targets-in-Some.ensures))
     c.with_objects.ensures
 
 pub returns-in-None : goal.returns-in-None
