@@ -1,6 +1,6 @@
 -- What is asked of the rules of an event is what is asked of the checker at that event.
 use Rattle.std.proofs.Common.{◌≡◌, ℕ, nat_eq, Bool, cond, not, ◌||◌, List, map, Option, None, Some, refl, sym, ap, subst, ◌∙◌, Contains}
-use Rattle.std.specs.Prelude.{◌↔◌}
+use Rattle.std.specs.Prelude.{◌↔◌, Vec, Result, Ok, Err, IfOk}
 use Rattle.applied_rules.proofs.BoundObjects.{exactly_bound}
 use Rattle.applied_rules.proofs.MatchedOnce.{matched_once}
 use Rattle.applied_rules.specs.Applied.{applied_at}
@@ -18,6 +18,7 @@ use Rattle.hole_bindings.specs.Settings.{setting_in}
 use Rattle.hole_matching.specs.Holes.{Setting}
 use Rattle.metal_machines.specs.Machine.{Machine}
 use Rattle.rule_choices.specs.Asked.{Asker, GlobalState, ObjectIn, asked_rule}
+use Rattle.rule_choices.specs.declared.fired.Fired.{Fired}
 use Rattle.rule_choices.specs.Values.{taken_of}
 
 module _ (m : Machine) (depth : ℕ) (h : Happening) (f : Function) (r : EventRules) (of : AreOfEvent m depth h f r) where
@@ -49,3 +50,26 @@ module _ (m : Machine) (depth : ℕ) (h : Happening) (f : Function) (r : EventRu
       let list : bound_by (setting_in r.setting) ts ≡ bound_by (scene m depth h f) (applied_at (scene m depth h f) h.event m.rules) =
       ap (λ z. bound_by z ts) of.setting ∙ ap (bound_by (scene m depth h f)) of.applied in
       subst (λ (z : List Object). Contains z o ↔ Binds m depth f h o) (sym list) (exactly_bound m depth h f o)
+
+-- the list of them
+pub all_bound : {A E : Type 0} (r : EventRules) (xs : List Fired) (s : Result (Vec Object A) E) → xs ≡ r.applied.items
+    → IfOk s (λ list. list.items ≡ bound_by (setting_in r.setting) (map taken_of xs))
+    → IfOk s (λ list. (m : Machine) (depth : ℕ) (h : Happening) (f : Function) → AreOfEvent m depth h f r → (o : Object) → Contains list.items o ↔ Binds m depth f h o)
+all_bound r xs (Err e) same h = tt
+all_bound r xs (Ok list) same k = λ m depth h f of o.
+    let items : list.items ≡ bound_by (setting_in r.setting) (map taken_of r.applied.items) = k ∙ ap (λ z. bound_by (setting_in r.setting) (map taken_of z)) same in
+    subst (λ (z : List Object). Contains z o ↔ Binds m depth f h o) (sym items) (bound_is m depth h f r of o)
+
+-- the states behind what is taken
+module _ (m : Machine) (depth : ℕ) (h : Happening) (f : Function) (r : EventRules) (of : AreOfEvent m depth h f r) (is_root : Bool) (state : ℕ) (t : Option Taken) where
+  pub global_behind_is : t ≡ taken_global m depth h f is_root state
+      → if_there t state (λ t. global_behind (target_at (event_of r.event) t.rule.dest) state) ≡ next_global m depth h f is_root state
+  global_behind_is e =
+      ap (λ z. if_there z state (λ t. global_behind (target_at (event_of r.event) t.rule.dest) state)) e
+      ∙ ap (λ z. if_there (taken_global m depth h f is_root state) state (λ t. global_behind (target_at z t.rule.dest) state)) of.event
+
+  pub object_behind_is : (o : Object) (x : Option State) → t ≡ taken m depth h f is_root state o x
+      → if_there t x (λ t. object_behind (target_at (event_of r.event) t.rule.dest) x) ≡ chosen m depth h f is_root state o x
+  object_behind_is o x e =
+      ap (λ z. if_there z x (λ t. object_behind (target_at (event_of r.event) t.rule.dest) x)) e
+      ∙ ap (λ z. if_there (taken m depth h f is_root state o x) x (λ t. object_behind (target_at z t.rule.dest) x)) of.event

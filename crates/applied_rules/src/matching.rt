@@ -82,7 +82,7 @@ impl<'m, 'a> EventRules<'m, 'a> {
         depth: u8,
     ) -> Result<EventRules<'m, 'a>, AllocError>
         requires { depth ≤ 8 }
-        ensures { IfOk result (λ r. AreOfEvent (machine_view machine.now) depth (happening_in unit.now event) (function_of frame.now) r) }
+        ensures { IfOk result (λ r. AreOfEvent (machine_view machine.now) depth (happening_in unit.now event.entry) (function_of frame.now) r) }
     {
         let setting = Setting::new(machine, unit, frame.name, depth);
         let applied = applied_at(alloc, &setting, &event, machine.rules)?;

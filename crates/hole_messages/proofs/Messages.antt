@@ -1,6 +1,6 @@
 -- Messages are written piece by piece.
 use Rattle.std.proofs.Common.{arith, ◌<◌, length, get_or, ◌≡◌, ℕ, ◌+◌, List, [], ◌∷◌, ◌++◌, false, Option, take, drop, map, refl, ◌∙◌, sym, ap}
-use Rattle.std.specs.Prelude.{flat_map, nat_lt, OnErr}
+use Rattle.std.specs.Prelude.{flat_map, OnErr}
 use Rattle.std.specs.Prelude as outcome
 use Rattle.std.proofs.lemmas.Grind.{common_steps}
 use Rattle.std.proofs.lemmas.List.{take-append-drop, drop_more}

@@ -1,8 +1,9 @@
 -- Texts with one blank between them, of which the beginning is kept.
-use Rattle.std.specs.Prelude.{ℕ, List, ◌++◌, take, map, flat_map, Bool, cond, codes}
+use Rattle.std.specs.Prelude.{ℕ, List, [], ◌∷◌, ◌++◌, take, map, flat_map, Bool, false, cond, codes}
 use Rattle.c_objects.specs.Text.{text_of}
+use Rattle.c_tree.specs.declared.place.Place.{Place}
 use Rattle.c_tree.specs.declared.token.Token.{Token}
-use Rattle.hole_matching.specs.Message.{spaced}
+use Rattle.hole_matching.specs.Message.{spaced, is_at}
 use Rattle.hole_messages.specs.declared.spelled.Spelled as code
 
 abbrev pub most_kept : ℕ
@@ -23,3 +24,8 @@ shown s texts = take most_kept (s.bytes.items ++ coming s.is_first texts)
 -- the texts of the names of tokens
 abbrev pub names_spelled : List (List ℕ) → List Token → List (List ℕ)
 names_spelled names tokens = map (λ t. text_of names t.name) tokens
+
+-- the first of these tokens stands at a place
+abbrev pub begins_at : Place → List Token → Bool
+begins_at p [] = false
+begins_at p (t ∷ ts) = is_at p t

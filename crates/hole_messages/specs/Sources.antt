@@ -7,7 +7,7 @@ use Rattle.hole_messages.specs.declared.taken.Source as code
 use Rattle.typed_unit.specs.declared.typed_unit.TypedUnit.{TypedUnit}
 
 abbrev pub source_of : code.Source → Source
-source_of s = record { names = s.names.now; tokens = s.tokens.now }
+source_of s = record { names = s.names.now; tokens = s.unit.now.unit.tokens.now }
 
 -- the texts of these names, and the tokens of a unit
 abbrev pub source_in : TypedUnit → List (List ℕ) → Source

@@ -4,7 +4,7 @@ ghost use Rattle.std.specs.Prelude.{◌≡◌, [], ◌++◌, List, ℕ, take};
 ghost use Rattle.std.specs.Option.{option_map};
 ghost use Rattle.c_tree.specs.Views.{node_of, nodes_in};
 ghost use Rattle.hole_bindings.specs.Bindings.{taken_of};
-ghost use Rattle.hole_matching.specs.Message.{is_at, from_place, subject_spelled, all_spelled, later_spelled, taken_spelled, slot_written};
+ghost use Rattle.hole_matching.specs.Message.{subject_spelled, all_spelled, later_spelled, taken_spelled, slot_written};
 ghost use Rattle.hole_matching.specs.Subjects.{trees};
 ghost use Rattle.hole_messages.specs.Beginnings.{shown, most_kept, names_spelled};
 ghost use Rattle.hole_messages.specs.Sources.{source_of};
@@ -12,37 +12,20 @@ ghost use Rattle.path_subjects.specs.Subjects.{Tree as TreeSubject};
 ghost use Rattle.path_subjects.specs.Values.{subject_of};
 
 use crate::names::name_text;
+use crate::places::from_place;
 use crate::spelled::Spelled;
-use c_tree::{Place, Token, Tree};
+use c_tree::{Token, Tree};
 use hole_bindings::Taken;
 use mx_base::Names;
 use path_subjects::Subject;
 use tree_tokens::tree_tokens;
+use typed_unit::TypedUnit;
 
-/// What messages are written from: the texts of names, and the tokens of the unit.
+/// What messages are written from: the texts of names, and the unit, whose tokens they are.
 #[derive(Clone, Copy)]
 pub(crate) struct Source<'s, 'a> {
     pub names: &'s Names,
-    pub tokens: &'a [Token],
-}
-
-// Whether a token stands at a place.
-fn is_at(place: Place, token: &Token) -> bool
-    ensures { result ≡ is_at place token.now }
-{
-    token.place.file == place.file && token.place.token == place.token
-}
-
-// The tokens from a place on.
-fn from_place(place: Place, tokens: &[Token]) -> &[Token]
-    ensures { result.now ≡ from_place place tokens.now }
-{
-    for i in 0..tokens.len() {
-        if is_at(place, &tokens[i]) {
-            return &tokens[i..];
-        }
-    }
-    &[]
+    pub unit: &'s TypedUnit<'a>,
 }
 
 // Appends the spellings of tokens.
@@ -58,7 +41,7 @@ fn push_tokens(names: &Names, tokens: &[Token], into: &mut Spelled)
 fn push_tree(source: &Source, tree: &Tree, into: &mut Spelled)
     ensures { (rest : List (List ℕ)) → shown into.new rest ≡ shown into.old (subject_spelled (source_of source.now) (TreeSubject (node_of tree.now)) ++ rest) }
 {
-    let tokens = tree_tokens(tree, from_place(tree.first, source.tokens));
+    let tokens = tree_tokens(tree, from_place(source.unit, tree.first));
     push_tokens(source.names, tokens, into);
 }
 

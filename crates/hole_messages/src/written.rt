@@ -54,10 +54,9 @@ fn write_hole(
         let text = object_text(alloc, setting.unit, names, object)?;
         return write_short(text.as_bytes(), into);
     }
-    let unit = setting.unit;
     let source = Source {
         names,
-        tokens: unit.unit.tokens,
+        unit: setting.unit,
     };
     let text = slot_text(&source, binding.slot(hole));
     write_short(text.as_bytes(), into)

@@ -50,7 +50,7 @@ pub fn is_global_asked(event: &Event, is_root: bool) -> bool
 }
 
 /// The rule that the global state takes at an event, where objects have at most `depth` steps. It takes no memory.
-#[tactic(auto, using(crate::proofs::Scenes::global_taken, crate::proofs::Scenes::same_first, crate::proofs::Numbered::all_numbered))]
+#[tactic(auto, using(crate::proofs::Scenes::global_taken, crate::proofs::Scenes::same_first))]
 pub fn fired_global<'m, 'a>(
     machine: &Machine<'m>,
     event: &Event<'a>,
@@ -83,7 +83,7 @@ pub fn asked_object<'o>(object: &'o Object, state: Option<(u8, u16)>) -> Asked<'
 
 /// The rule that an object takes at an event, by its state behind the event's move; `None` where that is unknown. Objects have at most
 /// `depth` steps. It takes no memory.
-#[tactic(auto, using(crate::proofs::Scenes::object_taken, crate::proofs::Scenes::same_first, crate::proofs::Numbered::all_numbered))]
+#[tactic(auto, using(crate::proofs::Scenes::object_taken, crate::proofs::Scenes::same_first))]
 pub fn fired<'m, 'a>(
     machine: &Machine<'m>,
     event: &Event<'a>,

@@ -3,7 +3,7 @@
 ghost use Rattle.std.specs.Prelude.{◌≡◌, ◌≤◌};
 ghost use Rattle.checker_model.specs.Choices.{next_global, chosen};
 ghost use Rattle.metal_tree.specs.Whole.{machine_view};
-ghost use Rattle.state_tuples.specs.Tuples.{next_tuple};
+ghost use Rattle.state_tuples.specs.Tuples.{state_behind};
 ghost use Rattle.state_tuples.specs.Values.{happening_in, function_of};
 
 use crate::choices::{fired, fired_global};
@@ -63,7 +63,9 @@ pub fn next_tuple<'m, 'a>(
     depth: u8,
 ) -> Tuple
     requires { depth ≤ 8 }
-    ensures { result ≡ next_tuple (machine_view machine.now) depth (happening_in unit.now event.now) (function_of frame.now) frame.now.is_root tuple.now }
+    ensures global { result.global ≡ next_global (machine_view machine.now) depth (happening_in unit.now event.now) (function_of frame.now) frame.now.is_root tuple.now.global }
+    ensures object { result.object ≡ tuple.now.object }
+    ensures state { result.state ≡ state_behind (machine_view machine.now) depth (happening_in unit.now event.now) (function_of frame.now) frame.now.is_root tuple.now }
 {
     let global = next_global(machine, event, unit, frame, depth, tuple.global);
     match &tuple.object {

@@ -1,0 +1,5 @@
+pub mod Answered
+pub mod Complete
+pub mod Examples
+pub mod Sound
+pub mod Steps

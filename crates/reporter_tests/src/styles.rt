@@ -1,0 +1,78 @@
+//! Both styles, and the line, as they were written down by hand.
+
+use c_tree::Place;
+use mx_base::Text;
+use path_model::Report;
+use reporters::{JsonLines, Reporter, Table, place_of, render_at, write_line};
+use std::alloc::{AllocError, Global};
+use std::test::Fail;
+
+/// A use of `p` behind its free.
+fn after_free(alloc: Global) -> Result<Report, AllocError> {
+    Ok(Report {
+        place: Place { file: 0, token: 9 },
+        file: Text::from_bytes(alloc, b"a.c")?,
+        line: 1,
+        col: 28,
+        checker: 0,
+        checker_name: Text::from_bytes(alloc, b"free_checker")?,
+        rule: 2,
+        object: Some(Text::from_bytes(alloc, b"p")?),
+        message: Text::from_bytes(alloc, b"using p after free!")?,
+    })
+}
+
+/// What the reporter of a name renders, of a table and lines of JSON of which each holds a report.
+fn rendered(alloc: Global, name: &str, reports: &[Report]) -> Result<Vec<u8>, AllocError> {
+    let held = after_free(alloc)?;
+    let mut table = Table::new(alloc);
+    table.take(&held)?;
+    let mut lines = JsonLines::new(alloc);
+    lines.take(&held)?;
+    let mut reporters: Vec<Box<dyn Reporter>> = Vec::new(alloc);
+    reporters.push(Box::new(alloc, table)?)?;
+    reporters.push(Box::new(alloc, lines)?)?;
+    match place_of(&reporters, name.as_bytes()) {
+        None => Ok(Vec::new(alloc)),
+        Some(place) => render_at(&mut reporters, place, reports),
+    }
+}
+
+#[test]
+fn both_styles(rt: HostRuntime) -> Result<(), Fail> {
+    let alloc = rt.alloc();
+    let reports = [after_free(alloc)?];
+    let table = rendered(alloc, "table", &reports)?;
+    assert_eq!(rt;
+        table.as_slice(),
+        b"       1:28    free_checker         a.c: using p after free!\n1 reports\n".as_slice()
+    );
+    let lines = rendered(alloc, "json", &reports)?;
+    assert_eq!(rt;
+        lines.as_slice(),
+        b"{\"file\":\"a.c\",\"line\":1,\"col\":28,\"checker\":\"free_checker\",\"rule\":2,\"object\":\"p\",\"message\":\"using p after free!\"}\n".as_slice()
+    );
+    Ok(())
+}
+
+#[test]
+fn no_report(rt: HostRuntime) -> Result<(), Fail> {
+    let alloc = rt.alloc();
+    let table = rendered(alloc, "table", &[])?;
+    assert_eq!(rt; table.as_slice(), b"0 reports\n".as_slice());
+    let lines = rendered(alloc, "json", &[])?;
+    assert!(rt; lines.is_empty());
+    Ok(())
+}
+
+#[test]
+fn a_line(rt: HostRuntime) -> Result<(), Fail> {
+    let alloc = rt.alloc();
+    let mut line = Text::new(alloc);
+    write_line(&after_free(alloc)?, &mut line)?;
+    assert_eq!(rt;
+        line.as_bytes(),
+        b"a.c:1:28: free_checker: using p after free!\n".as_slice()
+    );
+    Ok(())
+}

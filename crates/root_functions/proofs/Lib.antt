@@ -1,0 +1,4 @@
+mod Texts
+mod Leading
+mod Listing
+mod Carried

@@ -1,0 +1,10 @@
+-- The roots of a program under a checker, by their numbers.
+use Rattle.std.specs.Prelude.{ℕ, List, length}
+use Rattle.checker_programs.specs.Roots.{IsRoot, IsUncalled}
+use Rattle.checker_programs.specs.Texts.{Text, functions_in}
+use Rattle.graph_roots.specs.Listed.{AreListed}
+use Rattle.metal_machines.specs.Machine.{Machine}
+
+-- THE LIST OF ROOTS: each once, first those to which no followed call leads, then the others, both in source order.
+abbrev pub AreRoots : Machine → List Text → List ℕ → Type 0
+AreRoots m ts roots = AreListed (IsUncalled m ts) (IsRoot m ts) (length (functions_in ts)) roots
