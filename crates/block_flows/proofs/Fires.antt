@@ -27,16 +27,17 @@ use Rattle.tuple_flows.proofs.Tuples.{tuple_of, tuple_of-fact, tuple_of-global}
 
 -- lists of what some values give
 module _ {T B : Type 0} (F : T → Option B) where
+  front : (x : T) (xs : List T) (b : B) (o : Option B) → F x ≡ o → Contains (cons_option o (filter_map F xs)) b
+      → (Contains (filter_map F xs) b → (y : T) × Contains xs y × (F y ≡ Some b)) → (y : T) × Contains (x ∷ xs) y × (F y ≡ Some b)
+  front x xs b None e m later = let r = later m in (r.0, contains-later x r.0 xs r.1, r.2)
+  front x xs b (Some d) e m later = elim (contains-cases d b (filter_map F xs) m) [
+    | inl s ↦ (x, contains-first x xs, e ∙ ap Some s)
+    | inr k ↦ let r = later k in (r.0, contains-later x r.0 xs r.1, r.2)
+  ]
+
   pub gives-some : (xs : List T) (b : B) → Contains (filter_map F xs) b → (x : T) × Contains xs x × (F x ≡ Some b)
   gives-some [] b m = absurd (nothing b m)
-  gives-some (x ∷ xs) b m = by (F x) refl m
-    where
-      later : Contains (filter_map F xs) b → (x' : T) × Contains (x ∷ xs) x' × (F x' ≡ Some b)
-      later n = let r = gives-some xs b n in (r.0, contains-later x r.0 xs r.1, r.2)
-
-      by : (o : Option B) → F x ≡ o → Contains (cons_option o (filter_map F xs)) b → (x' : T) × Contains (x ∷ xs) x' × (F x' ≡ Some b)
-      by None e n = later n
-      by (Some d) e n = elim (contains-cases d b (filter_map F xs) n) [ inl s ↦ (x, contains-first x xs, e ∙ ap Some s) | inr k ↦ later k ]
+  gives-some (x ∷ xs) b m = front x xs b (F x) refl m (λ n. gives-some xs b n)
 
   pub some-gives : (xs : List T) (x : T) (b : B) → Contains xs x → F x ≡ Some b → Contains (filter_map F xs) b
   some-gives [] x b m e = absurd (nothing x m)
@@ -92,7 +93,7 @@ mapped : {A B : Type 0} (g : A → B) (o : Option A) (b : B) → option_map g o 
 mapped g None b h = cc
 mapped g (Some a) b h = (a, refl, cc)
 
-abbrev fire : ℕ → Option Object → Taken → Fire
+abbrev pub fire : ℕ → Option Object → Taken → Fire
 fire n o r = record { event = n; object = o; taken = r }
 
 module _ (c : Checker) (f : Function) (k : Bool) (followed : List Object) where

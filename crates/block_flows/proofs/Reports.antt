@@ -32,10 +32,10 @@ module _ (c : Checker) (f : Function) where
       let g = given q if_acting a e in
       g.1 ∙ (tested (is_some g.0.rule.action) (Some g.0) a g.2).1
 
-  acts-is : (h : Happening) (o : Option Object) (q : Option Taken) (r : Report) → (q >? report_of c h f o) ≡ Some r → (a : Taken) × (acting q ≡ Some a) × Says h o a r
+  pub acts-is : (h : Happening) (o : Option Object) (q : Option Taken) (r : Report) → (q >? report_of c h f o) ≡ Some r → (a : Taken) × (acting q ≡ Some a) × Says h o a r
   acts-is h o q r e = let g = given q (report_of c h f o) r e in (g.0, ap acting g.1 ∙ acts h o g.0 r g.2, g.2)
 
-  is-acts : (h : Happening) (o : Option Object) (q : Option Taken) (r : Report) → (a : Taken) × (acting q ≡ Some a) × Says h o a r → (q >? report_of c h f o) ≡ Some r
+  pub is-acts : (h : Happening) (o : Option Object) (q : Option Taken) (r : Report) → (a : Taken) × (acting q ≡ Some a) × Says h o a r → (q >? report_of c h f o) ≡ Some r
   is-acts h o q r (a, p, s) = ap (λ z. z >? report_of c h f o) (taken-is q a p) ∙ s
 
   -- A REPORT IS SHOWN on the way of a tuple exactly where a rule with an action is taken there that says it

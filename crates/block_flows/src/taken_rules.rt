@@ -33,7 +33,7 @@ pub struct Firing<'r, 'm, 'a> {
 
 // Only a rule with an action.
 fn acting<'r, 'm, 'a>(taken: Option<&'r Fired<'m, 'a>>) -> Option<&'r Fired<'m, 'a>>
-    ensures { option_map (λ t. taken_of t.now) result ≡ acting (option_map (λ t. taken_of t.now) taken) }
+    ensures { option_map (λ t. taken_of t.now) result ≡ acting (option_map (λ t. taken_of t.now) taken.entry) }
 {
     let taken = taken?;
     match &taken.rule.action {
