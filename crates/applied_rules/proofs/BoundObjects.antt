@@ -1,5 +1,5 @@
 -- The objects of all bindings are exactly those that alternatives bind.
-use Rattle.std.proofs.Common.{arith, ◌≡◌, ◌⊎◌, inl, inr, ℕ, zero, suc, ◌+◌, ◌≤◌, List, [], ◌∷◌, ◌++◌, length, take, Contains, Option, None, Some, refl, sym, ap, subst, ◌∙◌, add-one, append_assoc, append-nil, ◌&&◌, ◌||◌, not}
+use Rattle.std.proofs.Common.{arith, ◌≡◌, inl, inr, ℕ, zero, suc, ◌+◌, ◌≤◌, List, [], ◌∷◌, ◌++◌, length, take, Contains, Option, None, Some, refl, sym, ap, subst, ◌∙◌, add-one, append_assoc, append-nil, ◌&&◌, ◌||◌, not}
 use Rattle.std.specs.Prelude.{◌↔◌, flat_map}
 use Rattle.std.specs.Option.{option_map, option_to_list}
 use Rattle.std.proofs.lemmas.List.{take_all}

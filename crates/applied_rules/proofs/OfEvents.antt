@@ -1,5 +1,5 @@
 -- What is asked of the rules of an event is what is asked of the checker at that event.
-use Rattle.std.proofs.Common.{◌≡◌, ℕ, nat_eq, Bool, cond, not, ◌||◌, List, map, Option, None, Some, refl, sym, ap, subst, ◌∙◌, Contains}
+use Rattle.std.proofs.Common.{◌≡◌, ℕ, nat_eq, Bool, cond, not, ◌||◌, List, map, Option, None, sym, ap, subst, ◌∙◌, Contains}
 use Rattle.std.specs.Prelude.{◌↔◌, Vec, Result, Ok, Err, IfOk}
 use Rattle.applied_rules.proofs.BoundObjects.{exactly_bound}
 use Rattle.applied_rules.proofs.MatchedOnce.{matched_once}
@@ -9,13 +9,11 @@ use Rattle.applied_rules.specs.Events.{AreOfEvent}
 use Rattle.applied_rules.specs.Firsts.{picked, first_taken}
 use Rattle.applied_rules.specs.declared.rules.EventRules.{EventRules}
 use Rattle.c_objects.specs.Objects.{Object}
-use Rattle.c_paths.specs.Events.{Event}
 use Rattle.c_typing.specs.Options.{if_there}
 use Rattle.checker_model.specs.Choices.{State, Taken, Binds, stop, first_some, is_asked, is_global_asked, scene, taken, taken_global, target_at, global_behind, object_behind, next_global, chosen}
 use Rattle.checker_model.specs.Happenings.{Function, Happening}
 use Rattle.flow_graph.specs.Values.{event_of}
 use Rattle.hole_bindings.specs.Settings.{setting_in}
-use Rattle.hole_matching.specs.Holes.{Setting}
 use Rattle.metal_machines.specs.Machine.{Machine}
 use Rattle.rule_choices.specs.Asked.{Asker, GlobalState, ObjectIn, asked_rule}
 use Rattle.rule_choices.specs.declared.fired.Fired.{Fired}

@@ -3,7 +3,7 @@ use Rattle.std.proofs.Common.{◌≡◌, ℕ, Bool, true, false, cond, Option, N
 use Rattle.c_objects.specs.Objects.{Object}
 use Rattle.c_paths.specs.Events.{Event}
 use Rattle.c_typing.specs.Options.{if_there, ◌>?◌}
-use Rattle.checker_model.specs.Choices.{State, Taken, by_alternative, target_at, from_global, leads_to_global, variable_of, binds}
+use Rattle.checker_model.specs.Choices.{Taken, by_alternative, target_at, from_global, leads_to_global, variable_of, binds}
 use Rattle.hole_matching.specs.Holes.{Setting}
 use Rattle.metal_machines.specs.Machine.{Target, ToGlobal, ToObject, ToUnknown, Rule}
 use Rattle.rule_choices.specs.Asked.{Asker, GlobalState, ObjectIn, asked_rule, may_take, fits}

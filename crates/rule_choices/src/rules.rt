@@ -1,6 +1,6 @@
 //! The first of the rules that is taken, and the first of its alternatives.
 
-ghost use Rattle.std.specs.Prelude.{◌≡◌, map, IfSome};
+ghost use Rattle.std.specs.Prelude.{◌≡◌, IfSome};
 ghost use Rattle.std.specs.Option.{option_map};
 ghost use Rattle.checker_model.specs.Choices.{first_some, by_alternative};
 ghost use Rattle.flow_graph.specs.Values.{event_of};

@@ -1,5 +1,5 @@
 -- What is found under a setting, and of who is asked, is what the definitions find.
-use Rattle.std.proofs.Common.{◌≡◌, ℕ, Bool, false, cond, List, Option, None, refl, sym, ap, subst, ◌∙◌}
+use Rattle.std.proofs.Common.{◌≡◌, ℕ, Bool, false, cond, List, Option, None, sym, ap, subst, ◌∙◌}
 use Rattle.std.specs.Prelude.{IfSome}
 use Rattle.c_objects.specs.Objects.{Object}
 use Rattle.c_paths.specs.Events.{Event}

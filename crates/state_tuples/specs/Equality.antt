@@ -1,5 +1,5 @@
 -- Tuples are equal where their parts are.
-use Rattle.std.proofs.Common.{◌≡◌, ℕ, nat_eq, Bool, true, ◌&&◌, ◌||◌, Option}
+use Rattle.std.proofs.Common.{◌≡◌, nat_eq, Bool, true, ◌&&◌, ◌||◌, Option}
 use Rattle.std.proofs.Math.Bool.{Bool-set}
 use Rattle.std.proofs.Math.Path.{PathP, to_path_p}
 use Rattle.std.proofs.lemmas.Bool.{eqb-true}
