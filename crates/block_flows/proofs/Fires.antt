@@ -8,7 +8,7 @@ use Rattle.block_flows.specs.Firings.{acting, ObjectActs, GlobalActs, Fire, Take
 use Rattle.block_flows.proofs.Standing.{standing, alone, no-other, walks}
 use Rattle.c_objects.specs.Objects.{Object}
 use Rattle.c_typing.specs.Options.{if_there}
-use Rattle.checker_model.specs.Checkers.{model, origins, source_at}
+use Rattle.checker_model.specs.Checkers.{model, origins}
 use Rattle.checker_model.specs.Choices.{State, Taken, taken, taken_global}
 use Rattle.checker_model.specs.Happenings.{Function, Happening}
 use Rattle.checker_model.specs.Moves.{move_of}
@@ -17,13 +17,13 @@ use Rattle.event_walks.specs.Happenings.{HappensHere, ToObject, ToGlobal, Noted,
 use Rattle.event_walks.proofs.Noting.{noted-start, noted-next, noted-end}
 use Rattle.least_set.specs.Logs.{IsExactly, SomeGives}
 use Rattle.least_set.proofs.Growing.{nothing}
-use Rattle.path_theory.specs.Facts.{FactOf, NoObject, HasObject, Gives, IfNoObject}
+use Rattle.path_theory.specs.Facts.{FactOf, NoObject, HasObject}
 use Rattle.state_tuples.specs.declared.tuple.Tuple.{Tuple}
 use Rattle.tuple_flows.specs.Behind.{IsBehind}
 use Rattle.tuple_flows.specs.Facts.{fact_of, fact_in, listed}
 use Rattle.tuple_flows.specs.Moved.{MoveFlow, MovesNone, MovesObject, IsMoved}
 use Rattle.tuple_flows.proofs.Lists.{contains-first, contains-later, contains-cases}
-use Rattle.tuple_flows.proofs.Tuples.{tuple_of, tuple_of-fact, tuple_of-global}
+use Rattle.tuple_flows.proofs.Tuples.{tuple_of}
 
 -- lists of what some values give
 module _ {T B : Type 0} (F : T → Option B) where

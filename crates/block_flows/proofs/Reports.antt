@@ -1,9 +1,9 @@
 -- THE REPORTS on the way of a tuple are those of the rules with an action that it takes there.
-use Rattle.std.proofs.Common.{◌≡◌, ◌↔◌, ℕ, Bool, true, false, cond, List, Option, None, Some, refl, sym, ap, subst, ◌∙◌}
+use Rattle.std.proofs.Common.{◌≡◌, ◌↔◌, ℕ, Bool, cond, List, Option, None, Some, ap, ◌∙◌}
 use Rattle.std.specs.Option.{option_map}
 use Rattle.std.specs.Prelude.{is_some}
 use Rattle.c_paths.specs.EventPlaces.{event_place}
-use Rattle.block_flows.specs.Firings.{if_acting, acting, ObjectActs, GlobalActs, TakenAt}
+use Rattle.block_flows.specs.Firings.{if_acting, acting, ObjectActs, GlobalActs}
 use Rattle.c_objects.specs.Objects.{Object}
 use Rattle.c_typing.specs.Options.{◌>?◌}
 use Rattle.checker_model.proofs.Sources.{given, tested}

@@ -1,5 +1,5 @@
 -- The tuples that stand between two events of a block.
-use Rattle.std.proofs.Common.{◌≡◌, ◌⊎◌, inl, inr, ℕ, Bool, List, [], ◌∷◌, Contains, refl, sym, ap, subst, ◌∙◌}
+use Rattle.std.proofs.Common.{◌≡◌, inl, inr, ℕ, Bool, List, [], ◌∷◌, Contains, refl, sym, ap, subst, ◌∙◌}
 use Rattle.block_flows.specs.Ends.{IsEnd}
 use Rattle.c_objects.specs.Objects.{Object}
 use Rattle.checker_model.specs.Checkers.{model, origins}

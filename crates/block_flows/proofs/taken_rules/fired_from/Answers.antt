@@ -1,6 +1,6 @@
-use Rattle.std.proofs.Common.{◌∙◌, sym, subst, ap, map}
+use Rattle.std.proofs.Common.{◌∙◌, sym, subst, ap}
 use Rattle.std.specs.List.{filter_map}
-use Rattle.block_flows.specs.Firings.{fire_in, fire_of, TakenHere}
+use Rattle.block_flows.specs.Firings.{fire_of, TakenHere}
 use Rattle.block_flows.proofs.Fires.{fires}
 use Rattle.flow_graph.specs.Values.{event_of}
 use Rattle.least_set.specs.Logs.{IsExactly}
