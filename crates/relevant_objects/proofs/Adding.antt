@@ -1,5 +1,5 @@
 -- Objects with the number of their function, put behind others.
-use Rattle.std.proofs.Common.{◌≡◌, ◌⊎◌, inl, inr, ℕ, List, [], ◌∷◌, ◌++◌, Contains, ◌+◌, ◌<◌, length, take, get_or, refl, ◌∙◌, sym, ap, subst, append_assoc}
+use Rattle.std.proofs.Common.{◌≡◌, inl, inr, ℕ, List, [], ◌∷◌, ◌++◌, Contains, ◌+◌, ◌<◌, length, take, get_or, refl, ◌∙◌, sym, ap, subst, append_assoc}
 use Rattle.std.proofs.lemmas.List.Elements.{Contains-append_right}
 use Rattle.c_objects.specs.Objects.{Object}
 use Rattle.c_paths.specs.Membership.{Among}

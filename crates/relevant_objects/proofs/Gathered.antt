@@ -1,6 +1,6 @@
 -- What was gathered from nothing, and where there is no function.
-use Rattle.std.proofs.Common.{◌≡◌, ◌⊎◌, inl, inr, ℕ, List, [], Contains, Option, None, Some, slice_get, refl, ◌∙◌, sym, ap, subst, Result, Ok, Err, IfOk}
-use Rattle.least_set.specs.Logs.{IsExactly, IsOnce, Adds}
+use Rattle.std.proofs.Common.{◌≡◌, ◌⊎◌, inl, inr, ℕ, List, [], Contains, None, Some, slice_get, ◌∙◌, sym, subst, Result, Ok, Err, IfOk}
+use Rattle.least_set.specs.Logs.{IsExactly, Adds}
 use Rattle.least_set.specs.OnePremise.{Follows, FollowsBase, FollowsOne, Least, LeastBase, LeastOne}
 use Rattle.least_set.proofs.Growing.{nothing, either, adds_both}
 use Rattle.relevant_objects.specs.Links.{Member, LinksIn, LinksFrom}

@@ -1,5 +1,5 @@
 -- What is found from the bound objects over right rows are the relevant objects.
-use Rattle.std.proofs.Common.{◌≡◌, ◌↔◌, ℕ, List, Contains, Some, Result, Ok, Err, IfOk}
+use Rattle.std.proofs.Common.{◌≡◌, ◌↔◌, ℕ, List, Contains, Some}
 use Rattle.c_objects.specs.Objects.{Object}
 use Rattle.c_paths.specs.Building.{Graph}
 use Rattle.checker_graphs.specs.Graphs.{AreGraphs, AreApartPlaces, function_at}
@@ -13,7 +13,7 @@ use Rattle.relevant_objects.specs.Links.{Member, LinksFrom}
 use Rattle.relevant_objects.specs.declared.rows.FunctionRow.{FunctionRow}
 use Rattle.relevant_rows.specs.Rows.{AreRows}
 use Rattle.relevant_rows.proofs.Linking.{links-go, goes-link}
-use Rattle.relevant_steps.specs.Steps.{Base, Goes}
+use Rattle.relevant_steps.specs.Steps.{Base}
 use Rattle.relevant_steps.proofs.Found.{found}
 
 -- the least set under rules that are the same

@@ -1,8 +1,7 @@
 -- The links of right rows are the steps of the program.
-use Rattle.std.proofs.Common.{arith, ◌≡◌, ◌⊎◌, inl, inr, ℕ, zero, suc, List, [], ◌∷◌, Contains, length, map, slice_get, cond, Option, None, Some, refl, ◌∙◌, sym, ap, subst}
+use Rattle.std.proofs.Common.{arith, ◌≡◌, ◌⊎◌, inl, inr, ℕ, zero, suc, List, [], ◌∷◌, length, map, slice_get, cond, Option, None, Some, refl, ◌∙◌, sym, ap, subst}
 use Rattle.std.specs.Option.{option_map}
 use Rattle.c_objects.specs.Objects.{Object, if_object, are_static, is_static}
-use Rattle.c_objects.specs.Facts as facts
 use Rattle.c_paths.specs.Building.{Graph}
 use Rattle.c_paths.specs.Events.{Event}
 use Rattle.c_paths.specs.Membership.{Among}
@@ -16,14 +15,13 @@ use Rattle.flow_graph.specs.declared.event.Event as code
 use Rattle.flow_graph.specs.Values.{event_of}
 use Rattle.linked_objects.specs.Linked.{AreLinkedAt, AreLinkedOver}
 use Rattle.linked_objects.proofs.Listed.{among-contains, contains-among}
-use Rattle.objects.specs.Units.{facts_in}
 use Rattle.reached_blocks.specs.Reached.{Happens}
 use Rattle.refine_restore.specs.Sites.{site_of}
-use Rattle.relevant_objects.specs.Links.{Member, LinksAt, LinksInto, LinksBack, LinksOver, LinksIn, LinksFrom}
+use Rattle.relevant_objects.specs.Links.{Member, LinksOver, LinksIn, LinksFrom}
 use Rattle.relevant_objects.specs.declared.rows.FollowedCall.{FollowedCall}
 use Rattle.relevant_objects.specs.declared.rows.FunctionRow.{FunctionRow}
-use Rattle.relevant_rows.specs.Rows.{Passes, HasCall, IsCallOfProgram, IsRow, AreRows}
-use Rattle.relevant_steps.specs.Steps.{IsNumbered, Moves, IsCall, Takes, AtEvent, AtEntry, AtReturn, Goes}
+use Rattle.relevant_rows.specs.Rows.{Passes, IsCallOfProgram, IsRow, AreRows}
+use Rattle.relevant_steps.specs.Steps.{IsNumbered, IsCall, Takes, AtEvent, AtEntry, AtReturn, Goes}
 
 -- ---- lists
 

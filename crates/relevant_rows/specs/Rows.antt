@@ -1,5 +1,5 @@
 -- THE ROWS OF A PROGRAM: for each of its functions what happens in it, and the followed calls from it and into it.
-use Rattle.std.specs.Prelude.{◌≡◌, ◌⊎◌, ℕ, List, Contains, length, map, Some, slice_get}
+use Rattle.std.specs.Prelude.{◌≡◌, ℕ, List, Contains, length, map, Some, slice_get}
 use Rattle.c_paths.specs.Building.{Graph}
 use Rattle.c_paths.specs.Events.{Event}
 use Rattle.checker_model.specs.Happenings.{Function, Site}
