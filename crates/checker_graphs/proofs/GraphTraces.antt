@@ -7,8 +7,8 @@ use Rattle.c_paths.proofs.BuiltGraphs.{built_traces}
 use Rattle.c_paths.proofs.EngineGraphs.{blocks_have_steps}
 use Rattle.c_paths.proofs.SoundDrafts.{built_graph_sound}
 use Rattle.c_typing.specs.Options.{if_there, ◌>?◌}
-use Rattle.checker_graphs.specs.Graphs.{number_at, graph_at, IsFlowGraph, AreGraphs, flow_graphs}
-use Rattle.checker_graphs.proofs.Numbers.{same-file, found-at}
+use Rattle.checker_graphs.specs.Graphs.{number_of, graph_at, IsFlowGraph, AreGraphs, flow_graphs}
+use Rattle.checker_graphs.proofs.Numbers.{defines-file, found-at}
 use Rattle.checker_graphs.proofs.SameTraces.{closed_on}
 use Rattle.checker_model.specs.Checkers.{model, origins}
 use Rattle.checker_model.specs.Happenings.{Function}
@@ -33,23 +33,23 @@ built : (F : Facts) (d : Definition) → IsFlowGraph F d (graph_of F d)
 built F d = record { sound = built_graph_sound F d; traces = built_traces F d }
 
 module _ (ts : List Text) (gs : List Graph) (A : AreGraphs ts gs) where
-  given : (f : Function) (n : ℕ) (g : Graph) → number_at (functions_in ts) f.place ≡ Some n → slice_get gs n ≡ Some g → IsFlowGraph (flow_facts ts f) (definition_of ts f) g
+  given : (f : Function) (n : ℕ) (g : Graph) → number_of (functions_in ts) f ≡ Some n → slice_get gs n ≡ Some g → IsFlowGraph (flow_facts ts f) (definition_of ts f) g
   given f n g e k =
-      let x = found-at (functions_in ts) f.place n e in
+      let x = found-at (functions_in ts) f n e in
       let d = x.found in
-      subst (λ (i : ℕ). IsFlowGraph (facts_of (table_of ts i) i (functions_in ts)) (definition_of ts f) g) (same-file d.place f.place x.same)
+      subst (λ (i : ℕ). IsFlowGraph (facts_of (table_of ts i) i (functions_in ts)) (definition_of ts f) g) (defines-file d f x.same)
       (subst (λ o. IsFlowGraph (flow_facts ts (function_of d)) (if_there o (empty f.place) (with_close ts)) g) (sym x.placed) (A.each n d g x.numbered k))
 
   -- each function, whether it is one of the program or none, has a graph with its traces
   pub graph-fits : (f : Function) → IsFlowGraph (flow_facts ts f) (definition_of ts f) (graph_at ts gs f)
-  graph-fits f = by (number_at (functions_in ts) f.place) refl
+  graph-fits f = by (number_of (functions_in ts) f) refl
     where
-      at : (n : ℕ) → number_at (functions_in ts) f.place ≡ Some n → (o : Option Graph) → slice_get gs n ≡ o
+      at : (n : ℕ) → number_of (functions_in ts) f ≡ Some n → (o : Option Graph) → slice_get gs n ≡ o
           → IsFlowGraph (flow_facts ts f) (definition_of ts f) (if_there o (graph_of (flow_facts ts f) (definition_of ts f)) (λ g. g))
       at n e None k = built (flow_facts ts f) (definition_of ts f)
       at n e (Some g) k = given f n g e k
 
-      by : (o : Option ℕ) → number_at (functions_in ts) f.place ≡ o
+      by : (o : Option ℕ) → number_of (functions_in ts) f ≡ o
           → IsFlowGraph (flow_facts ts f) (definition_of ts f) (if_there (o >? slice_get gs) (graph_of (flow_facts ts f) (definition_of ts f)) (λ g. g))
       by None e = built (flow_facts ts f) (definition_of ts f)
       by (Some n) e = at n e (slice_get gs n) refl

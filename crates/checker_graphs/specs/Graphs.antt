@@ -6,29 +6,28 @@ use Rattle.c_paths.specs.BlockGraphs.{block_graphs}
 use Rattle.c_paths.specs.Facts.{Facts}
 use Rattle.c_paths.specs.SoundGraphs.{IsSoundGraph}
 use Rattle.c_paths.specs.Traces.{Definition}
-use Rattle.c_tree.specs.declared.place.Place.{Place}
 use Rattle.c_typing.specs.Functions.{Defined}
 use Rattle.c_typing.specs.Options.{if_there, ◌>?◌}
 use Rattle.checker_model.specs.Checkers.{model}
 use Rattle.checker_model.specs.Happenings.{Function}
 use Rattle.checker_model.specs.Reports.{Checker}
 use Rattle.checker_programs.specs.Roots.{followed_into, IsRootFunction}
-use Rattle.checker_programs.specs.Texts.{Text, functions_in, function_of, same_place, with_close, definition_of, flow_facts, happening, site}
+use Rattle.checker_programs.specs.Texts.{Text, functions_in, function_of, same_place, defines, with_close, definition_of, flow_facts, happening, site}
 use Rattle.flow_graph.specs.Bodies.{HasTraces}
 use Rattle.path_theory.specs.FlowGraphs.{FlowGraphs}
 
--- the number of the first function at this place
-abbrev pub number_at : List Defined → Place → Option ℕ
-number_at [] p = None
-number_at (d ∷ ds) p = cond (same_place d.place p) (Some 0) (option_map suc (number_at ds p))
+-- the number of a function
+abbrev pub number_of : List Defined → Function → Option ℕ
+number_of [] f = None
+number_of (d ∷ ds) f = cond (defines d f) (Some 0) (option_map suc (number_of ds f))
 
 -- the function with this number
 abbrev pub function_at : List Text → ℕ → Option Function
 function_at ts n = option_map function_of (slice_get (functions_in ts) n)
 
--- THE GRAPH of a function, among those of all functions. Where there is none, that of the plain builder, for which nobody asks.
+-- THE GRAPH of a function, among those of all functions. What is no function of the program has that of an empty body.
 abbrev pub graph_at : List Text → List Graph → Function → Graph
-graph_at ts gs f = if_there (number_at (functions_in ts) f.place >? slice_get gs) (graph_of (flow_facts ts f) (definition_of ts f)) (λ g. g)
+graph_at ts gs f = if_there (number_of (functions_in ts) f >? slice_get gs) (graph_of (flow_facts ts f) (definition_of ts f)) (λ g. g)
 
 -- the graph names its own blocks alone, has each exit alone in its block, and has the traces of this function
 pub record IsFlowGraph (F : Facts) (d : Definition) (g : Graph) : Type 0 where

@@ -41,18 +41,22 @@ trees_of ts file = if_there (slice_get ts file) no_more (λ t. t.trees)
 abbrev pub objects_in : List Text → ℕ → objects.Facts
 objects_in ts file = objects.facts_of (trees_of ts file) (table_of ts file)
 
--- a function is named by the place of its name
+-- a function is known by its name and the place of that
 abbrev pub function_of : Defined → Function
 function_of d = record { place = d.place; name = d.name }
 
 abbrev pub same_place : Place → Place → Bool
 same_place p q = nat_eq p.file q.file && nat_eq p.token q.token
 
-abbrev pub defined_at : List Defined → Place → Option Defined
-defined_at [] p = None
-defined_at (d ∷ ds) p = cond (same_place d.place p) (Some d) (defined_at ds p)
+-- this is where the function is defined
+abbrev pub defines : Defined → Function → Bool
+defines d f = same_place d.place f.place && nat_eq d.name f.name
 
--- its definition; where no function has that place, an empty body, which nobody asks for
+abbrev pub defined_as : List Defined → Function → Option Defined
+defined_as [] f = None
+defined_as (d ∷ ds) f = cond (defines d f) (Some d) (defined_as ds f)
+
+-- its definition; what is no function of the program has an empty body
 abbrev pub empty : Place → Definition
 empty p = record { place = p; body = node 0 p (Statement (Block no_more)); close = p }
 
@@ -60,7 +64,7 @@ abbrev pub with_close : List Text → Defined → Definition
 with_close ts d = record { place = d.place; body = d.body; close = closing_brace (tokens_of ts d.file) (first_of d.body) }
 
 abbrev pub definition_of : List Text → Function → Definition
-definition_of ts f = if_there (defined_at (functions_in ts) f.place) (empty f.place) (with_close ts)
+definition_of ts f = if_there (defined_as (functions_in ts) f) (empty f.place) (with_close ts)
 
 -- what evaluation asks of its file
 abbrev pub flow_facts : List Text → Function → Facts

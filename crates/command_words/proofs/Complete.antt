@@ -3,7 +3,7 @@ use Rattle.std.proofs.Common.{◌≡◌, ℕ, ◌-◌, Bool, true, false, cond, 
 use Rattle.std.specs.List.{list_any, list_all, flat_map}
 use Rattle.command_words.specs.declared.given.Waits.TheVariants.{ForOption, ForDepth, ForFormat}
 use Rattle.command_words.specs.Words.{Setting, DepthApart, DepthJoined, FormatApart, FormatJoined, Stats, spelled, is_setting, is_depth_digit, is_option, starts_with_minus, are_few, depths, formats, marks, IsOnly, depth_or_usual, is_marked, divider, Request, IsRequest}
-use Rattle.command_words.specs.Reading.{Chosen, chosen, turned, turn_of, depth_turn, format_turn, option_turn, reading, request, finished, plainly_finished, nothing_chosen}
+use Rattle.command_words.specs.Reading.{Chosen, chosen, turned, turn_of, depth_turn, format_turn, option_turn, reading, asked, finished, plainly_finished, nothing_chosen}
 use Rattle.command_words.specs.Reading as steps
 
 -- what was set before, as a list
@@ -36,10 +36,10 @@ flag_end false mark h = sym (ap is_marked h)
 flag_end true mark h = sym (ap is_marked h)
 
 finished_here : (d : Option ℕ) (f : Option (List ℕ)) (s : Bool) (files : List (List ℕ)) (n : ℕ) (o : Option (List ℕ)) (t : Bool) → are_few files ≡ true → depth_or_usual d ≡ n → f ≡ o → s ≡ t
-    → finished (chosen ForOption d f s) files ≡ Some (request n o t files)
+    → finished (chosen ForOption d f s) files ≡ Some (asked n o t files)
 finished_here d f s files n o t few a b c =
-    ap (λ q. cond q (Some (request (depth_or_usual d) f s files)) None) few
-    ∙ ap (λ x. Some (request x f s files)) a ∙ ap (λ x. Some (request n x s files)) b ∙ ap (λ x. Some (request n o x files)) c
+    ap (λ q. cond q (Some (asked (depth_or_usual d) f s files)) None) few
+    ∙ ap (λ x. Some (asked x f s files)) a ∙ ap (λ x. Some (asked n x s files)) b ∙ ap (λ x. Some (asked n o x files)) c
 
 -- the files alone
 files_here : (divided : Bool) (d : Option ℕ) (f : Option (List ℕ)) (s : Bool) (files : List (List ℕ)) (r : Request) → are_few files ≡ true
@@ -55,9 +55,9 @@ module _ (divided : Bool) (files : List (List ℕ)) (n : ℕ) (o : Option (List 
     (plain : divided ≡ false → list_any is_option files ≡ false) (few : are_few files ≡ true) (depth : n ≡ depth_or_usual cd) (stats : t ≡ is_marked cm) where
   pub read_whole : (settings : List Setting) (d : Option ℕ) (f : Option (List ℕ)) (s : Bool) → list_all is_setting settings ≡ true
       → IsOnly (listed d ++ depths settings) cd → IsOnly (listed f ++ formats settings) o → IsOnly (flag s ++ marks settings) cm
-      → reading (chosen ForOption d f s) (flat_map spelled settings ++ (divider divided ++ files)) ≡ Some (request n o t files)
+      → reading (chosen ForOption d f s) (flat_map spelled settings ++ (divider divided ++ files)) ≡ Some (asked n o t files)
   read_whole [] d f s right a b c =
-      files_here divided d f s files (request n o t files) few plain
+      files_here divided d f s files (asked n o t files) few plain
       (finished_here d f s files n o t few (ap depth_or_usual (only_end d cd a) ∙ sym depth) (only_end f o b) (flag_end s cm c ∙ sym stats))
   read_whole (DepthApart digit ∷ settings) (Some x) f s right a b c = absurd a
   read_whole (DepthApart digit ∷ settings) None f s right a b c =

@@ -2,7 +2,7 @@
 use Rattle.std.specs.Prelude.{ℕ, List, [], ◌∷◌, ◌++◌, true, false, None, Some, codes, replicate}
 use Rattle.std.proofs.Common.{refl}
 use Rattle.command_words.specs.Words.{Request, IsRequest}
-use Rattle.command_words.specs.Reading.{request}
+use Rattle.command_words.specs.Reading.{asked}
 use Rattle.command_words.proofs.Sound.{found, refused}
 
 abbrev a_c : List (List ℕ)
@@ -12,13 +12,13 @@ a_c = codes "a.c" ∷ []
 abbrev NoRequest : List (List ℕ) → Type 0
 NoRequest words = (r : Request) → IsRequest words r → ⊥
 
-depth_in_a_word : IsRequest (codes "--depth" ∷ codes "4" ∷ a_c) (request 4 None false a_c)
+depth_in_a_word : IsRequest (codes "--depth" ∷ codes "4" ∷ a_c) (asked 4 None false a_c)
 depth_in_a_word = found _ _ refl
 
-depth_behind_equals : IsRequest (codes "--depth=8" ∷ a_c) (request 8 None false a_c)
+depth_behind_equals : IsRequest (codes "--depth=8" ∷ a_c) (asked 8 None false a_c)
 depth_behind_equals = found _ _ refl
 
-no_depth_is_4 : IsRequest a_c (request 4 None false a_c)
+no_depth_is_4 : IsRequest a_c (asked 4 None false a_c)
 no_depth_is_4 = found _ _ refl
 
 depth_past_8 : NoRequest (codes "--depth=9" ∷ a_c)
@@ -39,16 +39,16 @@ depth_behind_a_file = refused _ refl
 depth_twice : NoRequest (codes "--depth=1" ∷ codes "--depth" ∷ codes "1" ∷ a_c)
 depth_twice = refused _ refl
 
-minus_sign_behind_the_end : IsRequest (codes "--" ∷ codes "-x.c" ∷ []) (request 4 None false (codes "-x.c" ∷ []))
+minus_sign_behind_the_end : IsRequest (codes "--" ∷ codes "-x.c" ∷ []) (asked 4 None false (codes "-x.c" ∷ []))
 minus_sign_behind_the_end = found _ _ refl
 
-end_behind_the_end : IsRequest (codes "--" ∷ codes "--" ∷ codes "--stats" ∷ []) (request 4 None false (codes "--" ∷ codes "--stats" ∷ []))
+end_behind_the_end : IsRequest (codes "--" ∷ codes "--" ∷ codes "--stats" ∷ []) (asked 4 None false (codes "--" ∷ codes "--stats" ∷ []))
 end_behind_the_end = found _ _ refl
 
-minus_sign_alone : IsRequest (codes "-" ∷ []) (request 4 None false (codes "-" ∷ []))
+minus_sign_alone : IsRequest (codes "-" ∷ []) (asked 4 None false (codes "-" ∷ []))
 minus_sign_alone = found _ _ refl
 
-minus_sign_alone_twice : IsRequest (codes "-" ∷ codes "a.c" ∷ codes "-" ∷ []) (request 4 None false (codes "-" ∷ codes "a.c" ∷ codes "-" ∷ []))
+minus_sign_alone_twice : IsRequest (codes "-" ∷ codes "a.c" ∷ codes "-" ∷ []) (asked 4 None false (codes "-" ∷ codes "a.c" ∷ codes "-" ∷ []))
 minus_sign_alone_twice = found _ _ refl
 
 minus_sign_behind_a_file : NoRequest (codes "a.c" ∷ codes "-x" ∷ [])
@@ -66,37 +66,37 @@ no_words = refused _ refl
 only_a_checker : NoRequest (codes "free.metal" ∷ [])
 only_a_checker = refused _ refl
 
-only_the_ending : IsRequest (codes ".metal" ∷ codes "metal" ∷ []) (request 4 None false (codes ".metal" ∷ codes "metal" ∷ []))
+only_the_ending : IsRequest (codes ".metal" ∷ codes "metal" ∷ []) (asked 4 None false (codes ".metal" ∷ codes "metal" ∷ []))
 only_the_ending = found _ _ refl
 
-files_64 : IsRequest (replicate 64 (codes "a.c")) (request 4 None false (replicate 64 (codes "a.c")))
+files_64 : IsRequest (replicate 64 (codes "a.c")) (asked 4 None false (replicate 64 (codes "a.c")))
 files_64 = found _ _ refl
 
 files_65 : NoRequest (replicate 65 (codes "a.c"))
 files_65 = refused _ refl
 
-checkers_16 : IsRequest (replicate 16 (codes "x.metal") ++ a_c) (request 4 None false (replicate 16 (codes "x.metal") ++ a_c))
+checkers_16 : IsRequest (replicate 16 (codes "x.metal") ++ a_c) (asked 4 None false (replicate 16 (codes "x.metal") ++ a_c))
 checkers_16 = found _ _ refl
 
 checkers_17 : NoRequest (replicate 17 (codes "x.metal") ++ a_c)
 checkers_17 = refused _ refl
 
-statistics : IsRequest (codes "--stats" ∷ a_c) (request 4 None true a_c)
+statistics : IsRequest (codes "--stats" ∷ a_c) (asked 4 None true a_c)
 statistics = found _ _ refl
 
 statistics_twice : NoRequest (codes "--stats" ∷ codes "--stats" ∷ a_c)
 statistics_twice = refused _ refl
 
-format_in_a_word : IsRequest (codes "--format" ∷ codes "json" ∷ codes "x.metal" ∷ a_c) (request 4 (Some (codes "json")) false (codes "x.metal" ∷ a_c))
+format_in_a_word : IsRequest (codes "--format" ∷ codes "json" ∷ codes "x.metal" ∷ a_c) (asked 4 (Some (codes "json")) false (codes "x.metal" ∷ a_c))
 format_in_a_word = found _ _ refl
 
-format_without_a_name : IsRequest (codes "--format=" ∷ a_c) (request 4 (Some []) false a_c)
+format_without_a_name : IsRequest (codes "--format=" ∷ a_c) (asked 4 (Some []) false a_c)
 format_without_a_name = found _ _ refl
 
 format_with_a_minus_sign : NoRequest (codes "--format" ∷ codes "-json" ∷ a_c)
 format_with_a_minus_sign = refused _ refl
 
-all_three : IsRequest (codes "--stats" ∷ codes "--format=table" ∷ codes "--depth" ∷ codes "0" ∷ codes "--" ∷ a_c) (request 0 (Some (codes "table")) true a_c)
+all_three : IsRequest (codes "--stats" ∷ codes "--format=table" ∷ codes "--depth" ∷ codes "0" ∷ codes "--" ∷ a_c) (asked 0 (Some (codes "table")) true a_c)
 all_three = found _ _ refl
 
 help : NoRequest (codes "--help" ∷ [])

@@ -7,7 +7,7 @@ use Rattle.std.proofs.lemmas.Slice.Eq.{bytes_eq-Decides}
 use Rattle.command_words.specs.declared.given.Waits.{Waits}
 use Rattle.command_words.specs.declared.given.Waits.TheVariants.{ForOption, ForDepth, ForFormat}
 use Rattle.command_words.specs.Words.{Setting, DepthApart, DepthJoined, FormatApart, FormatJoined, Stats, spelled, is_setting, is_depth_digit, is_option, starts_with_minus, are_few, depths, formats, marks, IsOnly, depth_or_usual, is_marked, divider, Request, IsRequest}
-use Rattle.command_words.specs.Reading.{Chosen, chosen, Turn, Next, File, End, Wrong, depth_of, depth_turn, format_turn, stats_turn, turn_for, behind, joined_depth, joined_format, joined_turn, option_turn, turn, turn_of, turned, request, finished, plainly_finished, reading, nothing_chosen}
+use Rattle.command_words.specs.Reading.{Chosen, chosen, Turn, Next, File, End, Wrong, depth_of, depth_turn, format_turn, stats_turn, turn_for, behind, joined_depth, joined_format, joined_turn, option_turn, turn, turn_of, turned, asked, finished, plainly_finished, reading, nothing_chosen}
 use Rattle.command_words.proofs.Complete.{listed, flag, read_as}
 
 -- the words that are left stand for the request, behind what was set before
@@ -268,10 +268,10 @@ mark_back false = refl
 mark_back true = refl
 
 ends : (divided : Bool) (k : Waits) (d : Option ℕ) (f : Option (List ℕ)) (s : Bool) (files : List (List ℕ)) (r : Request) (b : Bool) → are_few files ≡ b
-    → (divided ≡ false → list_any is_option files ≡ false) → cond b (Some (request (depth_or_usual d) f s files)) None ≡ Some r → Continues d f s (divider divided ++ files) r
+    → (divided ≡ false → list_any is_option files ≡ false) → cond b (Some (asked (depth_or_usual d) f s files)) None ≡ Some r → Continues d f s (divider divided ++ files) r
 ends divided k d f s files r false e plain h = absurd (true≢false (sym (ap is_some h)))
 ends divided k d f s files r true e plain h =
-    subst (Continues d f s (divider divided ++ files)) (same_some (request (depth_or_usual d) f s files) r h)
+    subst (Continues d f s (divider divided ++ files)) (same_some (asked (depth_or_usual d) f s files) r h)
     (record {
       settings = [];
       divided = divided;

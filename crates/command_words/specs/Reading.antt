@@ -79,12 +79,12 @@ turn ForFormat depth format stats word = cond (starts_with_minus word) Wrong (fo
 abbrev pub turn_of : Chosen → List ℕ → Turn
 turn_of c word = turn c.waits c.depth c.format c.stats word
 
-abbrev pub request : ℕ → Option (List ℕ) → Bool → List (List ℕ) → Request
-request depth format stats files = record { depth = depth; format = format; stats = stats; files = files }
+abbrev pub asked : ℕ → Option (List ℕ) → Bool → List (List ℕ) → Request
+asked depth format stats files = record { depth = depth; format = format; stats = stats; files = files }
 
 -- the request for these files, if their numbers are right
 abbrev pub finished : Chosen → List (List ℕ) → Option Request
-finished c files = cond (are_few files) (Some (request (depth_or_usual c.depth) c.format c.stats files)) None
+finished c files = cond (are_few files) (Some (asked (depth_or_usual c.depth) c.format c.stats files)) None
 
 -- the same where no `--` stands before the files
 abbrev pub plainly_finished : Chosen → List (List ℕ) → Option Request

@@ -6,10 +6,10 @@ use Rattle.command_words.specs.declared.given.Given.{Given}
 use Rattle.command_words.specs.declared.given.Turn as turn_type
 use Rattle.command_words.specs.declared.given.Turn.TheVariants as turns
 use Rattle.command_words.specs.Words.{Request}
-use Rattle.command_words.specs.Reading.{Chosen, chosen, Turn, Next, File, End, Wrong, request}
+use Rattle.command_words.specs.Reading.{Chosen, chosen, Turn, Next, File, End, Wrong, asked}
 
 abbrev pub request_of : Asked → Request
-request_of a = request a.depth (option_copied a.format) a.stats (map string_bytes a.files.now)
+request_of a = asked a.depth (option_copied a.format) a.stats (map string_bytes a.files.now)
 
 abbrev pub chosen_in : Given → Chosen
 chosen_in g = chosen g.waits g.depth (option_copied g.format) g.stats

@@ -5,5 +5,6 @@ mod moves;
 mod sources;
 mod targets;
 
+pub use moves::is_move;
 pub use sources::source_before;
 pub use targets::targets_after;

@@ -1,6 +1,6 @@
 //! What events write over: assignments, initial values and declarations (ISO 9899:1990, 6.3.2.4, 6.3.3.1, 6.3.16, 6.5.7).
 
-ghost use Rattle.std.specs.Prelude.{◌≡◌, ◌≤◌};
+ghost use Rattle.std.specs.Prelude.{◌≡◌, ◌≤◌, is_some};
 ghost use Rattle.std.specs.Option.{option_map};
 ghost use Rattle.c_objects.specs.ObjectOf.{object_of};
 ghost use Rattle.c_tree.specs.Views.{node_of};
@@ -125,4 +125,12 @@ pub(crate) fn move_of(unit: &TypedUnit, event: &Event, depth: u8) -> Option<Move
         Event::Branch(_, _) => None,
         Event::Exit { .. } => None,
     }
+}
+
+/// Whether an event writes over anything, at this depth of objects.
+pub fn is_move(event: &Event, unit: &TypedUnit, depth: u8) -> bool
+    requires { depth ≤ 8 }
+    ensures { result ≡ is_some (move_of (facts_in unit.now) depth (event_of event.now)) }
+{
+    move_of(unit, event, depth).is_some()
 }

@@ -1,10 +1,9 @@
 //! Reports of taken rules.
 
-ghost use Rattle.std.specs.Prelude.{◌≡◌, ◌≤◌, IfOk, length, ℕ, Some};
-ghost use Rattle.c_tree.specs.declared.token.Token as token;
+ghost use Rattle.std.specs.Prelude.{◌≡◌, ◌≤◌, IfOk, length, ℕ};
 ghost use Rattle.checker_model.specs.Choices.{Taken};
 ghost use Rattle.checker_model.specs.Happenings.{Function};
-ghost use Rattle.checker_model.specs.Reports.{report_at, report_of};
+ghost use Rattle.checker_model.specs.Reports.{report_of};
 ghost use Rattle.hole_bindings.specs.Bindings.{binding_of};
 ghost use Rattle.hole_messages.specs.Sources.{maybe_object};
 ghost use Rattle.metal_tree.specs.Whole.{machine_view};
@@ -53,7 +52,8 @@ fn report_at(
 }
 
 /// The report of a rule of a checker, by its number from 1 on, that an object takes at an event of a unit with this binding, or that
-/// the global state takes, if no object is given. It is `None` where the rule has no action.
+/// the global state takes, if no object is given. It is `None` where the rule has no action, and where no token of the unit stands at
+/// the place of the event.
 pub fn report_of(
     alloc: Global,
     checker: &Checker,

@@ -1,0 +1,4 @@
+pub mod Lists
+pub mod MatchedOnce
+pub mod BoundObjects
+pub mod OfEvents

@@ -1,0 +1,70 @@
+-- Lists that are made of what each of another list gives.
+use Rattle.std.proofs.Common.{arith, ◌≡◌, inl, inr, ℕ, ◌+◌, ◌<◌, ◌≤◌, List, [], ◌∷◌, ◌++◌, length, get_or, take, map, Contains, Option, None, Some, refl, sym, ap, subst, ◌∙◌, append_assoc, append-nil}
+use Rattle.std.specs.Prelude.{flat_map}
+use Rattle.std.specs.Option.{option_to_list}
+use Rattle.std.proofs.lemmas.List.{take_more, take_all, map-append}
+use Rattle.std.proofs.lemmas.Grind.{flat_map-append}
+use Rattle.std.proofs.lemmas.List.Elements.{Contains-append_left, Contains-append_right, Contains-append_cases, Contains-push, Contains-push_cases}
+use Rattle.c_paths.specs.Membership.{Among}
+
+module _ {A B C : Type 0} (f : C → List B) (v : A → C) (xs : List A) where
+  -- nothing was passed
+  pub given-none : (before : List B) → before ≡ before ++ flat_map f (map v (take 0 xs))
+  given-none before = sym (append-nil before)
+
+  -- one more was passed, and what it gives stands behind
+  pub given-next : (i : ℕ) (d : A) (before old new : List B) → i < length xs → old ≡ before ++ flat_map f (map v (take i xs)) → new ≡ old ++ f (v (get_or xs i d))
+      → new ≡ before ++ flat_map f (map v (take (i + 1) xs))
+  given-next i d before old new h o n =
+      n
+      ∙ ap (λ z. z ++ f (v (get_or xs i d))) o
+      ∙ append_assoc before (flat_map f (map v (take i xs))) (f (v (get_or xs i d)))
+      ∙ ap (λ z. before ++ (flat_map f (map v (take i xs)) ++ z)) (sym (append-nil (f (v (get_or xs i d)))))
+      ∙ ap (λ z. before ++ z) (sym (flat_map-append f (map v (take i xs)) (v (get_or xs i d) ∷ [])))
+      ∙ ap (λ z. before ++ flat_map f z) (sym (map-append v (take i xs) (get_or xs i d ∷ [])))
+      ∙ ap (λ z. before ++ flat_map f (map v z)) (sym (take_more xs i d h))
+
+  -- all were
+  pub given-all : (i : ℕ) (before all : List B) → length xs ≤ i → all ≡ before ++ flat_map f (map v (take i xs)) → all ≡ before ++ flat_map f (map v xs)
+  given-all i before all h a = a ∙ ap (λ z. before ++ flat_map f (map v z)) (take_all i xs h)
+
+-- ---- what stands in a list
+
+module _ {A : Type 0} where
+  pub among : (xs : List A) (x : A) → Contains xs x → Among x xs
+  among [] x h = let lt = h.1 in absurd (omega arith)
+  among (y ∷ ys) x h = elim (Contains-append_cases (y ∷ []) ys x h) [ inl a ↦ inl (one a) | inr b ↦ inr (among ys x b) ]
+    where
+      one : Contains (y ∷ []) x → x ≡ y
+      one k = elim (Contains-push_cases [] y x k) [ inl n ↦ (let lt = n.1 in absurd (omega arith)) | inr e ↦ sym e ]
+
+  pub contained : (xs : List A) (x : A) → Among x xs → Contains xs x
+  contained [] x h = absurd h
+  contained (y ∷ ys) x (inl e) = Contains-append_left (y ∷ []) ys x (subst (Contains (y ∷ [])) (sym e) (Contains-push [] y))
+  contained (y ∷ ys) x (inr h) = Contains-append_right (y ∷ []) ys x (contained ys x h)
+
+module _ {A B : Type 0} (f : A → List B) where
+  -- what is given stands in the list
+  pub given-stands : (xs : List A) (x : A) (y : B) → Contains xs x → Contains (f x) y → Contains (flat_map f xs) y
+  given-stands xs x y h k = by xs (among xs x h)
+    where
+      by : (zs : List A) → Among x zs → Contains (flat_map f zs) y
+      by [] m = absurd m
+      by (z ∷ zs) (inl e) = Contains-append_left (f z) (flat_map f zs) y (subst (λ w. Contains (f w) y) e k)
+      by (z ∷ zs) (inr m) = Contains-append_right (f z) (flat_map f zs) y (by zs m)
+
+  -- what stands in it is given by one
+  pub stands-given : (xs : List A) (y : B) → Contains (flat_map f xs) y → (x : A) × Contains xs x × Contains (f x) y
+  stands-given [] y h = let lt = h.1 in absurd (omega arith)
+  stands-given (x ∷ xs) y h = elim (Contains-append_cases (f x) (flat_map f xs) y h) [
+    | inl a ↦ (x, contained (x ∷ xs) x (inl refl), a)
+    | inr b ↦ (let s = stands-given xs y b in (s.0, Contains-append_right (x ∷ []) xs s.0 s.1, s.2))
+  ]
+
+-- what may be missing, as a list
+pub the-one : {A : Type 0} (o : Option A) (x : A) → Contains (option_to_list o) x → o ≡ Some x
+the-one None x h = let lt = h.1 in absurd (omega arith)
+the-one (Some y) x h = elim (among (y ∷ []) x h) [ inl e ↦ ap Some (sym e) | inr b ↦ absurd b ]
+
+pub one-stands : {A : Type 0} (o : Option A) (x : A) → o ≡ Some x → Contains (option_to_list o) x
+one-stands {A = A} o x e = subst (λ (z : Option A). Contains (option_to_list z) x) (sym e) (Contains-push [] x)

@@ -1,0 +1,17 @@
+-- THE FIRST OF THE RULES THAT APPLY which who is asked takes.
+use Rattle.std.specs.Prelude.{ℕ, nat_eq, List, Bool, cond, not, ◌&&◌, ◌||◌, Option, None, Some}
+use Rattle.c_paths.specs.Events.{Event}
+use Rattle.checker_model.specs.Choices.{Taken, stop, first_some}
+use Rattle.hole_matching.specs.Holes.{Setting}
+use Rattle.rule_choices.specs.Asked.{Asker, may_take, fits}
+
+-- the rule begins and leads where it has to, and its binding fits
+abbrev pub takes : Setting → Event → ℕ → Asker → Taken → Bool
+takes g e state a t = may_take e state a t.rule && fits g e a t.rule t.binding
+
+abbrev pub picked : Setting → Event → ℕ → Asker → Taken → Option Taken
+picked g e state a t = cond (takes g e state a t) (Some t) None
+
+-- none in `stop`, and where it isn't asked
+abbrev pub first_taken : Setting → Event → Bool → ℕ → Asker → List Taken → Option Taken
+first_taken g e is_asked state a ts = cond (nat_eq state stop || not is_asked) None (first_some (picked g e state a) ts)

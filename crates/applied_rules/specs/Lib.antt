@@ -1,0 +1,4 @@
+pub mod Applied
+pub mod Events
+pub mod Firsts
+pub mod Bound

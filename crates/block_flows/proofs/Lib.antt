@@ -1,0 +1,4 @@
+pub mod OfEvents
+pub mod Standing
+pub mod Fires
+pub mod Reports

@@ -1,0 +1,12 @@
+use Rattle.std.proofs.Common.{List, drop}
+use Rattle.block_flows.specs.Events.{AreOfEvents}
+use Rattle.block_flows.proofs.Standing.{OnWay}
+use Rattle.checker_model.specs.Happenings.{Function, Happening}
+use Rattle.checker_model.specs.Reports.{Checker}
+use Rattle.tuple_flows.specs.Moved.{AreObjects}
+use Rattle.block_flows.proofs.crossing.ends.Given as goal
+
+-- these stand on the way, before the events that are left
+abbrev pub invariant-loop-event : goal.invariant-loop-event
+invariant-loop-event l = (c : Checker) (f : Function) (hs : List Happening) → AreOfEvents c.machine c.depth f hs l.rules → AreObjects c.depth l.followed
+    → OnWay c f l.is_root l.followed hs (drop l.event-index hs) l.tuple l.now.keys

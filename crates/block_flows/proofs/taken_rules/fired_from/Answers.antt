@@ -1,0 +1,25 @@
+use Rattle.std.proofs.Common.{◌∙◌, sym, subst, ap, map}
+use Rattle.std.specs.List.{filter_map}
+use Rattle.block_flows.specs.Firings.{fire_in, fire_of, TakenHere}
+use Rattle.block_flows.proofs.Fires.{fires}
+use Rattle.flow_graph.specs.Values.{event_of}
+use Rattle.least_set.specs.Logs.{IsExactly}
+use Rattle.objects.specs.Units.{facts_in}
+use Rattle.tuple_flows.proofs.Events.{moved-there}
+use Rattle.tuple_flows.proofs.Lists.{if-ok}
+use Rattle.block_flows.proofs.taken_rules.fired_from.Goals as goal
+
+pub returns : goal.returns
+returns c =
+    let r = c.args.rules.now in
+    let t = c.args.tuple.now in
+    let followed = c.args.followed.now in
+    let before = c.in_ok-before.before.items in
+    if-ok _ _ c.fired_each.result
+    (λ list made k h f a are.
+    let moved = moved-there r.setting.depth k.depth (facts_in r.setting.unit.now) h.facts (event_of r.event) h.event (ap (λ s. s.depth) a.setting) (ap (λ s. s.facts) a.setting) a.event
+    followed t before c.in_ok-before.ensures are in
+    subst (λ l. IsExactly l (TakenHere k h f c.args.is_root followed c.args.number t))
+    (sym (made k h f a ∙ ap (filter_map (fire_of k h f c.args.is_root c.args.number)) c.as_slice.ensures.value))
+    (fires k f c.args.is_root followed h c.args.number t before moved))
+    c.fired_each.ensures

@@ -1,0 +1,13 @@
+use Rattle.std.proofs.Common.{map, take}
+use Rattle.applied_rules.specs.Events.{AreOfEvent}
+use Rattle.block_flows.specs.Firings.{fire_in, TakenHere}
+use Rattle.checker_model.specs.Happenings.{Function, Happening}
+use Rattle.checker_model.specs.Reports.{Checker}
+use Rattle.least_set.specs.Logs.{IsExactly, SomeGives}
+use Rattle.tuple_flows.specs.Moved.{AreObjects}
+use Rattle.block_flows.proofs.taken_rules.fired_here.Given as goal
+
+-- what is taken from the tuples that were gone through
+abbrev pub invariant-loop-tuple : goal.invariant-loop-tuple
+invariant-loop-tuple l = (c : Checker) (h : Happening) (f : Function) → AreOfEvent c.machine c.depth h f l.rules → AreObjects c.depth l.followed
+    → IsExactly (map fire_in l.list.items) (SomeGives (TakenHere c h f l.is_root l.followed l.number) (take l.tuple-index l.tuples))

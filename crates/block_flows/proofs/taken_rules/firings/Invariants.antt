@@ -1,0 +1,13 @@
+use Rattle.std.proofs.Common.{List, drop, map}
+use Rattle.block_flows.specs.Events.{AreOfEvents}
+use Rattle.block_flows.specs.Firings.{fire_in}
+use Rattle.block_flows.proofs.Fires.{IsNoted}
+use Rattle.checker_model.specs.Happenings.{Function, Happening}
+use Rattle.checker_model.specs.Reports.{Checker}
+use Rattle.tuple_flows.specs.Moved.{AreObjects}
+use Rattle.block_flows.proofs.taken_rules.firings.Given as goal
+
+-- what is taken at the events that were gone through is noted
+abbrev pub invariant-loop-number : goal.invariant-loop-number
+invariant-loop-number l = (c : Checker) (f : Function) (hs : List Happening) → AreOfEvents c.machine c.depth f hs l.rules → AreObjects c.depth l.followed
+    → IsNoted c f l.is_root l.followed hs (drop l.number hs) l.number l.tuple l.now.keys (map fire_in l.list.items)

@@ -1,0 +1,13 @@
+-- What a tuple becomes over the events of a block.
+use Rattle.std.specs.Prelude.{Bool, List}
+use Rattle.c_objects.specs.Objects.{Object}
+use Rattle.checker_model.specs.Checkers.{model, origins}
+use Rattle.checker_model.specs.Happenings.{Function, Happening}
+use Rattle.checker_model.specs.Reports.{Checker}
+use Rattle.path_theory.specs.BlockEdges.{Crosses}
+use Rattle.state_tuples.specs.declared.tuple.Tuple.{Tuple}
+use Rattle.tuple_flows.specs.Facts.{fact_in, listed}
+
+-- A TUPLE AT THE END of events, of one at their head that crosses them
+abbrev pub IsEnd : Checker → List Happening → Function → Bool → List Object → Tuple → Tuple → Type 0
+IsEnd c hs f is_root followed t u = Crosses (model c) (origins c) (listed c followed) f is_root hs t.global (fact_in t) u.global (fact_in u)

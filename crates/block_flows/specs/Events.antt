@@ -1,0 +1,13 @@
+-- The rules of a list of events.
+use Rattle.std.specs.Prelude.{ℕ, List, [], ◌∷◌}
+use Rattle.applied_rules.specs.declared.rules.EventRules.{EventRules}
+use Rattle.applied_rules.specs.Events.{AreOfEvent}
+use Rattle.checker_model.specs.Happenings.{Function, Happening}
+use Rattle.metal_machines.specs.Machine.{Machine}
+
+-- THE RULES are those of these events of this function, one by one, where objects have this depth
+abbrev pub AreOfEvents : Machine → ℕ → Function → List Happening → List EventRules → Type 0
+AreOfEvents m depth f [] [] = Unit {0}
+AreOfEvents m depth f [] (r ∷ rs) = ⊥
+AreOfEvents m depth f (h ∷ hs) [] = ⊥
+AreOfEvents m depth f (h ∷ hs) (r ∷ rs) = AreOfEvent m depth h f r × AreOfEvents m depth f hs rs

@@ -1,0 +1,38 @@
+//! The tuples at the end of a block.
+
+ghost use Rattle.std.specs.Prelude.{◌≡◌, List, IfOk};
+ghost use Rattle.block_flows.specs.Ends.{IsEnd};
+ghost use Rattle.block_flows.specs.Events.{AreOfEvents};
+ghost use Rattle.checker_model.specs.Happenings.{Function, Happening};
+ghost use Rattle.checker_model.specs.Reports.{Checker};
+ghost use Rattle.least_set.specs.Logs.{IsExactly, IsOnce};
+ghost use Rattle.tuple_flows.specs.Moved.{AreObjects};
+
+use crate::fronts::{copies, first, next};
+use crate::sets::items;
+use applied_rules::EventRules;
+use objects::Object;
+use state_tuples::Tuple;
+use std::alloc::{AllocError, Global};
+
+/// The tuples at the end of a block's events where this one stands at its head, in a root's own frame or in a called one, each once. The
+/// rules are those of the events in their order; those that are followed are objects at the depth of the rules.
+pub fn ends(
+    alloc: Global,
+    rules: &[EventRules],
+    is_root: bool,
+    tuple: &Tuple,
+    followed: &[Object],
+) -> Result<Vec<Tuple>, AllocError>
+    ensures exact { IfOk result (λ list. (c : Checker) (f : Function) (hs : List Happening) → AreOfEvents c.machine c.depth f hs rules.now → AreObjects c.depth followed.now → IsExactly list.items (IsEnd c hs f is_root followed.now tuple.now)) }
+    ensures once { IfOk result (λ list. IsOnce list.items) }
+{
+    let mut now = first(alloc, tuple)?;
+    for event in rules {
+        let left = items(&now);
+        let behind = next(alloc, event, is_root, left, followed)?;
+        now = behind;
+    }
+    let all = items(&now);
+    copies(alloc, all)
+}

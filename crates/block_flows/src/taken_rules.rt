@@ -1,0 +1,147 @@
+//! Which rules with an action are taken while a tuple crosses the events of a block.
+
+ghost use Rattle.std.specs.Prelude.{◌≡◌, ◌+◌, List, map, IfOk};
+ghost use Rattle.std.specs.List.{filter_map};
+ghost use Rattle.std.specs.Option.{option_map};
+ghost use Rattle.applied_rules.specs.Events.{AreOfEvent};
+ghost use Rattle.block_flows.specs.Events.{AreOfEvents};
+ghost use Rattle.block_flows.specs.Firings.{acting, fires_here, fire_of, fire_in, TakenHere, TakenAt};
+ghost use Rattle.checker_model.specs.Happenings.{Function, Happening};
+ghost use Rattle.checker_model.specs.Reports.{Checker};
+ghost use Rattle.least_set.specs.Logs.{IsExactly, SomeGives};
+ghost use Rattle.rule_choices.specs.Values.{taken_of};
+ghost use Rattle.tuple_flows.specs.Moved.{AreObjects};
+
+use crate::fronts::{copy_object, first, next};
+use crate::sets::items;
+use applied_rules::EventRules;
+use objects::Object;
+use state_tuples::{Fired, Tuple};
+use std::alloc::{AllocError, Global};
+use tuple_flows::moved;
+
+/// A rule with an action that is taken.
+#[derive(Drop)]
+pub struct Firing<'r, 'm, 'a> {
+    /// The number of the event at which it is, among those of the block, from 0.
+    pub event: usize,
+    /// The object that takes the rule; none where the global state does.
+    pub object: Option<Object>,
+    /// The rule, by the alternative by which it is taken.
+    pub taken: &'r Fired<'m, 'a>,
+}
+
+// Only a rule with an action.
+fn acting<'r, 'm, 'a>(taken: Option<&'r Fired<'m, 'a>>) -> Option<&'r Fired<'m, 'a>>
+    ensures { option_map (λ t. taken_of t.now) result ≡ acting (option_map (λ t. taken_of t.now) taken.entry) }
+{
+    let taken = taken?;
+    match &taken.rule.action {
+        Some(_) => Some(taken),
+        None => None,
+    }
+}
+
+// The rule with an action that a tuple behind the move takes: its object, or the global state where there is none.
+fn acted<'r, 'm, 'a>(
+    rules: &'r EventRules<'m, 'a>,
+    is_root: bool,
+    tuple: &Tuple,
+) -> Option<&'r Fired<'m, 'a>>
+    ensures { (c : Checker) (h : Happening) (f : Function) → AreOfEvent c.machine c.depth h f rules.now → option_map (λ t. taken_of t.now) result ≡ fires_here c h f is_root tuple.now }
+{
+    match &tuple.object {
+        Some(object) => acting(rules.taken(is_root, tuple.global, object, tuple.state)),
+        None => acting(rules.taken_global(is_root, tuple.global)),
+    }
+}
+
+// Which of these tuples behind an event's move take a rule with an action.
+fn fired_each<'r, 'm, 'a>(
+    alloc: Global,
+    rules: &'r EventRules<'m, 'a>,
+    number: usize,
+    is_root: bool,
+    tuples: &[Tuple],
+) -> Result<Vec<Firing<'r, 'm, 'a>>, AllocError>
+    ensures { IfOk result (λ list. (c : Checker) (h : Happening) (f : Function) → AreOfEvent c.machine c.depth h f rules.now → map fire_in list.items ≡ filter_map (fire_of c h f is_root number) tuples.now) }
+{
+    let mut list = Vec::new(alloc);
+    for tuple in tuples {
+        let Some(taken) = acted(rules, is_root, tuple) else {
+            continue;
+        };
+        list.push(Firing {
+            event: number,
+            object: copy_object(&tuple.object),
+            taken,
+        })?;
+    }
+    Ok(list)
+}
+
+// The rules with an action that are taken at an event from a tuple that stands before it.
+fn fired_from<'r, 'm, 'a>(
+    alloc: Global,
+    rules: &'r EventRules<'m, 'a>,
+    number: usize,
+    is_root: bool,
+    tuple: &Tuple,
+    followed: &[Object],
+) -> Result<Vec<Firing<'r, 'm, 'a>>, AllocError>
+    ensures { IfOk result (λ list. (c : Checker) (h : Happening) (f : Function) → AreOfEvent c.machine c.depth h f rules.now → AreObjects c.depth followed.now → IsExactly (map fire_in list.items) (TakenHere c h f is_root followed.now number tuple.now)) }
+{
+    let setting = &rules.setting;
+    let before = moved(
+        alloc,
+        &rules.event,
+        setting.unit,
+        setting.depth,
+        tuple,
+        followed,
+    )?;
+    fired_each(alloc, rules, number, is_root, before.as_slice())
+}
+
+// The same from one of these tuples.
+fn fired_here<'r, 'm, 'a>(
+    alloc: Global,
+    rules: &'r EventRules<'m, 'a>,
+    number: usize,
+    is_root: bool,
+    tuples: &[Tuple],
+    followed: &[Object],
+) -> Result<Vec<Firing<'r, 'm, 'a>>, AllocError>
+    ensures { IfOk result (λ list. (c : Checker) (h : Happening) (f : Function) → AreOfEvent c.machine c.depth h f rules.now → AreObjects c.depth followed.now → IsExactly (map fire_in list.items) (SomeGives (TakenHere c h f is_root followed.now number) tuples.now)) }
+{
+    let mut list = Vec::new(alloc);
+    for tuple in tuples {
+        let mut more = fired_from(alloc, rules, number, is_root, tuple, followed)?;
+        list.append(&mut more)?;
+    }
+    Ok(list)
+}
+
+/// The rules with an action that are taken while this tuple crosses a block's events, in a root's own frame or in a called one: by which
+/// object, or by the global state, and at which event. The rules are those of the events in their order; those that are followed are
+/// objects at the depth of the rules. A report on the way is that of one of these.
+pub fn firings<'r, 'm, 'a>(
+    alloc: Global,
+    rules: &'r [EventRules<'m, 'a>],
+    is_root: bool,
+    tuple: &Tuple,
+    followed: &[Object],
+) -> Result<Vec<Firing<'r, 'm, 'a>>, AllocError>
+    ensures { IfOk result (λ list. (c : Checker) (f : Function) (hs : List Happening) → AreOfEvents c.machine c.depth f hs rules.now → AreObjects c.depth followed.now → IsExactly (map fire_in list.items) (TakenAt c hs f is_root followed.now tuple.now)) }
+{
+    let mut now = first(alloc, tuple)?;
+    let mut list = Vec::new(alloc);
+    for (number, event) in rules.iter().enumerate() {
+        let left = items(&now);
+        let mut more = fired_here(alloc, event, number, is_root, left, followed)?;
+        list.append(&mut more)?;
+        let behind = next(alloc, event, is_root, left, followed)?;
+        now = behind;
+    }
+    Ok(list)
+}

@@ -1,0 +1,4 @@
+pub mod Walking
+pub mod Noting
+pub mod Shown
+pub mod SameObjects

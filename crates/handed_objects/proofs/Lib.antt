@@ -1,0 +1,4 @@
+pub mod Gathering
+pub mod Found
+pub mod Positions
+pub mod TakerExamples

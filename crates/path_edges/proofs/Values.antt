@@ -1,0 +1,108 @@
+-- Edges, contexts and waiters stand for those of the theory, and each of these that follows has a value.
+use Rattle.std.proofs.Common.{◌≡◌, ℕ, List, None, Some, refl, sym, ap, ◌∙◌, subst}
+use Rattle.c_objects.specs.Objects.{Object}
+use Rattle.c_paths.specs.Building.{Graph}
+use Rattle.c_paths.specs.Events.{Event}
+use Rattle.c_paths.specs.Fragments.{Has}
+use Rattle.c_paths.specs.Graphs.{Calls}
+use Rattle.c_tree.specs.Node.{Node}
+use Rattle.c_typing.specs.Options.{if_there, ◌>?◌}
+use Rattle.checker_graphs.specs.Graphs.{flow_graphs, function_at, graph_at}
+use Rattle.checker_model.specs.Checkers.{model, origins}
+use Rattle.checker_model.specs.Choices.{State}
+use Rattle.checker_model.specs.Happenings.{Function, Site}
+use Rattle.checker_model.specs.Reports.{Checker}
+use Rattle.checker_programs.specs.Relevant.{Relevant}
+use Rattle.checker_programs.specs.Texts.{Text, site}
+use Rattle.path_edges.specs.declared.edges.Context.{Context}
+use Rattle.path_edges.specs.declared.edges.Edge.{Edge}
+use Rattle.path_edges.specs.declared.edges.Waiter.{Waiter}
+use Rattle.path_edges.specs.Edges.{tuple_in, context_in, edge_in, waiter_in, call_in, call_at, no_site, site_at}
+use Rattle.path_edges.specs.Relations.{Begins, LeadsTo, WaitsAt, IsEndOf, IsWoken}
+use Rattle.path_theory.specs.Facts.{FactOf, NoObject, HasObject}
+use Rattle.state_tuples.specs.declared.tuple.Tuple.{Tuple}
+use Rattle.tabulation_rules.specs.Rules as rules
+use Rattle.tabulation_rules.specs.OwnValues.{AreSound, AreComplete, StandsFor}
+
+-- the values for what the theory names
+abbrev tuple_with : ℕ → FactOf Object State → Tuple
+tuple_with g NoObject = record { global = g; object = None; state = None; bare = refl }
+tuple_with g (HasObject o x) = record { global = g; object = Some o; state = x; bare = refl }
+
+abbrev tuple_of : rules.Tuple ℕ Object State → Tuple
+tuple_of t = tuple_with t.global t.fact
+
+abbrev context_of : rules.Context ℕ Object State → Context
+context_of k = record { function = k.function; entry = tuple_of k.entry }
+
+abbrev edge_of : rules.PathEdge ℕ Object State ℕ → Edge
+edge_of e = record { context = context_of e.context; is_root = e.is_root; block = e.block; tuple = tuple_of e.tuple }
+
+-- one who waits at this block
+abbrev waiter_of : ℕ → rules.Waiter ℕ Object State ℕ Site → Waiter
+waiter_of block w = record { context = context_of w.context; is_root = w.is_root; block = block; behind = w.behind; saved = w.saved }
+
+tuple-with : (g : ℕ) (t : FactOf Object State) → tuple_in (tuple_with g t) ≡ record { global = g; fact = t }
+tuple-with g NoObject = refl
+tuple-with g (HasObject o x) = refl
+
+tuple-there : (t : rules.Tuple ℕ Object State) → tuple_in (tuple_of t) ≡ t
+tuple-there t = tuple-with t.global t.fact
+
+context-there : (k : rules.Context ℕ Object State) → context_in (context_of k) ≡ k
+context-there k = ap (λ t. record { function = k.function; entry = t }) (tuple-there k.entry)
+
+edge-there : (e : rules.PathEdge ℕ Object State ℕ) → edge_in (edge_of e) ≡ e
+edge-there e = λ i. record { context = context-there e.context i; is_root = e.is_root; block = e.block; tuple = tuple-there e.tuple i }
+
+module _ (c : Checker) (ts : List Text) (gs : List Graph) where
+  -- the site of a call is that at the end of its block
+  site-there : (n b : ℕ) (f : Function) (es : List Event) (call : Node) (next : ℕ) → function_at ts n ≡ Some f → Has (graph_at ts gs f).blocks b es (Calls call next)
+      → site_at c.depth ts gs n b ≡ site c.depth ts f call
+  site-there n b f es call next named has =
+      ap (λ o. if_there o no_site (λ f. if_there (call_at (graph_at ts gs f) b) no_site (site c.depth ts f))) named
+      ∙ ap (λ o. if_there (o >? λ s. call_in s.ending) no_site (site c.depth ts f)) has
+
+  waiter-there : (block : ℕ) (w : rules.Waiter ℕ Object State ℕ Site) → site_at c.depth ts gs w.context.function block ≡ w.site → waiter_in c.depth ts gs (waiter_of block w) ≡ w
+  waiter-there block w same = λ i. record { context = context-there w.context i; is_root = w.is_root; site = same i; behind = w.behind; saved = w.saved }
+
+  -- a waiter's site is that of the call in which its edge's block ends
+  site-of : (a : Edge) (fn h : Function) (s : Site) (next : ℕ) (w : rules.Waiter ℕ Object State ℕ Site) → function_at ts a.context.function ≡ Some fn
+      → (flow_graphs c ts gs).Call fn a.block s h next → w.context ≡ context_in a.context → s ≡ w.site → site_at c.depth ts gs w.context.function a.block ≡ w.site
+  site-of a fn h s next w named call here same =
+      ap (λ k. site_at c.depth ts gs k.function a.block) here
+      ∙ site-there a.context.function a.block fn call.0 call.1 next named call.2
+      ∙ sym call.3
+      ∙ same
+
+  waiting : (a : Edge) (k : rules.Context ℕ Object State) (w : rules.Waiter ℕ Object State ℕ Site)
+      → rules.Waits (model c) (origins c) (Relevant c ts) (flow_graphs c ts gs) (function_at ts) (edge_in a) k w → site_at c.depth ts gs w.context.function a.block ≡ w.site
+  waiting a k w (rules.WaitsForObject t fn h behind call named global flow here kind saved) = site-of a fn h w.site w.behind w behind.named call here refl
+  waiting a k w (rules.WaitsWithSaved t fn h o x behind call named entry has kept here kind saved) = site-of a fn h w.site w.behind w behind.named call here refl
+
+  pub sound : AreSound (model c) (origins c) (Relevant c ts) (flow_graphs c ts gs) (function_at ts) edge_in context_in (waiter_in c.depth ts gs)
+      (Begins c ts gs) (LeadsTo c ts gs) (WaitsAt c ts gs) (IsEndOf c ts gs) (IsWoken c ts gs)
+  sound = record {
+    base = λ e h. h;
+    goes = λ a e h. h;
+    waits = λ a k w h. h.waits;
+    ends = λ e k h. h;
+    wakes = λ w e d h. h;
+  }
+
+  stands : (P : rules.PathEdge ℕ Object State ℕ → Type 0) (e : rules.PathEdge ℕ Object State ℕ) → P e → StandsFor edge_in (λ d. P (edge_in d)) e
+  stands P e h = record { value = edge_of e; is = edge-there e; holds = subst P (sym (edge-there e)) h }
+
+  pub complete : AreComplete (model c) (origins c) (Relevant c ts) (flow_graphs c ts gs) (function_at ts) edge_in context_in (waiter_in c.depth ts gs)
+      (Begins c ts gs) (LeadsTo c ts gs) (WaitsAt c ts gs) (IsEndOf c ts gs) (IsWoken c ts gs)
+  complete = record {
+    base = λ e h. stands (rules.Base (model c) (origins c) (Relevant c ts) (flow_graphs c ts gs) (function_at ts)) e h;
+    goes = λ a e h. stands (rules.Goes (model c) (origins c) (Relevant c ts) (flow_graphs c ts gs) (function_at ts) (edge_in a)) e h;
+    waits = λ a k w h.
+        let there = waiter-there a.block w (waiting a k w h) in
+        let at = subst (λ z. rules.Waits (model c) (origins c) (Relevant c ts) (flow_graphs c ts gs) (function_at ts) (edge_in a) z w) (sym (context-there k)) h in
+        let by = subst (λ z. rules.Waits (model c) (origins c) (Relevant c ts) (flow_graphs c ts gs) (function_at ts) (edge_in a) (context_in (context_of k)) z) (sym there) at in
+        record { on = context_of k; who = waiter_of a.block w; is_on = context-there k; is_who = there; holds = record { here = refl; waits = by } };
+    ends = λ e k h. h;
+    wakes = λ w e d h. stands (rules.Wakes (model c) (origins c) (Relevant c ts) (flow_graphs c ts gs) (function_at ts) (waiter_in c.depth ts gs w) (edge_in e)) d h;
+  }

@@ -1,0 +1,53 @@
+-- WHAT AN ENGINE'S VALUES STAND FOR.
+use Rattle.std.specs.Prelude.{ℕ, List, [], Option, None, Some}
+use Rattle.c_objects.specs.Objects.{Object}
+use Rattle.c_paths.specs.Building.{Graph}
+use Rattle.c_paths.specs.Graphs.{Ending, ToAny, Calls, Stops}
+use Rattle.c_tree.specs.Node.{Node}
+use Rattle.c_typing.specs.Options.{if_there, ◌>?◌}
+use Rattle.std.specs.Prelude.{slice_get}
+use Rattle.checker_graphs.specs.Graphs.{function_at, graph_at}
+use Rattle.checker_model.specs.Choices.{State}
+use Rattle.checker_model.specs.Happenings.{Site}
+use Rattle.checker_programs.specs.Texts.{Text, site}
+use Rattle.path_edges.specs.declared.edges.Context.{Context}
+use Rattle.path_edges.specs.declared.edges.Edge.{Edge}
+use Rattle.path_edges.specs.declared.edges.Waiter.{Waiter}
+use Rattle.state_tuples.specs.declared.tuple.Tuple.{Tuple}
+use Rattle.tabulation_rules.specs.Rules as rules
+use Rattle.tuple_flows.specs.Facts.{fact_in}
+
+abbrev pub tuple_in : Tuple → rules.Tuple ℕ Object State
+tuple_in t = record { global = t.global; fact = fact_in t }
+
+abbrev pub context_in : Context → rules.Context ℕ Object State
+context_in k = record { function = k.function; entry = tuple_in k.entry }
+
+abbrev pub edge_in : Edge → rules.PathEdge ℕ Object State ℕ
+edge_in e = record { context = context_in e.context; is_root = e.is_root; block = e.block; tuple = tuple_in e.tuple }
+
+-- the call in which a block ends, if it does in one
+abbrev pub call_in : Ending → Option Node
+call_in (Calls n next) = Some n
+call_in (ToAny bs) = None
+call_in Stops = None
+
+abbrev pub call_at : Graph → ℕ → Option Node
+call_at g b = slice_get g.blocks b >? λ s. call_in s.ending
+
+-- a site at which nothing is passed, where there is none
+abbrev pub no_site : Site
+no_site = record { callee = None; formals = []; actuals = [] }
+
+-- the site of the call in which this block of this function ends
+abbrev pub site_at : ℕ → List Text → List Graph → ℕ → ℕ → Site
+site_at depth ts gs n b = if_there (function_at ts n) no_site (λ f. if_there (call_at (graph_at ts gs f) b) no_site (site depth ts f))
+
+abbrev pub waiter_in : ℕ → List Text → List Graph → Waiter → rules.Waiter ℕ Object State ℕ Site
+waiter_in depth ts gs w = record {
+  context = context_in w.context;
+  is_root = w.is_root;
+  site = site_at depth ts gs w.context.function w.block;
+  behind = w.behind;
+  saved = w.saved;
+}

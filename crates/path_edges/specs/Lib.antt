@@ -1,0 +1,4 @@
+pub mod Equality
+pub mod Edges
+pub mod Relations
+pub mod Theorems

@@ -1,0 +1,17 @@
+-- The theorem of this crate as a statement, which contracts can name.
+use Rattle.std.specs.Prelude.{◌↔◌, List}
+use Rattle.c_paths.specs.Building.{Graph}
+use Rattle.checker_graphs.specs.Graphs.{AreGraphs}
+use Rattle.checker_model.specs.Checkers.{model}
+use Rattle.checker_model.specs.Reports.{Checker}
+use Rattle.checker_programs.specs.Paths.{program}
+use Rattle.checker_programs.specs.Texts.{Text}
+use Rattle.least_set.specs.Logs.{SomeGives}
+use Rattle.path_edges.specs.declared.edges.Edge.{Edge}
+use Rattle.path_edges.specs.Relations.{IsClosedLog, IsLeastLog, ShowsAt}
+use Rattle.path_model.specs.declared.report.Report.{Report}
+use Rattle.path_theory.specs.Paths.{Reported}
+
+abbrev pub LeastEdgesReport : Type 0
+LeastEdgesReport = (c : Checker) (ts : List Text) (gs : List Graph) → AreGraphs ts gs → (log : List Edge) → IsClosedLog c ts gs log → IsLeastLog c ts gs log
+    → ∥ ((r : Report) → SomeGives (ShowsAt c ts gs) log r ↔ Reported (model c) (program c ts) r) ∥₁

@@ -1,0 +1,9 @@
+//! Path edges as values of an engine: what they stand for, what follows from them by the rules of tabulation, and that a least list of them
+//! shows exactly what a checker reports of a program.
+#![tactic(auto)]
+
+mod edges;
+mod theorems;
+
+pub use edges::{Context, Edge, Waiter};
+pub use theorems::least_edges_report;

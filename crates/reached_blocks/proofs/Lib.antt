@@ -1,0 +1,3 @@
+pub mod ReachedWalks
+pub mod Within
+pub mod Listing

@@ -1,0 +1,8 @@
+use Rattle.relevant_objects.specs.Links.{LinksAt}
+use Rattle.relevant_objects.proofs.Adding.{next-added}
+use Rattle.relevant_objects.proofs.events.add_at_events.Goals as goal
+
+pub loop-event-preserved : goal.loop-event-preserved
+loop-event-preserved c =
+    next-added (LinksAt c.args.depth c.args.row.now.unit.now c.args.member.now) c.as_slice-event-items.result.now c.loop-event.event-index c.event-item.result c.args.found.now.items c.loop-event.found.items c.add_at.new.found.items
+    c.loop-event-test.true c.event-item.is c.loop-event.invariant c.in_ok-add_at.ensures

@@ -1,0 +1,2 @@
+pub mod FirstSome
+pub mod AskedRules

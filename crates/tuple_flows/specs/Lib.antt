@@ -1,0 +1,4 @@
+pub mod Facts
+pub mod Moved
+pub mod Behind
+pub mod Passed

@@ -1,0 +1,137 @@
+//! Tuples at entries of callees, and behind calls.
+
+ghost use Rattle.std.specs.Prelude.{◌≡◌, ◌↔◌, ◌≤◌, [], ◌∷◌, None, true, IfOk};
+ghost use Rattle.checker_model.specs.Calls.{into, out};
+ghost use Rattle.checker_model.specs.Happenings.{Function, Site as Form};
+ghost use Rattle.checker_model.specs.Reports.{Checker};
+ghost use Rattle.least_set.specs.Logs.{IsExactly, SomeGives};
+ghost use Rattle.refine_restore.specs.Sites.{site_of};
+ghost use Rattle.tuple_flows.specs.Facts.{with_object};
+ghost use Rattle.tuple_flows.specs.Passed.{IsSite, IsEntered, IsReturned};
+
+use crate::parts::{with_object, without_object};
+use objects::{Object, Origin, copy};
+use refine_restore::{Site, into_callee, out_of_callee};
+use state_tuples::Tuple;
+use std::alloc::{AllocError, Global};
+
+// Whether both are one object, or both none.
+fn are_same(a: &Option<Object>, b: &Option<Object>) -> bool
+    ensures { (result ≡ true) ↔ (a.now ≡ b.now) }
+{
+    *a == *b
+}
+
+// The caller's object whose state an object of the callee begins with, if there is one.
+fn source_of(site: &Site, object: &Object, depth: u8) -> Option<Object>
+    requires { depth ≤ 8 }
+    ensures { result ≡ into depth (site_of depth site.now) object.now }
+{
+    match into_callee(site, object, depth) {
+        Origin::Same => Some(copy(object)),
+        Origin::From(source) => Some(source),
+        Origin::Nothing => None,
+    }
+}
+
+// Those of the callee's objects that have their state from the object of a tuple, or none where that has none, in the states of the tuple.
+fn entered(
+    alloc: Global,
+    site: &Site,
+    depth: u8,
+    tuple: &Tuple,
+    callee_objects: &[Object],
+) -> Result<Vec<Tuple>, AllocError>
+    requires { depth ≤ 8 }
+    ensures { IfOk result (λ list. IsExactly list.items (SomeGives (λ o u. (into depth (site_of depth site.now) o ≡ tuple.now.object) × (with_object tuple.now o ≡ u)) callee_objects.now)) }
+{
+    let mut list = Vec::new(alloc);
+    for object in callee_objects {
+        let source = source_of(site, object, depth);
+        if are_same(&source, &tuple.object) {
+            list.push(with_object(tuple, copy(object)))?;
+        }
+    }
+    Ok(list)
+}
+
+// The tuples with which a callee is entered where one without an object stands before the call.
+fn entered_none(
+    alloc: Global,
+    site: &Site,
+    depth: u8,
+    tuple: &Tuple,
+    callee_objects: &[Object],
+) -> Result<Vec<Tuple>, AllocError>
+    requires { depth ≤ 8 }
+    ensures { IfOk result (λ list. tuple.now.object ≡ None → (c : Checker) (s : Form) (callee : Function) → c.depth ≡ depth → IsSite depth site.now s → IsExactly list.items (IsEntered c s callee callee_objects.now tuple.now)) }
+{
+    let mut list = entered(alloc, site, depth, tuple, callee_objects)?;
+    list.push(without_object(tuple))?;
+    Ok(list)
+}
+
+/// The tuples with which a callee is entered where this one stands before the call, among the objects that are followed in the callee.
+pub fn into_call(
+    alloc: Global,
+    site: &Site,
+    depth: u8,
+    tuple: &Tuple,
+    callee_objects: &[Object],
+) -> Result<Vec<Tuple>, AllocError>
+    requires { depth ≤ 8 }
+    ensures { IfOk result (λ list. (c : Checker) (s : Form) (callee : Function) → c.depth ≡ depth → IsSite depth site.now s → IsExactly list.items (IsEntered c s callee callee_objects.now tuple.now)) }
+{
+    match &tuple.object {
+        Some(_) => entered(alloc, site, depth, tuple, callee_objects),
+        None => entered_none(alloc, site, depth, tuple, callee_objects),
+    }
+}
+
+// Those of the caller's objects that have their state from the object of a tuple, in the states of the tuple.
+fn returned(
+    alloc: Global,
+    site: &Site,
+    depth: u8,
+    tuple: &Tuple,
+    caller_objects: &[Object],
+) -> Result<Vec<Tuple>, AllocError>
+    requires { depth ≤ 8 }
+    ensures { IfOk result (λ list. IsExactly list.items (SomeGives (λ o u. (out depth (site_of depth site.now) o ≡ tuple.now.object) × (with_object tuple.now o ≡ u)) caller_objects.now)) }
+{
+    let mut list = Vec::new(alloc);
+    for object in caller_objects {
+        let source = out_of_callee(site, object, depth);
+        if are_same(&source, &tuple.object) {
+            list.push(with_object(tuple, copy(object)))?;
+        }
+    }
+    Ok(list)
+}
+
+// A list of one tuple.
+fn alone(alloc: Global, tuple: Tuple) -> Result<Vec<Tuple>, AllocError>
+    ensures { IfOk result (λ list. list.items ≡ tuple ∷ []) }
+{
+    let mut list = Vec::new(alloc);
+    list.push(tuple)?;
+    Ok(list)
+}
+
+/// The tuples behind a call where its callee has ended with this one, among the objects that are followed in the caller. What is saved over
+/// the call, by `is_saved`, isn't among them.
+pub fn out_of_call(
+    alloc: Global,
+    site: &Site,
+    depth: u8,
+    tuple: &Tuple,
+    caller_objects: &[Object],
+) -> Result<Vec<Tuple>, AllocError>
+    requires { depth ≤ 8 }
+    ensures { IfOk result (λ list. (c : Checker) (s : Form) (caller : Function) → c.depth ≡ depth → IsSite depth site.now s → IsExactly list.items (IsReturned c s caller caller_objects.now tuple.now)) }
+{
+    match &tuple.object {
+        Some(_) => returned(alloc, site, depth, tuple, caller_objects),
+        None => alone(alloc, without_object(tuple)),
+    }
+}
