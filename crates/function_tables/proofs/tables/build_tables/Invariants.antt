@@ -1,0 +1,12 @@
+use Rattle.std.proofs.Common.{◌≤◌, length}
+use Rattle.function_tables.proofs.OfFunctions.{AreFirst}
+use Rattle.function_tables.proofs.tables.build_tables.Given as goal
+use Rattle.metal_tree.specs.Whole.{machine_view}
+use Rattle.programs.specs.Definitions.{definitions, trees_in}
+
+-- the tables of the functions before this one
+abbrev pub invariant-loop-number : goal.invariant-loop-number
+invariant-loop-number l = record {
+  tables : AreFirst (machine_view l.machine) l.depth l.program.units.items l.number l.tables.items;
+  within : l.number ≤ length (definitions (trees_in l.program.units.items));
+}

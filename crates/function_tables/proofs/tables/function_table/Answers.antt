@@ -1,0 +1,11 @@
+use Rattle.function_tables.proofs.OfFunctions.{filed, function-table}
+use Rattle.function_tables.proofs.tables.function_table.Goals as goal
+use Rattle.metal_tree.specs.Whole.{machine_view}
+
+pub block_tables-requires-clause-filed : goal.block_tables-requires-clause-filed
+block_tables-requires-clause-filed c = filed c.args.program.now.units.items c.args.f.number c.function-function.result.now c.function-function.ensures.defined
+
+pub returns : goal.returns
+returns c =
+    function-table (machine_view c.args.machine.now) c.args.depth c.args.program.now.units.items c.args.f.number c.function-function.result.now (record { graph = c.in_ok-graph.graph; blocks = c.in_ok-blocks.blocks })
+    c.function-function.ensures.defined c.in_ok-graph.ensures.sound c.in_ok-graph.ensures.traces c.in_ok-blocks.ensures

@@ -1,0 +1,11 @@
+-- The rules of a list of events.
+use Rattle.std.specs.Prelude.{ℕ, List}
+use Rattle.std.specs.List.{AllZip}
+use Rattle.applied_rules.specs.declared.rules.EventRules.{EventRules}
+use Rattle.applied_rules.specs.Events.{AreOfEvent}
+use Rattle.checker_model.specs.Happenings.{Function, Happening}
+use Rattle.metal_machines.specs.Machine.{Machine}
+
+-- THE RULES are those of these events of this function, one by one, where objects have this depth
+abbrev pub AreOfEvents : Machine → ℕ → Function → List Happening → List EventRules → Type 0
+AreOfEvents m depth f hs rules = AllZip (λ h r. AreOfEvent m depth h f r) hs rules

@@ -1,0 +1,52 @@
+//! The tables of all functions of a program.
+
+ghost use Rattle.std.specs.Prelude.{◌≡◌, ◌≤◌, ◌<◌, length, Some, slice_get, IfOk};
+ghost use Rattle.c_typing.specs.Functions.{Defined};
+ghost use Rattle.checker_programs.specs.Units.{texts_of};
+ghost use Rattle.function_tables.specs.Tables.{IsFunctionTable, AreTables};
+ghost use Rattle.metal_tree.specs.Whole.{machine_view};
+ghost use Rattle.programs.specs.Definitions.{definitions, trees_in};
+
+use crate::blocks::block_tables;
+use crate::table::FunctionTable;
+use function_graphs::build;
+use metal_tree::Machine;
+use programs::{FnId, Program};
+use std::alloc::{AllocError, Global};
+
+// The table of a function of a program.
+fn function_table<'u, 'a>(
+    alloc: Global,
+    program: &Program<'u, 'a>,
+    machine: &Machine<'u>,
+    depth: u8,
+    f: FnId,
+) -> Result<FunctionTable<'u, 'a>, AllocError>
+    requires deep { depth ≤ 8 }
+    requires there { f.number < length (definitions (trees_in program.now.units.items)) }
+    ensures { IfOk result (λ table. (d : Defined) → slice_get (definitions (trees_in program.now.units.items)) f.number ≡ Some d → ∥ IsFunctionTable (machine_view machine.now) depth (texts_of program.now.units.items) d table ∥₁) }
+{
+    let function = program.function(f);
+    let graph = build(alloc, program, f)?;
+    let blocks = block_tables(alloc, program, machine, depth, function, &graph)?;
+    Ok(FunctionTable { graph, blocks })
+}
+
+/// The table of each function of a program under a checker, by its number. Objects have at most `depth` steps. Each rule is matched at
+/// each event once, and each call that ends a block is followed once. The only fault is want of memory.
+pub fn build_tables<'u, 'a>(
+    alloc: Global,
+    program: &Program<'u, 'a>,
+    machine: &Machine<'u>,
+    depth: u8,
+) -> Result<Vec<FunctionTable<'u, 'a>>, AllocError>
+    requires { depth ≤ 8 }
+    ensures { IfOk result (λ tables. ∥ AreTables (machine_view machine.now) depth (texts_of program.now.units.items) tables.items ∥₁) }
+{
+    let mut tables = Vec::new(alloc);
+    for number in 0..program.count() {
+        let table = function_table(alloc, program, machine, depth, FnId { number })?;
+        tables.push(table)?;
+    }
+    Ok(tables)
+}
