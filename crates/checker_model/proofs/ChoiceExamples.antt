@@ -5,11 +5,13 @@ use Rattle.std.proofs.Common.{◌≡◌, ℕ, Bool, true, false, List, [], ◌�
 use Rattle.c_objects.specs.Objects.{Object, Deref, path}
 use Rattle.c_objects.proofs.Building.{p, s, q, place, name, star}
 use Rattle.c_paths.specs.Events.{Event, Evaluated, Declared, Branched, Exited}
+use Rattle.c_tree.specs.declared.operator.AssignOp.TheVariants as assign
 use Rattle.c_tree.specs.Node.{Node}
 use Rattle.metal_machines.specs.Machine.{AnyExpr, FromGlobal, FromObject, ToGlobal, ToObject, ToUnknown, Always, ByTruth, Source, Dest, Item, Base, EndOfPath, Rule, Machine}
-use Rattle.hole_matching.proofs.Building.{some_facts, hole, named, calling, starred, call_of}
+use Rattle.hole_matching.proofs.Building.{some_facts, hole, named, calling, starred, call_of, assigning, assigned}
 use Rattle.path_subjects.specs.Subjects.{Tree, DerefOf}
 use Rattle.checker_model.specs.Choices.{State, next_global, chosen}
+use Rattle.checker_model.specs.Checkers.{source_at}
 use Rattle.checker_model.specs.Happenings.{Function, Happening}
 
 abbrev rule : ℕ → Source → List (List Item) → Dest → Rule
@@ -134,3 +136,23 @@ called_global = refl
 -- a declaration takes no rule
 declares : object (Declared (record { place = place; name = 5 })) true 0 (path p []) freed ≡ freed
 declares = refl
+
+-- `start: { v = k() } ==> v.freed`: at p = k() the move takes the state of p away, and the rule gives it one
+abbrev making : Machine
+making = record {
+  name = 21;
+  variables = 1;
+  holes = record { name = 22; of = AnyExpr } ∷ [];
+  globals = [];
+  states = (23 ∷ 25 ∷ []) ∷ [];
+  rules = rule 1 (FromGlobal 0) ((Base (assigning assign.Plain (hole 0) (calling (named 11) [])) ∷ []) ∷ []) (Always (ToObject 0 0)) ∷ [];
+}
+
+abbrev made : Event
+made = at_node (assigned assign.Plain (name 0) (call_of (name 11) []))
+
+killed : source_at 4 (happening made) (path p []) ≡ None
+killed = refl
+
+born_again : chosen making 4 (happening made) function true 0 (path p []) None ≡ freed
+born_again = refl
