@@ -1,0 +1,4 @@
+pub mod Lists
+pub mod Views
+pub mod FollowedObjects
+pub mod Nexts
