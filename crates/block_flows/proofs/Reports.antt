@@ -12,7 +12,7 @@ use Rattle.checker_model.specs.Choices.{State, Taken, taken, taken_global}
 use Rattle.checker_model.specs.Happenings.{Function, Happening}
 use Rattle.checker_model.specs.Reports.{Checker, report_of, report_at, token_at}
 use Rattle.event_walks.proofs.Shown.{Reported, shown_where}
-use Rattle.path_model.specs.declared.report.Report.{Report}
+use Rattle.report_model.specs.declared.report.Report.{Report}
 use Rattle.path_theory.specs.BlockEdges.{Shows}
 use Rattle.path_theory.specs.Facts.{FactOf}
 use Rattle.tuple_flows.specs.Facts.{listed}

@@ -19,7 +19,7 @@ use Rattle.checker_programs.specs.Roots.{followed_into, IsRootFunction}
 use Rattle.checker_programs.specs.Texts.{Text, functions_in, function_of, table_of, empty, with_close, definition_of, flow_facts, happening, site}
 use Rattle.checker_programs.proofs.Closed.{closed}
 use Rattle.function_graphs.specs.Known.{facts_of}
-use Rattle.path_model.specs.declared.report.Report.{Report}
+use Rattle.report_model.specs.declared.report.Report.{Report}
 use Rattle.path_theory.specs.FlatPaths.{InErrors}
 use Rattle.path_theory.specs.FlowGraphs.{supergraph}
 use Rattle.path_theory.specs.Paths.{Reported}

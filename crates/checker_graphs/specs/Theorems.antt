@@ -11,7 +11,7 @@ use Rattle.checker_programs.specs.Paths.{program}
 use Rattle.checker_programs.specs.Relevant.{Relevant}
 use Rattle.checker_programs.specs.Texts.{Text, functions_in, function_of, with_close, definition_of}
 use Rattle.checker_programs.specs.Units.{texts_of}
-use Rattle.path_model.specs.declared.report.Report.{Report}
+use Rattle.report_model.specs.declared.report.Report.{Report}
 use Rattle.path_theory.specs.FlowGraphs.{supergraph}
 use Rattle.path_theory.specs.Paths.{Reported}
 use Rattle.path_theory.specs.Relevant.{IsClosed}

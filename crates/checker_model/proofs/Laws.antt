@@ -3,7 +3,7 @@ use Rattle.std.proofs.Common.{◌≡◌, ℕ, Bool, true, false, cond, not, ◌|
 use Rattle.c_objects.specs.Objects.{Object}
 use Rattle.c_paths.specs.Events.{Event}
 use Rattle.c_typing.specs.Options.{◌>?◌, if_there}
-use Rattle.path_model.specs.declared.report.Report.{Report}
+use Rattle.report_model.specs.declared.report.Report.{Report}
 use Rattle.path_theory.specs.FrameEnds.{IgnoresKind, EndsQuietly}
 use Rattle.path_theory.specs.Origins.{IsLocal, handed}
 use Rattle.checker_model.specs.Calls.{returned, into, out}

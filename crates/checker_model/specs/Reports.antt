@@ -9,7 +9,7 @@ use Rattle.c_tree.specs.declared.token.Token.{Token}
 use Rattle.c_typing.specs.Options.{◌>?◌}
 use Rattle.hole_matching.specs.Message.{Source, from_place, message}
 use Rattle.metal_machines.specs.Machine.{Piece, Machine}
-use Rattle.path_model.specs.declared.report.Report.{Report}
+use Rattle.report_model.specs.declared.report.Report.{Report}
 use Rattle.checker_model.specs.Choices.{State, Taken, taken, taken_global, scene}
 use Rattle.checker_model.specs.Happenings.{Function, Happening}
 

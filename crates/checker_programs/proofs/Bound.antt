@@ -11,7 +11,7 @@ use Rattle.checker_model.proofs.Sources.{given, tested, untested}
 use Rattle.hole_matching.specs.Alternatives.{bound_object}
 use Rattle.hole_matching.specs.Matching.{Binding}
 use Rattle.metal_machines.specs.Machine.{Rule}
-use Rattle.path_model.specs.declared.report.Report.{Report}
+use Rattle.report_model.specs.declared.report.Report.{Report}
 
 -- the first that gives something is among them
 first-found : {A B : Type 0} (f : A → Option B) (xs : List A) (y : B) → first_some f xs ≡ Some y → (x : A) × Among x xs × (f x ≡ Some y)

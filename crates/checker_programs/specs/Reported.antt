@@ -6,8 +6,8 @@ use Rattle.checker_model.specs.Checkers.{model}
 use Rattle.checker_model.specs.Reports.{Checker}
 use Rattle.checker_programs.specs.Paths.{program}
 use Rattle.checker_programs.specs.Texts.{Text}
-use Rattle.path_model.specs.declared.report.Report.{Report}
-use Rattle.path_model.specs.Order.{report_cmp}
+use Rattle.report_model.specs.declared.report.Report.{Report}
+use Rattle.report_model.specs.Order.{report_cmp}
 use Rattle.path_theory.specs.Paths.{Reported}
 
 -- one of the checkers reports it

@@ -2,8 +2,8 @@
 use Rattle.std.proofs.Common.{◌≡◌, ◌≢◌, ◌⊎◌, inl, inr, ℕ, zero, suc, ◌+◌, ◌-◌, true, List, [], ◌∷◌, ◌++◌, length, take, slice_get, Option, Some, None, refl, sym, ap, ◌∙◌, subst, length-append, add-one, add-zero, zero-add, arith}
 use Rattle.std.proofs.lemmas.Bool.{true≢false}
 use Rattle.mx_io.specs.Reads.{Stands}
-use Rattle.path_model.specs.declared.report.Report.{Report}
-use Rattle.path_model.specs.Reports.{text_of}
+use Rattle.report_model.specs.declared.report.Report.{Report}
+use Rattle.report_model.specs.Lines.{text_of}
 use Rattle.command.specs.declared.fault.Fault.{Fault}
 use Rattle.command.specs.declared.fault.Fault.TheVariants.{TooLarge, InText, NotYet}
 use Rattle.command.specs.Located.{Located}

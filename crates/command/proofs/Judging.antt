@@ -2,15 +2,15 @@
 use Rattle.std.proofs.Common.{◌≡◌, ℕ, ◌+◌, ◌-◌, ◌≤◌, min, List, [], ◌∷◌, ◌++◌, length, slice_get, Option, Some, refl, sym, ap, ◌∙◌, subst, arith, Result, Ok, Err, IfErr}
 use Rattle.mx_base.specs.Names.{HasNoRepeats}
 use Rattle.mx_io.specs.Reads.{Stands}
-use Rattle.path_model.specs.declared.machine.Machine.{Machine}
-use Rattle.path_model.specs.declared.machine.Pattern.{Pattern}
-use Rattle.path_model.specs.declared.machine.Pattern.TheVariants as patterns
-use Rattle.path_model.specs.declared.machine.Rule.{Rule}
-use Rattle.path_model.specs.declared.machine.Source.{Source}
-use Rattle.path_model.specs.declared.machine.Source.TheVariants as sources
-use Rattle.path_model.specs.declared.machine.Target.{Target}
-use Rattle.path_model.specs.declared.machine.Target.TheVariants as targets
-use Rattle.path_model.specs.declared.report.Report.{Report}
+use Rattle.small_model.specs.declared.machine.Machine.{Machine}
+use Rattle.small_model.specs.declared.machine.Pattern.{Pattern}
+use Rattle.small_model.specs.declared.machine.Pattern.TheVariants as patterns
+use Rattle.small_model.specs.declared.machine.Rule.{Rule}
+use Rattle.small_model.specs.declared.machine.Source.{Source}
+use Rattle.small_model.specs.declared.machine.Source.TheVariants as sources
+use Rattle.small_model.specs.declared.machine.Target.{Target}
+use Rattle.small_model.specs.declared.machine.Target.TheVariants as targets
+use Rattle.report_model.specs.declared.report.Report.{Report}
 use Rattle.command.specs.Located.{Located, located_of, at_start}
 use Rattle.command.specs.declared.fault.Fault.{Fault}
 use Rattle.command.specs.declared.fault.Fault.TheVariants as faults

@@ -2,8 +2,8 @@
 use Rattle.std.proofs.Common.{◌≡◌, ℕ, zero, suc, true, ◌<◌, List, [], ◌∷◌, length, map, get_or, slice_get, Option, Some, sym, ap, ◌∙◌, arith}
 use Rattle.std.proofs.lemmas.List.{length-map}
 use Rattle.std.proofs.lemmas.Option.{slice_get_within}
-use Rattle.path_model.specs.declared.report.Report.{Report}
-use Rattle.path_model.specs.Reports.{text_of}
+use Rattle.report_model.specs.declared.report.Report.{Report}
+use Rattle.report_model.specs.Lines.{text_of}
 use Rattle.command.specs.Located.{Located, refused_line}
 use Rattle.command.specs.Due.{IsLacking, IsRefused, IsReported, not_read_line}
 use Rattle.command.specs.Judged.{AreJudged}

@@ -11,15 +11,15 @@ use Rattle.std.specs.declared.cmp.Ordering.TheVariants.{Less, Equal}
 use Rattle.c_tree.specs.Node.{Node, node, Nodes, no_more, more, Primary, Ident}
 use Rattle.c_tree.specs.declared.place.Place.{Place}
 use Rattle.c_tree.specs.declared.token.Token.{Token}
-use Rattle.path_model.specs.declared.machine.Machine.{Machine}
-use Rattle.path_model.specs.declared.machine.Message.{Message}
-use Rattle.path_model.specs.declared.machine.Rule.{Rule}
-use Rattle.path_model.specs.declared.report.Report.{Report}
-use Rattle.path_model.specs.Events.{Event, Evaluated, Body, value_then, values_then, events_of, first_of}
-use Rattle.path_model.specs.Objects.{Object, same_object}
-use Rattle.path_model.specs.Order.{report_cmp, object_cmp, text_cmp}
-use Rattle.path_model.specs.Reports.{report_of, IsReported, AreReports}
-use Rattle.path_model.specs.States.{Map, nothing_known, taken, chosen, stepped, after_from}
+use Rattle.small_model.specs.declared.machine.Machine.{Machine}
+use Rattle.small_model.specs.declared.machine.Message.{Message}
+use Rattle.small_model.specs.declared.machine.Rule.{Rule}
+use Rattle.report_model.specs.declared.report.Report.{Report}
+use Rattle.small_model.specs.Events.{Event, Evaluated, Body, value_then, values_then, events_of, first_of}
+use Rattle.small_model.specs.Objects.{Object, same_object}
+use Rattle.report_model.specs.Order.{report_cmp, object_cmp, text_cmp}
+use Rattle.small_model.specs.Reports.{report_of, IsReported, AreReports}
+use Rattle.small_model.specs.States.{Map, nothing_known, taken, chosen, stepped, after_from}
 use Rattle.command.specs.Simple.{IsSimple, IsCall, IsDereference, IsPlaced, AreSimple, found, parameter_of, report_with, report_with_message, reported_then, reports_from}
 use Rattle.command.proofs.Members.{contains_first, contains_later, contains_cases, contains_none}
 use Rattle.command.proofs.Taken.{taken-name, taken-simple, IsOnly, only-name, only-simple, same_object-sound, same_object-self}

@@ -14,7 +14,7 @@ use Rattle.c_lexer.specs.Tokens.{IsToken, AreTokens}
 use Rattle.c_reading.specs.declared.mode.Mode.TheVariants.{C}
 use Rattle.c_reading.specs.Pieces.{beginning}
 use Rattle.c_reading.specs.Reading.{Lexeme, lexemes}
-use Rattle.path_model.specs.Events.{Body, first_of}
+use Rattle.small_model.specs.Events.{Body, first_of}
 use Rattle.command.specs.Simple.{IsSimple, IsPlaced, AreSimple}
 use Rattle.command.specs.Simple as simple
 use Rattle.small_form.specs.SmallBody.{AreStatementNodes, IsBody}

@@ -9,11 +9,11 @@ use Rattle.c_tree.specs.Node.{Node, more}
 use Rattle.c_tree.specs.Views.{node_of, nodes_in}
 use Rattle.c_tree.specs.declared.tree.Tree.{Tree}
 use Rattle.c_tree.specs.declared.token.Token.{Token}
-use Rattle.path_model.specs.declared.machine.Machine.{Machine}
-use Rattle.path_model.specs.declared.machine.Rule.{Rule}
-use Rattle.path_model.specs.declared.report.Report.{Report}
-use Rattle.path_model.specs.Events.{Body, first_of}
-use Rattle.path_model.specs.States.{chosen}
+use Rattle.small_model.specs.declared.machine.Machine.{Machine}
+use Rattle.small_model.specs.declared.machine.Rule.{Rule}
+use Rattle.report_model.specs.declared.report.Report.{Report}
+use Rattle.small_model.specs.Events.{Body, first_of}
+use Rattle.small_model.specs.States.{chosen}
 use Rattle.command.specs.Simple.{IsPlaced, AreSimple, Adds, found, report_with, reported_then, reports_from}
 
 cons_option-append : {X : Type 0} (o : Option X) (xs : List X) → cons_option o xs ≡ option_to_list o ++ xs

@@ -2,7 +2,7 @@
 use Rattle.std.proofs.Common.{◌≡◌, ◌≢◌, ◌⊎◌, inl, inr, ℕ, false, List, [], Option, refl, sym, ◌∙◌, subst}
 use Rattle.std.proofs.lemmas.Bool.{true≢false}
 use Rattle.mx_io.specs.Causes.{Rose}
-use Rattle.path_model.specs.declared.report.Report.{Report}
+use Rattle.report_model.specs.declared.report.Report.{Report}
 use Rattle.command.specs.declared.status.Status.{Status}
 use Rattle.command.specs.declared.status.Status.TheVariants.{Clean, Reports, Usage, Refused, ReadFault, WriteFault, NoMemory}
 use Rattle.command.specs.Due.{IsDue, IsReported, IsRefused, IsLacking}

@@ -5,12 +5,12 @@ use Rattle.std.specs.Option.{option_and_then, option_map_or}
 use Rattle.c_tree.specs.Node.{Node, node, Primary, Ident}
 use Rattle.c_tree.specs.declared.place.Place.{Place}
 use Rattle.c_tree.specs.declared.token.Token.{Token}
-use Rattle.path_model.specs.declared.machine.Machine.{Machine}
-use Rattle.path_model.specs.declared.machine.Pattern.{Pattern}
-use Rattle.path_model.specs.declared.machine.Pattern.TheVariants as patterns
-use Rattle.path_model.specs.Events.{Evaluated, Body}
-use Rattle.path_model.specs.Objects.{Object, Variable, Param, Selector, Star, same_object, same_variable, same_selectors, path_of, declared_by, object_of}
-use Rattle.path_model.specs.States.{Map, matched, fits, taken, chosen, stepped}
+use Rattle.small_model.specs.declared.machine.Machine.{Machine}
+use Rattle.small_model.specs.declared.machine.Pattern.{Pattern}
+use Rattle.small_model.specs.declared.machine.Pattern.TheVariants as patterns
+use Rattle.small_model.specs.Events.{Evaluated, Body}
+use Rattle.small_model.specs.Objects.{Object, Variable, Param, Selector, Star, same_object, same_variable, same_selectors, path_of, declared_by, object_of}
+use Rattle.small_model.specs.States.{Map, matched, fits, taken, chosen, stepped}
 use Rattle.command.specs.Simple.{IsSimple, IsCall, IsDereference, found, parameter_of}
 use Rattle.command.proofs.Finding.{find-none, find-and, and-false, and-and}
 

@@ -1,7 +1,7 @@
 -- What a run is due: a status, the text for `out` and the line for `errs`.
 use Rattle.std.specs.Prelude.{◌≡◌, ◌≢◌, ℕ, true, false, ◌⊎◌, List, [], ◌∷◌, ◌++◌, length, Option, codes}
-use Rattle.path_model.specs.declared.report.Report.{Report}
-use Rattle.path_model.specs.Reports.{text_of}
+use Rattle.report_model.specs.declared.report.Report.{Report}
+use Rattle.report_model.specs.Lines.{text_of}
 use Rattle.command.specs.Located.{Located, refused_line}
 use Rattle.command.specs.declared.status.Status.{Status}
 use Rattle.command.specs.declared.status.Status.TheVariants.{Clean, Reports, Usage, Refused, ReadFault, WriteFault, NoMemory}

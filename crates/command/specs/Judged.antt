@@ -1,10 +1,10 @@
 -- What a checker's text and a C file's text mean: the list of reports.
 use Rattle.std.specs.Prelude.{ℕ, List, [], ◌∷◌}
 use Rattle.mx_base.specs.Names.{HasNoRepeats}
-use Rattle.path_model.specs.declared.machine.Machine.{Machine}
-use Rattle.path_model.specs.declared.report.Report.{Report}
-use Rattle.path_model.specs.Events.{Body}
-use Rattle.path_model.specs.Reports.{AreReports}
+use Rattle.small_model.specs.declared.machine.Machine.{Machine}
+use Rattle.report_model.specs.declared.report.Report.{Report}
+use Rattle.small_model.specs.Events.{Body}
+use Rattle.small_model.specs.Reports.{AreReports}
 use Rattle.small_form.specs.SmallBody.{IsBody}
 use Rattle.small_form.specs.SmallChecker.{Checker, IsSmallChecker, IsMachine}
 use Rattle.small_form.specs.SmallSource.{Source}

@@ -1,8 +1,8 @@
 -- What a run does: it stops for want of memory before the first write, or carries out what it is due.
 use Rattle.std.specs.Prelude.{◌≡◌, ◌≢◌, ℕ, ◌⊎◌, List, [], ◌∷◌, Option, Some}
 use Rattle.mx_io.specs.Causes.{Rose}
-use Rattle.path_model.specs.declared.report.Report.{Report}
-use Rattle.path_model.specs.Reports.{text_of}
+use Rattle.report_model.specs.declared.report.Report.{Report}
+use Rattle.report_model.specs.Lines.{text_of}
 use Rattle.command.specs.declared.status.Status.{Status}
 use Rattle.command.specs.declared.status.Status.TheVariants.{Clean, Reports, NoMemory}
 use Rattle.command.specs.Due.{IsDue, FailedInTurn, IsAccepted, IsMisused, IsRefused, IsLacking, usage_line}

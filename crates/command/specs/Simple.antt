@@ -6,14 +6,14 @@ use Rattle.c_tree.specs.declared.operator.UnaryOp.TheVariants as operators
 use Rattle.c_tree.specs.Node.{Node, node, Nodes, no_more, more, Primary, Ident, Call, Operation, Unary}
 use Rattle.c_tree.specs.declared.place.Place.{Place}
 use Rattle.c_tree.specs.declared.token.Token.{Token}
-use Rattle.path_model.specs.declared.machine.Machine.{Machine}
-use Rattle.path_model.specs.declared.machine.Message.{Message}
-use Rattle.path_model.specs.declared.machine.Rule.{Rule}
-use Rattle.path_model.specs.declared.report.Report.{Report}
-use Rattle.path_model.specs.Events.{Body, first_of}
-use Rattle.path_model.specs.Objects.{Object, path_of, declared_by}
-use Rattle.path_model.specs.Reports.{report_of}
-use Rattle.path_model.specs.States.{fits, matched, chosen}
+use Rattle.small_model.specs.declared.machine.Machine.{Machine}
+use Rattle.small_model.specs.declared.machine.Message.{Message}
+use Rattle.small_model.specs.declared.machine.Rule.{Rule}
+use Rattle.report_model.specs.declared.report.Report.{Report}
+use Rattle.small_model.specs.Events.{Body, first_of}
+use Rattle.small_model.specs.Objects.{Object, path_of, declared_by}
+use Rattle.small_model.specs.Reports.{report_of}
+use Rattle.small_model.specs.States.{fits, matched, chosen}
 
 -- `callee(parameter)` with another name for callee, or `*parameter`
 pub data IsSimple (parameter : Token) : Node → Type 0 where

@@ -1,10 +1,10 @@
 -- What the stages of reading answer.
 use Rattle.std.specs.Prelude.{◌≡◌, ℕ, ◌≤◌, ◌<◌, min, List, [], ◌∷◌, ◌++◌, length, slice_get, Option, Some, Result, Ok, Err, Vec}
 use Rattle.mx_io.specs.Reads.{Stands}
-use Rattle.path_model.specs.declared.machine.Machine.{Machine}
-use Rattle.path_model.specs.declared.report.Report.{Report}
-use Rattle.path_model.specs.Events.{Body}
-use Rattle.path_model.specs.Reports.{AreReports}
+use Rattle.small_model.specs.declared.machine.Machine.{Machine}
+use Rattle.report_model.specs.declared.report.Report.{Report}
+use Rattle.small_model.specs.Events.{Body}
+use Rattle.small_model.specs.Reports.{AreReports}
 use Rattle.front_end.specs.declared.fault.Faulty.{Faulty}
 use Rattle.front_end.specs.declared.fault.Refusal.{Refusal}
 use Rattle.front_end.specs.declared.fault.Refusal.TheVariants as refusals

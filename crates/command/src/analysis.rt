@@ -3,15 +3,16 @@
 ghost use Rattle.std.specs.Prelude.{◌≡◌, ◌<◌, ◌≤◌, ◌++◌, is_some, length, take, option_map, IfOk, OnOk};
 ghost use Rattle.std.specs.Option.{option_to_list};
 ghost use Rattle.c_tree.specs.Views.{node_of, nodes_of};
-ghost use Rattle.path_model.specs.States.{fits, matched, target_state, is_named, only, chosen};
-ghost use Rattle.path_model.specs.Reports.{AreReports, report_of, shortened};
-ghost use Rattle.path_model.specs.Objects.{path_of, declared_by};
-ghost use Rattle.path_model.specs.Views.{body_of};
+ghost use Rattle.small_model.specs.States.{fits, matched, target_state, is_named, only, chosen};
+ghost use Rattle.small_model.specs.Reports.{AreReports, report_of, shortened};
+ghost use Rattle.small_model.specs.Objects.{path_of, declared_by};
+ghost use Rattle.small_model.specs.Views.{body_of};
 ghost use Rattle.command.specs.Simple.{AreSimple, IsThere, Adds, found, report_with};
 
 use c_tree::{Kind, Operation, Primary, Token, Tree, Trees, UnaryOp};
 use mx_base::{Names, Text};
-use path_model::{Function, Machine, Message, Pattern, Report, Rule, Source, Target};
+use report_model::Report;
+use small_model::{Function, Machine, Message, Pattern, Rule, Source, Target};
 use std::alloc::{AllocError, Global};
 
 /// Whether a node is the name with this number.

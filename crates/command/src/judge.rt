@@ -17,8 +17,9 @@ use c_lexer::{Tokens, strip};
 use front_end::{Refusal, read_tokens, read_typed};
 use mx_base::Names;
 use mx_io::Files;
-use path_model::{Machine, Report};
+use report_model::Report;
 use small_form::{SmallFault, read_small_checker, read_source};
+use small_model::Machine;
 use std::alloc::{AllocError, Global};
 
 /// What the files of a request came to.

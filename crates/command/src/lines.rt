@@ -1,10 +1,10 @@
 //! The lines of reports.
 
 ghost use Rattle.std.specs.Prelude.{◌≡◌, ◌++◌, flat_map, IfOk, OnOk};
-ghost use Rattle.path_model.specs.Reports.{line_of, text_of};
+ghost use Rattle.report_model.specs.Lines.{line_of, text_of};
 
 use itoa::Buffer;
-use path_model::Report;
+use report_model::Report;
 use std::alloc::{AllocError, Global};
 
 /// Appends texts, one behind the other.

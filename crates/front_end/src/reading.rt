@@ -123,6 +123,7 @@ pub fn read_typed<'a>(
     ensures typed { IfOk result (λ typed. AreTypedTrees tokens.now.all (nodes_of typed.unit.chunks)) }
     ensures functions { IfOk result (λ typed. map function_of typed.functions.items ≡ functions_of (nodes_of typed.unit.chunks)) }
     ensures tokens { IfOk result (λ typed. typed.unit.tokens.now ≡ tokens.now.all) }
+    ensures file { IfOk result (λ typed. typed.unit.file ≡ tokens.now.end.place.file) }
     ensures refused { IfErr result (λ e. (found : Found) → e ≡ FaultyAt found → HasNoTrees tokens.now found ⊎ HasNoTypes tokens.now found) }
 {
     let unit = match read_unit(arena, alloc, tokens) {

@@ -16,7 +16,7 @@ use Rattle.path_edges.specs.Edges.{edge_in, context_in, waiter_in}
 use Rattle.path_edges.specs.Relations.{Begins, LeadsTo, WaitsAt, IsEndOf, IsWoken, ShowsAt, IsClosedLog, IsLeastLog}
 use Rattle.path_edges.proofs.Numbers.{have-numbers}
 use Rattle.path_edges.proofs.Values.{sound, complete}
-use Rattle.path_model.specs.declared.report.Report.{Report}
+use Rattle.report_model.specs.declared.report.Report.{Report}
 use Rattle.path_theory.specs.Paths.{Reported}
 use Rattle.tabulation_rules.proofs.Squashed.{somehow_reported}
 

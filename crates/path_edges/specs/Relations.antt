@@ -11,7 +11,7 @@ use Rattle.path_edges.specs.declared.edges.Edge.{Edge}
 use Rattle.path_edges.specs.declared.edges.Waiter.{Waiter}
 use Rattle.path_edges.specs.Edges.{context_in, edge_in, waiter_in}
 use Rattle.least_set.specs.TwoPremises.{Follows, Least}
-use Rattle.path_model.specs.declared.report.Report.{Report}
+use Rattle.report_model.specs.declared.report.Report.{Report}
 use Rattle.tabulation_rules.specs.Rules.{Base, Goes, Waits, Ends, Wakes, ShowsReport}
 
 module _ (c : Checker) (ts : List Text) (gs : List Graph) where

@@ -9,7 +9,7 @@ use Rattle.checker_programs.specs.Texts.{Text}
 use Rattle.least_set.specs.Logs.{SomeGives}
 use Rattle.path_edges.specs.declared.edges.Edge.{Edge}
 use Rattle.path_edges.specs.Relations.{IsClosedLog, IsLeastLog, ShowsAt}
-use Rattle.path_model.specs.declared.report.Report.{Report}
+use Rattle.report_model.specs.declared.report.Report.{Report}
 use Rattle.path_theory.specs.Paths.{Reported}
 
 abbrev pub LeastEdgesReport : Type 0

@@ -4,7 +4,7 @@ use Rattle.std.proofs.lemmas.Cmp.{nat_cmp_total, nat_list_cmp_total, on_total, t
 use Rattle.std.specs.Cmp.{IsTotalOrder}
 use Rattle.std.specs.Cmp.Lexicographic.{slice_cmp}
 use Rattle.std.specs.Ordering.{nat_cmp, on}
-use Rattle.path_model.specs.Order.{object_cmp, report_cmp}
+use Rattle.report_model.specs.Order.{object_cmp, report_cmp}
 
 -- a text that is told from no text by its first number
 abbrev object_key : Option (List ℕ) → List ℕ

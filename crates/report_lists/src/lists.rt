@@ -3,11 +3,11 @@
 ghost use Rattle.std.specs.Prelude.{◌≡◌, IfOk, OnOk, AllPairs, Contains, IsSorted, [], ◌∷◌, ◌++◌};
 ghost use Rattle.std.specs.List.Sorted.{IsPermutation};
 ghost use Rattle.std.specs.declared.cmp.Ordering.TheVariants.{Less};
-ghost use Rattle.path_model.specs.Order.{report_cmp};
-ghost use Rattle.path_model.specs.declared.report.Report as report;
+ghost use Rattle.report_model.specs.Order.{report_cmp};
+ghost use Rattle.report_model.specs.declared.report.Report as report;
 ghost use Rattle.report_lists.specs.Repeats.{HasEqual, AgreeWhereEqual, IsEachOnce, is_last, with_new};
 
-use path_model::{Report, compare};
+use report_model::{Report, compare};
 use std::alloc::{AllocError, Global};
 
 // Puts reports in order.

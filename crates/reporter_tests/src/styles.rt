@@ -2,7 +2,7 @@
 
 use c_tree::Place;
 use mx_base::Text;
-use path_model::Report;
+use report_model::Report;
 use reporters::{JsonLines, Reporter, Table, place_of, render_at, write_line};
 use std::alloc::{AllocError, Global};
 use std::test::Fail;

@@ -1,7 +1,7 @@
 -- The styles of reporters: the bytes that each of them makes of a list of reports.
 use Rattle.std.specs.Prelude.{ℕ, ◌+◌, ◌-◌, ◌/◌, ◌%◌, ◌||◌, ◌==◌, nat_lt, if◌then◌else◌, List, [], ◌∷◌, ◌++◌, length, replicate, flat_map, Option, Some, None, codes}
 use Rattle.std.specs.Fmt.{decimal}
-use Rattle.path_model.specs.declared.report.Report.{Report}
+use Rattle.report_model.specs.declared.report.Report.{Report}
 
 -- The table.
 

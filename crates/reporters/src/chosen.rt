@@ -5,7 +5,7 @@ ghost use Rattle.std.specs.List.{position, position_or_len};
 ghost use Rattle.std.specs.Str.{bytes_eq};
 
 use crate::reporter::Reporter;
-use path_model::Report;
+use report_model::Report;
 use std::alloc::AllocError;
 
 // Empties a reporter, hands it the reports, and renders them.

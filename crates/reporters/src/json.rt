@@ -7,7 +7,7 @@ ghost use Rattle.reporters.specs.Members.{value_text, member_text};
 use crate::reporter::{Reporter, keep};
 use itoa::Buffer;
 use mx_base::Text;
-use path_model::Report;
+use report_model::Report;
 use std::alloc::{AllocError, Global};
 
 /// The value of a member.

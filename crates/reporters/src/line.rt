@@ -1,13 +1,13 @@
 //! The line of a report.
 
 ghost use Rattle.std.specs.Prelude.{◌≡◌, ◌++◌, OnOk, OnErr};
-ghost use Rattle.path_model.specs.Reports.{line_of};
+ghost use Rattle.report_model.specs.Lines.{line_of};
 ghost use Rattle.reporters.specs.Beginnings.{HasBegun};
 
 use crate::pieces::append_all;
 use itoa::Buffer;
 use mx_base::Text;
-use path_model::Report;
+use report_model::Report;
 use std::alloc::AllocError;
 
 /// Appends `FILE:LINE:COL: CHECKER: MESSAGE` and a line feed. An error leaves a beginning of it appended.

@@ -1,9 +1,9 @@
 //! What takes reports and renders them.
 
 ghost use Rattle.std.specs.Prelude.{◌≡◌, ◌++◌, ◌∷◌, [], List, ℕ, IfOk, OnOk, OnErr};
-ghost use Rattle.path_model.specs.declared.report.Report.{Report as ReportValue};
+ghost use Rattle.report_model.specs.declared.report.Report.{Report as ReportValue};
 
-use path_model::{Report, copy_report};
+use report_model::{Report, copy_report};
 use std::alloc::AllocError;
 
 /// Takes reports, and renders them in its style. The style and the name never change.

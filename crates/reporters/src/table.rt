@@ -7,7 +7,7 @@ use crate::pieces::{append_all, blanks};
 use crate::reporter::{Reporter, keep};
 use itoa::Buffer;
 use mx_base::Text;
-use path_model::Report;
+use report_model::Report;
 use std::alloc::{AllocError, Global};
 
 // Appends a text right in its places.

@@ -6,7 +6,7 @@ use Rattle.std.proofs.lemmas.List.Concat.{flat_map-cons}
 use Rattle.std.proofs.lemmas.List.Elements.{All-nil, All-cons, All-head, All-tail, All-append, All-map, All-weaker}
 use Rattle.c_tree.specs.declared.punctuator.Punctuator.TheVariants.{CloseBrace, Semicolon, Colon, Dot, LongArrow}
 use Rattle.c_tree.specs.declared.token.Token.{Token}
-use Rattle.path_model.specs.declared.machine.Machine.{Machine}
+use Rattle.small_model.specs.declared.machine.Machine.{Machine}
 use Rattle.small_form.specs.SmallNames.{is_name}
 use Rattle.small_form.specs.SmallText.{Lexeme, Word, Sign, IsTokenized, lexemes_of, first_spot, is_word}
 use Rattle.small_form.specs.SmallChecker.{Origin, Start, State, Shape, Call, Dereference, Texts, Line, Section, Checker, origin_lexemes, shape_lexemes, message_lexemes, line_lexemes, more_lexemes, section_lexemes, checker_lexemes, section_rules, IsOrigin, IsShape, IsLine, IsSection, IsChecker, IsSmallChecker, IsMachine, AreRules}

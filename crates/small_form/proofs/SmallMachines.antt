@@ -4,13 +4,13 @@ use Rattle.std.specs.List.{slice_get, All}
 use Rattle.std.specs.Option.{option_map}
 use Rattle.std.proofs.lemmas.List.{map-append, length-map, length-take-le, take_more}
 use Rattle.std.proofs.Math.ListN.{get_or-map}
-use Rattle.path_model.specs.declared.machine.Pattern.{Pattern}
-use Rattle.path_model.specs.declared.machine.Pattern.TheVariants as patterns
-use Rattle.path_model.specs.declared.machine.Rule.{Rule}
-use Rattle.path_model.specs.declared.machine.Source.{Source}
-use Rattle.path_model.specs.declared.machine.Source.TheVariants as sources
-use Rattle.path_model.specs.declared.machine.Target.{Target}
-use Rattle.path_model.specs.declared.machine.Message.{Message}
+use Rattle.small_model.specs.declared.machine.Pattern.{Pattern}
+use Rattle.small_model.specs.declared.machine.Pattern.TheVariants as patterns
+use Rattle.small_model.specs.declared.machine.Rule.{Rule}
+use Rattle.small_model.specs.declared.machine.Source.{Source}
+use Rattle.small_model.specs.declared.machine.Source.TheVariants as sources
+use Rattle.small_model.specs.declared.machine.Target.{Target}
+use Rattle.small_model.specs.declared.machine.Message.{Message}
 use Rattle.small_form.specs.declared.checker.ReadRule.{ReadRule}
 use Rattle.small_form.specs.SmallNames.{is_name}
 use Rattle.small_form.specs.SmallChecker.{Origin, Line, IsOrigin, IsShape, IsSource, IsPattern, IsTarget, IsMessage, IsRule, AreRules}

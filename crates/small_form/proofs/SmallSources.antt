@@ -13,7 +13,7 @@ use Rattle.c_tree.specs.declared.place.Place.{Place}
 use Rattle.c_tree.specs.declared.punctuator.Punctuator.TheVariants.{CloseBrace}
 use Rattle.c_tree.specs.declared.token.Token.{Token}
 use Rattle.c_tree.specs.declared.tree.Tree.{Tree}
-use Rattle.path_model.specs.Events.{Body}
+use Rattle.small_model.specs.Events.{Body}
 use Rattle.small_form.specs.SmallNames.{is_name}
 use Rattle.c_reading.specs.declared.mode.Mode.TheVariants.{C}
 use Rattle.c_reading.specs.Pieces.{beginning}

@@ -4,7 +4,7 @@ use Rattle.c_tree.specs.declared.operator.UnaryOp.TheVariants as operators
 use Rattle.c_tree.specs.Node.{Node, node, Nodes, no_more, more, Primary, Ident, Call, Operation, Unary}
 use Rattle.c_tree.specs.declared.place.Place.{Place}
 use Rattle.c_tree.specs.declared.token.Token.{Token}
-use Rattle.path_model.specs.Events.{Body}
+use Rattle.small_model.specs.Events.{Body}
 use Rattle.small_form.specs.SmallSource.{Source, Statement, IsSource, source_lexemes}
 use Rattle.small_form.specs.SmallSource as source
 use Rattle.c_reading.specs.declared.mode.Mode.TheVariants.{C}

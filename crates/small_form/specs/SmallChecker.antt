@@ -3,15 +3,15 @@ use Rattle.std.specs.Prelude.{◌≡◌, ◌≤◌, ℕ, ◌+◌, true, false, L
 use Rattle.std.specs.List.{list_any}
 use Rattle.std.specs.Str.{bytes_eq}
 use Rattle.c_tree.specs.declared.punctuator.Punctuator.TheVariants.{OpenParen, CloseParen, OpenBrace, CloseBrace, Star, Semicolon, Colon, Dot, Comma, Bar, LongArrow}
-use Rattle.path_model.specs.declared.machine.Machine.{Machine}
-use Rattle.path_model.specs.declared.machine.Message.{Message}
-use Rattle.path_model.specs.declared.machine.Pattern.{Pattern}
-use Rattle.path_model.specs.declared.machine.Pattern.TheVariants as patterns
-use Rattle.path_model.specs.declared.machine.Rule.{Rule}
-use Rattle.path_model.specs.declared.machine.Source.{Source}
-use Rattle.path_model.specs.declared.machine.Source.TheVariants as sources
-use Rattle.path_model.specs.declared.machine.Target.{Target}
-use Rattle.path_model.specs.declared.machine.Target.TheVariants as targets
+use Rattle.small_model.specs.declared.machine.Machine.{Machine}
+use Rattle.small_model.specs.declared.machine.Message.{Message}
+use Rattle.small_model.specs.declared.machine.Pattern.{Pattern}
+use Rattle.small_model.specs.declared.machine.Pattern.TheVariants as patterns
+use Rattle.small_model.specs.declared.machine.Rule.{Rule}
+use Rattle.small_model.specs.declared.machine.Source.{Source}
+use Rattle.small_model.specs.declared.machine.Source.TheVariants as sources
+use Rattle.small_model.specs.declared.machine.Target.{Target}
+use Rattle.small_model.specs.declared.machine.Target.TheVariants as targets
 use Rattle.small_form.specs.SmallText.{Lexeme, Word, Sign, Quoted, Piece, IsCut, lexemes_of}
 use Rattle.small_form.specs.SmallNames.{is_name}
 

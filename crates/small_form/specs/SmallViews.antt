@@ -5,11 +5,11 @@ use Rattle.std.specs.Str.{bytes_eq}
 use Rattle.small_form.specs.SmallNames.{is_name}
 use Rattle.std.specs.Borrow.{Bor}
 use Rattle.c_tree.specs.declared.token.Token.{Token}
-use Rattle.path_model.specs.declared.machine.Machine.{Machine}
-use Rattle.path_model.specs.declared.machine.Pattern.{Pattern}
-use Rattle.path_model.specs.declared.machine.Pattern.TheVariants as patterns
-use Rattle.path_model.specs.declared.machine.Source.{Source}
-use Rattle.path_model.specs.declared.machine.Source.TheVariants as sources
+use Rattle.small_model.specs.declared.machine.Machine.{Machine}
+use Rattle.small_model.specs.declared.machine.Pattern.{Pattern}
+use Rattle.small_model.specs.declared.machine.Pattern.TheVariants as patterns
+use Rattle.small_model.specs.declared.machine.Source.{Source}
+use Rattle.small_model.specs.declared.machine.Source.TheVariants as sources
 use Rattle.small_form.specs.declared.checker.Literal.{Literal}
 use Rattle.small_form.specs.declared.checker.Head.{Head}
 use Rattle.small_form.specs.declared.checker.ReadLine.{ReadLine}

@@ -11,7 +11,7 @@ use crate::names::is_name;
 use crate::text::SmallFault;
 use c_tree::Token;
 use mx_base::Names;
-use path_model::{Pattern, Source};
+use small_model::{Pattern, Source};
 
 /// A message: what stands before its `%s`, and behind it.
 #[derive(Clone, Copy)]

@@ -12,7 +12,7 @@ use crate::checker::{Literal, ReadRule, read_head, read_sections, text};
 use crate::text::{SmallFault, read_text};
 use c_tree::Token;
 use mx_base::{Names, Text};
-use path_model::{Machine, Message, Rule, Target};
+use small_model::{Machine, Message, Rule, Target};
 use std::alloc::{AllocError, Global};
 
 fn owned(alloc: Global, bytes: &[u8]) -> Result<Text, AllocError>

@@ -3,7 +3,7 @@
 ghost use Rattle.std.specs.Prelude.{◌≡◌, ◌+◌, ◌<◌, ◌≤◌, ℕ, List, length, IfOk};
 ghost use Rattle.std.specs.Option.{option_map};
 ghost use Rattle.c_tree.specs.Views.{node_of, nodes_in};
-ghost use Rattle.path_model.specs.Views.{body_of};
+ghost use Rattle.small_model.specs.Views.{body_of};
 ghost use Rattle.small_form.specs.SmallBody.{AreLexed, IsBody, IsStatementNode, name_node};
 ghost use Rattle.small_form.specs.SmallReading.{spellings, text_at};
 ghost use Rattle.small_form.specs.SmallSource.{IsSmallSource, Source, Statement};
@@ -16,7 +16,7 @@ use crate::text::SmallFault;
 use bumpalo::collections::into_bump_slice;
 use c_tree::{Arena, Kind, Operation, Place, Primary, Token, Tree, Trees, UnaryOp};
 use mx_base::Names;
-use path_model::Function;
+use small_model::Function;
 use std::alloc::AllocError;
 
 /// The names of the function and of its parameter, by number.

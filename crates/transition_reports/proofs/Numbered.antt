@@ -27,7 +27,7 @@ use Rattle.metal_tree.specs.Whole.{machine_view}
 use Rattle.metal_tree.specs.declared.messages.Action.{Action}
 use Rattle.metal_tree.specs.declared.rules.Rule as code
 use Rattle.objects.specs.Units.{facts_in}
-use Rattle.path_model.specs.declared.report.Report.{Report}
+use Rattle.report_model.specs.declared.report.Report.{Report}
 use Rattle.transition_reports.specs.TakenRules.{IsTaken, checker_at, happening_in, report_with}
 use Rattle.transition_reports.specs.declared.checker.Checker.{Checker}
 use Rattle.typed_unit.specs.declared.typed_unit.TypedUnit.{TypedUnit}

@@ -16,7 +16,7 @@ use Rattle.metal_machines.specs.Machine.{Machine}
 use Rattle.metal_machines.specs.Rules.{rule_numbered}
 use Rattle.metal_tree.specs.Whole.{machine_view}
 use Rattle.objects.specs.Units.{facts_in}
-use Rattle.path_model.specs.declared.report.Report.{Report}
+use Rattle.report_model.specs.declared.report.Report.{Report}
 use Rattle.transition_reports.specs.declared.checker.Checker.{Checker}
 use Rattle.typed_unit.specs.declared.typed_unit.TypedUnit.{TypedUnit}
 

@@ -16,7 +16,7 @@ use c_tree::Token;
 use flow_graph::Event;
 use hole_bindings::Binding;
 use objects::Object;
-use path_model::Report;
+use report_model::Report;
 use std::alloc::{AllocError, Global};
 use typed_unit::TypedUnit;
 

@@ -1,7 +1,7 @@
 use Rattle.std.proofs.Common.{length, sym}
 use Rattle.std.proofs.lemmas.Option.{slice_get_within}
 use Rattle.c_tree.specs.Views.{node_of}
-use Rattle.path_model.specs.Views.{body_of}
+use Rattle.small_model.specs.Views.{body_of}
 use Rattle.command.proofs.Statements.{adds-rule, presumed_there, same_there}
 use Rattle.command.proofs.analysis.add_statement.Goals as goal
 

@@ -2,8 +2,8 @@ use Rattle.std.proofs.Common.{◌++◌, length, None, sym, ap, ◌∙◌, subst}
 use Rattle.c_tree.proofs.Rows.{nodes_out}
 use Rattle.c_tree.specs.Views.{nodes_in, nodes_of}
 use Rattle.c_tree.specs.declared.tree.Trees.{out-Trees}
-use Rattle.path_model.specs.Reports.{AreReports}
-use Rattle.path_model.specs.Views.{body_of}
+use Rattle.small_model.specs.Reports.{AreReports}
+use Rattle.small_model.specs.Views.{body_of}
 use Rattle.command.specs.Simple.{AreSimple, reports_from}
 use Rattle.command.proofs.Reporting.{are_reports}
 use Rattle.command.proofs.Statements.{placed_now, simple_later, reports-step, reports-end}

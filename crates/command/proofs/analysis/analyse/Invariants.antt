@@ -1,7 +1,7 @@
 -- the reports so far and those of the statements that are left are all
 use Rattle.std.proofs.Common.{◌≡◌, ◌++◌, ℕ, length, drop, None}
 use Rattle.c_tree.specs.Views.{nodes_in, nodes_of}
-use Rattle.path_model.specs.Views.{body_of}
+use Rattle.small_model.specs.Views.{body_of}
 use Rattle.command.specs.Simple.{AreSimple, reports_from}
 use Rattle.command.proofs.analysis.analyse.Given as goal
 

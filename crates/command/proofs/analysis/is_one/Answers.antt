@@ -1,6 +1,6 @@
 use Rattle.std.proofs.Common.{is_some, ap, sym, ◌∙◌}
 use Rattle.c_tree.proofs.Rows.{nodes_out}
-use Rattle.path_model.specs.States.{only}
+use Rattle.small_model.specs.States.{only}
 use Rattle.small_form.proofs.SmallTrees.{length-only}
 use Rattle.command.proofs.analysis.is_one.Goals as goal
 

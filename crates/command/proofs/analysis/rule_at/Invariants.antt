@@ -1,7 +1,7 @@
 -- the first rule among those that are left is the first of all
 use Rattle.std.proofs.Common.{◌≡◌, ◌&&◌, is_some, drop, find}
 use Rattle.c_tree.specs.Views.{node_of}
-use Rattle.path_model.specs.States.{fits, matched}
+use Rattle.small_model.specs.States.{fits, matched}
 use Rattle.command.specs.Simple.{found}
 use Rattle.command.proofs.analysis.rule_at.Given as goal
 

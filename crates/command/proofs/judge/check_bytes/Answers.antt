@@ -1,5 +1,5 @@
 use Rattle.std.proofs.Common.{Err, ap}
-use Rattle.path_model.specs.Views.{body_of}
+use Rattle.small_model.specs.Views.{body_of}
 use Rattle.command.proofs.SimpleBodies.{are_simple, parameter_named}
 use Rattle.command.proofs.SourceFaults.{are_known, are_lexed, is_fine, tokens_known, unread_small}
 use Rattle.command.proofs.judge.check_bytes.Goals as goal

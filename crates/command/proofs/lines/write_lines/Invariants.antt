@@ -1,6 +1,6 @@
 -- the lines so far and those of the reports that are left are all
 use Rattle.std.proofs.Common.{◌≡◌, ◌++◌, drop}
-use Rattle.path_model.specs.Reports.{text_of}
+use Rattle.report_model.specs.Lines.{text_of}
 use Rattle.command.proofs.lines.write_lines.Given as goal
 
 abbrev pub invariant-loop-report : goal.invariant-loop-report

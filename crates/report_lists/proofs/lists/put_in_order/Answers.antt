@@ -1,6 +1,6 @@
 use Rattle.std.proofs.Common.{◌≡◌, rules, is_lt}
 use Rattle.std.proofs.lemmas.List.Sorted.{answers_always, ranks_by}
-use Rattle.path_model.specs.Order.{report_cmp}
+use Rattle.report_model.specs.Order.{report_cmp}
 use Rattle.report_lists.proofs.Orders.{reports_total}
 use Rattle.report_lists.proofs.lists.put_in_order.Goals as goal
 

@@ -1,7 +1,7 @@
 use Rattle.std.proofs.Common.{Contains}
 use Rattle.std.proofs.lemmas.Result.{IfOk-weaker}
-use Rattle.path_model.specs.Order.{report_cmp}
-use Rattle.path_model.specs.declared.report.Report.{Report}
+use Rattle.report_model.specs.Order.{report_cmp}
+use Rattle.report_model.specs.declared.report.Report.{Report}
 use Rattle.report_lists.specs.Repeats.{HasEqual, IsEachOnce}
 use Rattle.report_lists.proofs.EachOnce.{all_there, reordered}
 use Rattle.report_lists.proofs.Orders.{reports_total}

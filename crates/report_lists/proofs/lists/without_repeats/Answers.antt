@@ -1,6 +1,6 @@
 use Rattle.std.proofs.Common.{◌≡◌, ◌∷◌, [], ◌++◌, List, length, refl, sym, ap, subst, ◌∙◌, append_assoc, append-nil, arith, IsSorted}
 use Rattle.std.specs.Vec.Iter.{into_iter_items}
-use Rattle.path_model.specs.Order.{report_cmp}
+use Rattle.report_model.specs.Order.{report_cmp}
 use Rattle.report_lists.specs.Repeats.{IsEachOnce}
 use Rattle.report_lists.proofs.EachOnce.{next}
 use Rattle.report_lists.proofs.Orders.{reports_total}

@@ -1,6 +1,6 @@
 use Rattle.std.proofs.Common.{◌≡◌, ◌++◌, length}
 use Rattle.std.specs.Vec.Iter.{into_iter_items, into_iter_len}
-use Rattle.path_model.specs.Order.{report_cmp}
+use Rattle.report_model.specs.Order.{report_cmp}
 use Rattle.report_lists.specs.Repeats.{IsEachOnce}
 use Rattle.report_lists.proofs.lists.without_repeats.Given as goal
 

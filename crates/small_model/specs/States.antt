@@ -4,16 +4,16 @@ use Rattle.std.specs.Prelude.{ℕ, Bool, true, false, ◌&&◌, ◌==◌, if◌t
 use Rattle.std.specs.Option.{option_and_then, option_map_or}
 use Rattle.c_tree.specs.declared.operator.UnaryOp.TheVariants as operators
 use Rattle.c_tree.specs.Node.{Node, node, Primary, Ident, Call, Nodes, no_more, more, Operation, Unary}
-use Rattle.path_model.specs.declared.machine.Machine.{Machine}
-use Rattle.path_model.specs.declared.machine.Pattern.{Pattern}
-use Rattle.path_model.specs.declared.machine.Pattern.TheVariants as patterns
-use Rattle.path_model.specs.declared.machine.Rule.{Rule}
-use Rattle.path_model.specs.declared.machine.Source.{Source}
-use Rattle.path_model.specs.declared.machine.Source.TheVariants as sources
-use Rattle.path_model.specs.declared.machine.Target.{Target}
-use Rattle.path_model.specs.declared.machine.Target.TheVariants as targets
-use Rattle.path_model.specs.Events.{Event, Evaluated, Body}
-use Rattle.path_model.specs.Objects.{Object, object_of, same_object}
+use Rattle.small_model.specs.declared.machine.Machine.{Machine}
+use Rattle.small_model.specs.declared.machine.Pattern.{Pattern}
+use Rattle.small_model.specs.declared.machine.Pattern.TheVariants as patterns
+use Rattle.small_model.specs.declared.machine.Rule.{Rule}
+use Rattle.small_model.specs.declared.machine.Source.{Source}
+use Rattle.small_model.specs.declared.machine.Source.TheVariants as sources
+use Rattle.small_model.specs.declared.machine.Target.{Target}
+use Rattle.small_model.specs.declared.machine.Target.TheVariants as targets
+use Rattle.small_model.specs.Events.{Event, Evaluated, Body}
+use Rattle.small_model.specs.Objects.{Object, object_of, same_object}
 
 -- the states of all objects; an object without one is unknown
 abbrev pub Map : Type 0

@@ -1,17 +1,16 @@
 -- What a checker reports: the rules with a message that objects take on some path, in order and each once.
-use Rattle.std.specs.Prelude.{◌≡◌, ℕ, nat_le, if◌then◌else◌, List, [], ◌∷◌, ◌++◌, length, take, slice_get, unwrap_or, flat_map, AllPairs, Contains, Some, codes}
-use Rattle.std.specs.Fmt.{decimal}
+use Rattle.std.specs.Prelude.{◌≡◌, ℕ, nat_le, if◌then◌else◌, List, [], ◌∷◌, ◌++◌, length, take, slice_get, unwrap_or, AllPairs, Contains, Some, codes}
 use Rattle.std.specs.declared.cmp.Ordering.TheVariants.{Less}
 use Rattle.c_tree.specs.Node.{Node}
 use Rattle.c_tree.specs.declared.token.Token.{Token}
-use Rattle.path_model.specs.declared.machine.Machine.{Machine}
-use Rattle.path_model.specs.declared.machine.Message.{Message}
-use Rattle.path_model.specs.declared.machine.Rule.{Rule}
-use Rattle.path_model.specs.declared.report.Report.{Report}
-use Rattle.path_model.specs.Events.{Event, Evaluated, Body, IsPath, first_of}
-use Rattle.path_model.specs.Objects.{Object, object_text}
-use Rattle.path_model.specs.Order.{report_cmp}
-use Rattle.path_model.specs.States.{moved, taken, after}
+use Rattle.small_model.specs.declared.machine.Machine.{Machine}
+use Rattle.small_model.specs.declared.machine.Message.{Message}
+use Rattle.small_model.specs.declared.machine.Rule.{Rule}
+use Rattle.report_model.specs.declared.report.Report.{Report}
+use Rattle.small_model.specs.Events.{Event, Evaluated, Body, IsPath, first_of}
+use Rattle.small_model.specs.Objects.{Object, object_text}
+use Rattle.report_model.specs.Order.{report_cmp}
+use Rattle.small_model.specs.States.{moved, taken, after}
 
 -- a text that is too long for a message is cut, and three dots say so
 abbrev pub shortened : List ℕ → List ℕ
@@ -58,10 +57,3 @@ pub record AreReports (names : List (List ℕ)) (machine : Machine) (body : Body
   pub ascending : AllPairs (λ a b. report_cmp a b ≡ Less) reports
   pub real : (r : Report) → Contains reports r → IsReported names machine body r
   pub whole : (r : Report) → IsReported names machine body r → Contains reports r
-
--- `FILE:LINE:COL: CHECKER: MESSAGE` and a line feed
-abbrev pub line_of : Report → List ℕ
-line_of r = r.file ++ (58 ∷ (decimal r.line ++ (58 ∷ (decimal r.col ++ (codes ": " ++ (r.checker_name ++ (codes ": " ++ (r.message ++ 10 ∷ []))))))))
-
-abbrev pub text_of : List Report → List ℕ
-text_of reports = flat_map line_of reports

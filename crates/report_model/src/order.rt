@@ -1,7 +1,7 @@
 //! The order in which reports are printed.
 
 ghost use Rattle.std.specs.Prelude.{◌≡◌};
-ghost use Rattle.path_model.specs.Order.{object_cmp, report_cmp};
+ghost use Rattle.report_model.specs.Order.{object_cmp, report_cmp};
 
 use crate::report::Report;
 use mx_base::Text;

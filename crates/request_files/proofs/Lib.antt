@@ -1,0 +1,7 @@
+mod KnownFiles
+mod Refusing
+mod Typing
+mod Turns
+mod Looping
+mod Joined
+mod Examples

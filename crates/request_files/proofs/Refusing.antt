@@ -1,0 +1,109 @@
+-- Files that have a fault, from what their readers answer.
+use Rattle.std.proofs.Common.{◌≡◌, ◌≤◌, ℕ, ◌⊎◌, inl, inr, List, length, min, refl, sym, subst, arith}
+use Rattle.mx_base.specs.Names.{HasNoRepeats}
+use Rattle.c_reading.specs.Strip.{stripped}
+use Rattle.c_lexer.specs.Tokens.{TokenList}
+use Rattle.checker_front_end.specs.Checkers as checkers
+use Rattle.checker_front_end.specs.declared.fault.Faulty as found_in_checker
+use Rattle.checker_front_end.specs.declared.fault.Refusal as checker_refusal
+use Rattle.checker_front_end.specs.declared.fault.Refusal.TheVariants as checker_refusals
+use Rattle.front_end.specs.declared.fault.Faulty.{Faulty}
+use Rattle.front_end.specs.declared.fault.Refusal.{Refusal}
+use Rattle.front_end.specs.declared.fault.Refusal.TheVariants as refusals
+use Rattle.front_end.specs.Sources.{AreTokensOf, HasNoTokens, HasNoTrees, HasNoTypes}
+use Rattle.metal_reader.specs.Faults.{IsLexed}
+use Rattle.request_files.specs.Faults.{HasFault, HasFaultOf, HasFaultInChecker, HasFaultInText, HasNoUnitAt, file_limit}
+use Rattle.request_files.specs.Stages.{IsNamed, AreKnown, IsKnown, IsKnownChecker, IsLocated, IsInText, IsInChecker, HasNoUnit, IsUnread}
+use Rattle.request_files.specs.Turns.{checker_turn, source_turn}
+use Rattle.request_files.specs.Views.{located_of}
+use Rattle.request_files.specs.declared.fault.Fault.TheVariants as faults
+use Rattle.request_files.specs.declared.fault.LocatedFault.{LocatedFault}
+use Rattle.request_files.specs.declared.stopped.Stopped.{Stopped}
+use Rattle.request_files.specs.declared.stopped.Stopped.TheVariants as stops
+use Rattle.request_files.proofs.KnownFiles.{same_list, lexed_known, no_unit_named, no_machine_named}
+
+fits : (bytes : List ℕ) → length bytes ≤ 16777216 → length bytes ≤ min file_limit (length bytes)
+fits bytes size = omega (arith, size)
+
+-- ---- C files
+
+module _ (names : List (List ℕ)) (list kept : TokenList) (refusal : Refusal) (all : kept.all ≡ stripped list.all) (end : kept.end ≡ list.end)
+    (refused : (found : Faulty) → refusal ≡ refusals.Faulty found → HasNoTrees kept found ⊎ HasNoTypes kept found) where
+  no_unit_at : (found : Faulty) → refusal ≡ refusals.Faulty found → HasNoUnitAt list found
+  no_unit_at found e = subst (λ k. HasNoTrees k found ⊎ HasNoTypes k found) (same_list list kept all end) (refused found e)
+
+  pub unit_known : AreKnown names list → IsKnown names refusal
+  unit_known k = by refusal refl
+    where
+      by : (r : Refusal) → refusal ≡ r → IsKnown names r
+      by (refusals.Faulty found) e = no_unit_named names list found k (no_unit_at found e)
+      by refusals.NoMemory e = tt
+
+  pub has_no_unit : (stop : Stopped) → IsInText names refusal stop → HasNoUnit names list stop
+  has_no_unit stop i = by refusal stop refl i
+    where
+      by : (r : Refusal) (s : Stopped) → refusal ≡ r → IsInText names r s → HasNoUnit names list s
+      by refusals.NoMemory s e i = subst (HasNoUnit names list) (sym i) tt
+      by (refusals.Faulty found) stops.NotRead e i = absurd i
+      by (refusals.Faulty found) (stops.Faulty l) e i = (found, i, no_unit_at found e)
+      by (refusals.Faulty found) stops.NoMemory e i = tt
+
+module _ (number : ℕ) (names : List (List ℕ)) (word bytes : List ℕ) (size : length bytes ≤ 16777216) where
+  pub tokens_known : (refusal : Refusal) → ((found : Faulty) → refusal ≡ refusals.Faulty found → HasNoTokens word names bytes found) → IsKnown names refusal
+  tokens_known (refusals.Faulty found) r = let h = r found refl in (_, h.file)
+  tokens_known refusals.NoMemory r = tt
+
+  located : HasNoRepeats names → (found : Faulty) (l : LocatedFault) → IsLocated names (faults.InText found.fault) found.source found.line l
+      → HasNoTokens word names bytes found ⊎ ((list : TokenList) × AreTokensOf number word names bytes list × HasNoUnitAt list found) → HasFault (length bytes) (source_turn number word) bytes (located_of l)
+  located distinct found l i h =
+      let text : HasFaultInText number word bytes found.fault (located_of l) = record { names = names; distinct = distinct; found = found; faulty = h; fault_is = refl; file_is = i.file; line_is = sym i.line_is } in
+      subst (HasFaultOf (length bytes) (source_turn number word) bytes (located_of l)) (sym i.fault_is) (fits bytes size, text)
+
+  -- the bytes have no reading
+  pub unread_tokens : (refusal : Refusal) (stop : Stopped) → HasNoRepeats names → ((found : Faulty) → refusal ≡ refusals.Faulty found → HasNoTokens word names bytes found) → IsInText names refusal stop
+      → IsUnread (source_turn number word) bytes stop
+  unread_tokens refusals.NoMemory stop distinct r i = subst (IsUnread (source_turn number word) bytes) (sym i) tt
+  unread_tokens (refusals.Faulty found) stops.NotRead distinct r i = absurd i
+  unread_tokens (refusals.Faulty found) (stops.Faulty l) distinct r i = located distinct found l i (inl (r found refl))
+  unread_tokens (refusals.Faulty found) stops.NoMemory distinct r i = tt
+
+  -- the tokens have no trees, or these no types
+  pub unread_unit : (list : TokenList) (stop : Stopped) → HasNoRepeats names → AreTokensOf number word names bytes list → HasNoUnit names list stop → IsUnread (source_turn number word) bytes stop
+  unread_unit list stops.NotRead distinct t h = absurd h
+  unread_unit list (stops.Faulty l) distinct t h = located distinct h.0 l h.1 (inr (list, t, h.2))
+  unread_unit list stops.NoMemory distinct t h = tt
+
+-- ---- checkers
+
+module _ (number : ℕ) (names : List (List ℕ)) (word bytes : List ℕ) (size : length bytes ≤ 16777216) where
+  pub checker_tokens_known : (refusal : checker_refusal.Refusal) → ((found : found_in_checker.Faulty) → refusal ≡ checker_refusals.Faulty found → checkers.HasNoTokens word names bytes found) → IsKnownChecker names refusal
+  checker_tokens_known (checker_refusals.Faulty found) r = let h = r found refl in (_, h.file)
+  checker_tokens_known checker_refusals.NoMemory r = tt
+
+  pub machine_known : (list : TokenList) (refusal : checker_refusal.Refusal) → IsLexed number word names bytes list
+      → ((found : found_in_checker.Faulty) → refusal ≡ checker_refusals.Faulty found → checkers.HasNoMachine names list found) → IsKnownChecker names refusal
+  machine_known list (checker_refusals.Faulty found) x r = no_machine_named names list found (lexed_known _ number word names x.pieces list x.tokens) (r found refl)
+  machine_known list checker_refusals.NoMemory x r = tt
+
+  located_checker : HasNoRepeats names → (found : found_in_checker.Faulty) (l : LocatedFault) → IsLocated names (faults.InChecker found.fault) found.source found.line l
+      → checkers.HasCheckerFault word names bytes found → HasFault (length bytes) (checker_turn number word) bytes (located_of l)
+  located_checker distinct found l i h =
+      let text : HasFaultInChecker word bytes found.fault (located_of l) = record { names = names; distinct = distinct; found = found; faulty = h; fault_is = refl; file_is = i.file; line_is = sym i.line_is } in
+      subst (HasFaultOf (length bytes) (checker_turn number word) bytes (located_of l)) (sym i.fault_is) (fits bytes size, text)
+
+  unread_checker : (refusal : checker_refusal.Refusal) (stop : Stopped) → HasNoRepeats names → ((found : found_in_checker.Faulty) → refusal ≡ checker_refusals.Faulty found → checkers.HasCheckerFault word names bytes found)
+      → IsInChecker names refusal stop → IsUnread (checker_turn number word) bytes stop
+  unread_checker checker_refusals.NoMemory stop distinct r i = subst (IsUnread (checker_turn number word) bytes) (sym i) tt
+  unread_checker (checker_refusals.Faulty found) stops.NotRead distinct r i = absurd i
+  unread_checker (checker_refusals.Faulty found) (stops.Faulty l) distinct r i = located_checker distinct found l i (r found refl)
+  unread_checker (checker_refusals.Faulty found) stops.NoMemory distinct r i = tt
+
+  -- the bytes have no reading
+  pub unread_checker_tokens : (refusal : checker_refusal.Refusal) (stop : Stopped) → HasNoRepeats names → ((found : found_in_checker.Faulty) → refusal ≡ checker_refusals.Faulty found → checkers.HasNoTokens word names bytes found)
+      → IsInChecker names refusal stop → IsUnread (checker_turn number word) bytes stop
+  unread_checker_tokens refusal stop distinct r i = unread_checker refusal stop distinct (λ found e. inl (r found e)) i
+
+  -- the tokens are no machine
+  pub unread_machine : (list : TokenList) (refusal : checker_refusal.Refusal) (stop : Stopped) → HasNoRepeats names → IsLexed number word names bytes list
+      → ((found : found_in_checker.Faulty) → refusal ≡ checker_refusals.Faulty found → checkers.HasNoMachine names list found) → IsInChecker names refusal stop → IsUnread (checker_turn number word) bytes stop
+  unread_machine list refusal stop distinct x r i = unread_checker refusal stop distinct (λ found e. inr (record { number = number; list = list; lexed = x; no_machine = r found e })) i

@@ -1,0 +1,19 @@
+-- the checkers so far were read without a fault
+use Rattle.std.proofs.Common.{◌≡◌, ◌≤◌, ◌+◌, ◌*◌, take, length}
+use Rattle.request_files.specs.InTurn.{AreReadCheckers}
+use Rattle.request_files.specs.Meanings.{AreFirst}
+use Rattle.request_files.specs.Views.{machines_of, words_of}
+use Rattle.request_files.proofs.checkers.read_checkers.Given as goal
+
+abbrev pub invariant-loop-word : goal.invariant-loop-word
+invariant-loop-word g l =
+    let files = g.F.Files in
+    record {
+      read : AreReadCheckers (files.contents l.fn.files) l.fn.left (words_of l.words) (take l.word-index (words_of l.words)) l.names (machines_of l.machines.items) l.rest;
+      count : length l.machines.items ≡ l.word-index;
+      bound : l.rest ≤ l.fn.left;
+      room : length l.names + 2 * l.rest ≤ length l.fn.names + 2 * l.fn.left + l.word-index;
+      first : AreFirst l.fn.names l.names;
+      failed : files.failed l.files ≡ files.failed l.fn.files;
+      contents : files.contents l.files ≡ files.contents l.fn.files;
+    }

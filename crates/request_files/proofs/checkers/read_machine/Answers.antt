@@ -1,0 +1,27 @@
+use Rattle.std.proofs.Common.{◌≡◌, ◌+◌, ◌*◌, length, sym, ap, subst, arith}
+use Rattle.metal_reader.specs.Faults.{IsLexed}
+use Rattle.request_files.proofs.Refusing.{checker_tokens_known, machine_known, unread_machine}
+use Rattle.request_files.proofs.Turns.{adds_both}
+use Rattle.request_files.proofs.checkers.read_machine.Goals as goal
+
+pub in_checker-requires : goal.in_checker-requires
+in_checker-requires c = checker_tokens_known c.args.number c.read_tokens.new.names c.args.word.now c.args.bytes.now c.requires.size c.in-Err.refusal c.in-Err.ensures.refused
+
+pub in_checker-requires-in-Err-read_checker : goal.in_checker-requires-in-Err-read_checker
+in_checker-requires-in-Err-read_checker c =
+    let lexed = c.read_checker.ensures.lexed c.args.number c.args.word.now c.args.bytes.now
+    (subst (λ l. IsLexed c.args.number c.args.word.now c.read_tokens.new.names c.args.bytes.now l) (sym c.insert-kept.ensures.value) c.in-Ok.ensures.tokens) in
+    machine_known c.args.number c.read_checker.new.names c.args.word.now c.args.bytes.now c.requires.size c.insert-kept.result.now c.in-Err-read_checker.refusal lexed c.in-Err-read_checker.ensures.refused
+
+pub returns-in-Ok-read_checker-clause-adds : goal.returns-in-Ok-read_checker-clause-adds
+returns-in-Ok-read_checker-clause-adds c =
+    adds_both c.args.names.now c.read_tokens.new.names c.read_checker.new.names (length c.args.bytes.now + 1) (length c.insert-kept.result.now.all) (2 * length c.args.bytes.now + 1)
+    c.read_tokens.ensures.adds c.read_checker.ensures.adds
+    (omega (arith, c.in-Ok.ensures.few, ap (λ l. length l.all) c.insert-kept.ensures.value))
+
+pub returns-in-Err-read_checker-clause-stopped : goal.returns-in-Err-read_checker-clause-stopped
+returns-in-Err-read_checker-clause-stopped c =
+    let lexed = c.read_checker.ensures.lexed c.args.number c.args.word.now c.args.bytes.now
+    (subst (λ l. IsLexed c.args.number c.args.word.now c.read_tokens.new.names c.args.bytes.now l) (sym c.insert-kept.ensures.value) c.in-Ok.ensures.tokens) in
+    unread_machine c.args.number c.read_checker.new.names c.args.word.now c.args.bytes.now c.requires.size c.insert-kept.result.now c.in-Err-read_checker.refusal c.in_checker-in-Err-read_checker.result
+    c.read_checker.ensures.distinct lexed c.in-Err-read_checker.ensures.refused c.in_checker-in-Err-read_checker.ensures

@@ -1,0 +1,85 @@
+-- FAULTS OF FILES, with the presumed file and line of their places, and the lines that tell them.
+use Rattle.std.specs.Prelude.{◌≡◌, ◌⊎◌, ℕ, ◌<◌, ◌≤◌, min, List, [], ◌∷◌, ◌++◌, length, codes, Some, slice_get}
+use Rattle.std.specs.Fmt.{decimal}
+use Rattle.mx_base.specs.Names.{HasNoRepeats}
+use Rattle.c_reading.specs.Strip.{stripped}
+use Rattle.c_lexer.specs.Tokens.{TokenList}
+use Rattle.checker_front_end.specs.Checkers.{HasCheckerFault}
+use Rattle.checker_front_end.specs.Faults as checker
+use Rattle.checker_front_end.specs.declared.fault.CheckerFault.{CheckerFault}
+use Rattle.checker_front_end.specs.declared.fault.Faulty as found_in_checker
+use Rattle.front_end.specs.Faults as text
+use Rattle.front_end.specs.Sources.{AreTokensOf, HasNoTokens, HasNoTrees, HasNoTypes}
+use Rattle.front_end.specs.declared.fault.Fault as text_fault
+use Rattle.front_end.specs.declared.fault.Faulty as found_in_text
+use Rattle.request_files.specs.Turns.{Kind, CheckerFile, SourceFile, Turn}
+use Rattle.request_files.specs.declared.fault.Fault.{Fault}
+use Rattle.request_files.specs.declared.fault.Fault.TheVariants.{TooLarge, InChecker, InText, DuplicateFunction}
+
+-- a fault with its presumed file and line
+pub record Located : Type 0 where
+  pub fault : Fault
+  pub file : List ℕ
+  pub line : ℕ
+
+-- a fault of a whole file stands where the file begins
+abbrev pub at_start : List ℕ → Fault → Located
+at_start word fault = record { fault = fault; file = word; line = 1 }
+
+abbrev pub fault_name : Fault → List ℕ
+fault_name TooLarge = codes "TooLarge"
+fault_name (InChecker fault) = checker.name_of fault
+fault_name (InText fault) = text.name_of fault
+fault_name DuplicateFunction = codes "DuplicateFunction"
+
+abbrev pub refused_line : Located → List ℕ
+refused_line l = l.file ++ (58 ∷ (decimal l.line ++ (codes ": refused: " ++ (fault_name l.fault ++ 10 ∷ []))))
+
+-- at most so many bytes in one file, and in all files together
+abbrev pub file_limit : ℕ
+file_limit = 16777216
+
+abbrev pub total_limit : ℕ
+total_limit = 33554432
+
+-- under some table of names a checker's bytes have this fault first, on this line of this presumed file
+pub record HasFaultInChecker (word bytes : List ℕ) (fault : CheckerFault) (l : Located) : Type 0 where
+  pub names : List (List ℕ)
+  pub distinct : HasNoRepeats names
+  pub found : found_in_checker.Faulty
+  pub faulty : HasCheckerFault word names bytes found
+  pub fault_is : found.fault ≡ fault
+  pub file_is : slice_get names found.source ≡ Some l.file
+  pub line_is : found.line ≡ l.line
+
+-- the tokens of a file without those that are dropped, and its end
+abbrev pub without_dropped : TokenList → TokenList
+without_dropped list = record { all = stripped list.all; end = list.end }
+
+-- these tokens have no trees, or their trees have no types
+abbrev pub HasNoUnitAt : TokenList → found_in_text.Faulty → Type 0
+HasNoUnitAt list found = HasNoTrees (without_dropped list) found ⊎ HasNoTypes (without_dropped list) found
+
+-- the same of a C file
+pub record HasFaultInText (number : ℕ) (word bytes : List ℕ) (fault : text_fault.Fault) (l : Located) : Type 0 where
+  pub names : List (List ℕ)
+  pub distinct : HasNoRepeats names
+  pub found : found_in_text.Faulty
+  pub faulty : HasNoTokens word names bytes found ⊎ ((list : TokenList) × AreTokensOf number word names bytes list × HasNoUnitAt list found)
+  pub fault_is : found.fault ≡ fault
+  pub file_is : slice_get names found.source ≡ Some l.file
+  pub line_is : found.line ≡ l.line
+
+-- the same by the kind of the file and what is wrong with it
+abbrev pub HasFaultIn : Kind → ℕ → List ℕ → List ℕ → Located → Fault → Type 0
+HasFaultIn CheckerFile number word bytes l (InChecker fault) = HasFaultInChecker word bytes fault l
+HasFaultIn SourceFile number word bytes l (InText fault) = HasFaultInText number word bytes fault l
+HasFaultIn kind number word bytes l _ = ⊥
+
+-- THE FAULT OF A FILE, of which so many bytes may come
+abbrev pub HasFaultOf : ℕ → Turn → List ℕ → Located → Fault → Type 0
+HasFaultOf left t bytes l TooLarge = (min file_limit left < length bytes) × (l ≡ at_start t.word TooLarge)
+HasFaultOf left t bytes l fault = (length bytes ≤ min file_limit left) × HasFaultIn t.kind t.number t.word bytes l fault
+
+abbrev pub HasFault : ℕ → Turn → List ℕ → Located → Type 0
+HasFault left t bytes l = HasFaultOf left t bytes l l.fault

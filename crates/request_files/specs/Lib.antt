@@ -1,0 +1,7 @@
+pub mod Turns
+pub mod Meanings
+pub mod Faults
+pub mod Reading
+pub mod Views
+pub mod Stages
+pub mod InTurn

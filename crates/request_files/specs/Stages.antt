@@ -1,0 +1,128 @@
+-- WHAT THE STAGES OF READING ANSWER.
+use Rattle.std.specs.Prelude.{◌≡◌, ℕ, ◌≤◌, ◌<◌, min, List, [], ◌∷◌, ◌++◌, length, slice_get, Option, Some, Result, Ok, Err, Vec}
+use Rattle.c_lexer.specs.Tokens.{TokenList}
+use Rattle.c_tree.specs.declared.token.Token.{Token}
+use Rattle.checker_front_end.specs.Checkers.{IsChecker}
+use Rattle.checker_front_end.specs.declared.fault.Faulty as found_in_checker
+use Rattle.checker_front_end.specs.declared.fault.Refusal as checker_refusal
+use Rattle.checker_front_end.specs.declared.fault.Refusal.TheVariants as checker_refusals
+use Rattle.checker_programs.specs.Texts.{Text}
+use Rattle.front_end.specs.declared.fault.Faulty as found_in_text
+use Rattle.front_end.specs.declared.fault.Refusal as text_refusal
+use Rattle.front_end.specs.declared.fault.Refusal.TheVariants as text_refusals
+use Rattle.metal_machines.specs.Machine.{Machine}
+use Rattle.mx_io.specs.Reads.{Stands}
+use Rattle.request_files.specs.Faults.{HasFault, HasNoUnitAt, at_start, file_limit}
+use Rattle.request_files.specs.Meanings.{IsSource}
+use Rattle.request_files.specs.Turns.{Turn}
+use Rattle.request_files.specs.Views.{located_of}
+use Rattle.request_files.specs.declared.fault.Fault.{Fault}
+use Rattle.request_files.specs.declared.fault.Fault.TheVariants as faults
+use Rattle.request_files.specs.declared.fault.LocatedFault.{LocatedFault}
+use Rattle.request_files.specs.declared.file.Missing.{Missing}
+use Rattle.request_files.specs.declared.file.Missing.TheVariants.{NotRead, TooLarge, NoMemory}
+use Rattle.request_files.specs.declared.stopped.Stopped.{Stopped}
+use Rattle.request_files.specs.declared.stopped.Stopped.TheVariants as stops
+
+-- the contents, where at most so many bytes may come
+abbrev pub AnswersFile : {A : Type 0} → Option (List ℕ) → ℕ → Result (Vec ℕ A) Missing → Type 0
+AnswersFile told left (Ok bytes) = Stands told bytes.items × (length bytes.items ≤ min file_limit left)
+AnswersFile told left (Err NotRead) = Unit {0}
+AnswersFile told left (Err TooLarge) = (bytes : List ℕ) × Stands told bytes × (min file_limit left < length bytes)
+AnswersFile told left (Err NoMemory) = Unit {0}
+
+-- the names whose reads failed, after one more read
+abbrev pub failed_after_file : {A : Type 0} → List (List ℕ) → List ℕ → Result (Vec ℕ A) Missing → List (List ℕ)
+failed_after_file failed name (Ok bytes) = failed
+failed_after_file failed name (Err NotRead) = failed ++ name ∷ []
+failed_after_file failed name (Err TooLarge) = failed
+failed_after_file failed name (Err NoMemory) = failed
+
+-- a fault of a whole file
+abbrev pub IsAtStart : List ℕ → Fault → Stopped → Type 0
+IsAtStart word fault stops.NotRead = ⊥
+IsAtStart word fault (stops.Faulty l) = located_of l ≡ at_start word fault
+IsAtStart word fault stops.NoMemory = Unit {0}
+
+-- the presumed file is among the names
+abbrev pub IsNamed : List (List ℕ) → ℕ → Type 0
+IsNamed names source = (file : List ℕ) × (slice_get names source ≡ Some file)
+
+abbrev pub AreNamed : List (List ℕ) → List Token → Type 0
+AreNamed names [] = Unit {0}
+AreNamed names (t ∷ ts) = IsNamed names t.source × AreNamed names ts
+
+-- the presumed files of these tokens, and of the end behind them, are among the names
+pub record AreKnown (names : List (List ℕ)) (list : TokenList) : Type 0 where
+  pub all : AreNamed names list.all
+  pub end : IsNamed names list.end.source
+
+-- the presumed file of a fault is among the names
+abbrev pub IsKnown : List (List ℕ) → text_refusal.Refusal → Type 0
+IsKnown names (text_refusals.Faulty found) = IsNamed names found.source
+IsKnown names text_refusals.NoMemory = Unit {0}
+
+abbrev pub IsKnownChecker : List (List ℕ) → checker_refusal.Refusal → Type 0
+IsKnownChecker names (checker_refusals.Faulty found) = IsNamed names found.source
+IsKnownChecker names checker_refusals.NoMemory = Unit {0}
+
+-- a fault on this line of the presumed file with this number
+pub record IsLocated (names : List (List ℕ)) (fault : Fault) (source line : ℕ) (l : LocatedFault) : Type 0 where
+  pub fault_is : l.fault ≡ fault
+  pub file : slice_get names source ≡ Some l.file.items
+  pub line_is : l.line ≡ line
+
+abbrev pub IsThere : List (List ℕ) → Fault → ℕ → ℕ → Stopped → Type 0
+IsThere names fault source line stops.NotRead = ⊥
+IsThere names fault source line (stops.Faulty l) = IsLocated names fault source line l
+IsThere names fault source line stops.NoMemory = Unit {0}
+
+-- the fault that was found in a text, on that line of that file
+abbrev pub IsInText : List (List ℕ) → text_refusal.Refusal → Stopped → Type 0
+IsInText names text_refusals.NoMemory stop = stop ≡ stops.NoMemory
+IsInText names (text_refusals.Faulty found) stop = IsThere names (faults.InText found.fault) found.source found.line stop
+
+-- the same in a checker
+abbrev pub IsInChecker : List (List ℕ) → checker_refusal.Refusal → Stopped → Type 0
+IsInChecker names checker_refusals.NoMemory stop = stop ≡ stops.NoMemory
+IsInChecker names (checker_refusals.Faulty found) stop = IsThere names (faults.InChecker found.fault) found.source found.line stop
+
+-- why the tokens of a C file gave nothing
+abbrev pub HasNoUnit : List (List ℕ) → TokenList → Stopped → Type 0
+HasNoUnit names list stops.NotRead = ⊥
+HasNoUnit names list (stops.Faulty l) = (found : found_in_text.Faulty) × IsLocated names (faults.InText found.fault) found.source found.line l × HasNoUnitAt list found
+HasNoUnit names list stops.NoMemory = Unit {0}
+
+-- why the bytes of a file gave nothing
+abbrev pub IsUnread : Turn → List ℕ → Stopped → Type 0
+IsUnread t bytes stops.NotRead = ⊥
+IsUnread t bytes (stops.Faulty l) = HasFault (length bytes) t bytes (located_of l)
+IsUnread t bytes stops.NoMemory = Unit {0}
+
+-- why a file gave nothing, of which so many bytes may come
+abbrev pub AnswersStopped : Option (List ℕ) → ℕ → Turn → Stopped → Type 0
+AnswersStopped told left t stops.NotRead = Unit {0}
+AnswersStopped told left t (stops.Faulty l) = (bytes : List ℕ) × Stands told bytes × HasFault left t bytes (located_of l)
+AnswersStopped told left t stops.NoMemory = Unit {0}
+
+-- the names whose reads failed, after a file that gave nothing
+abbrev pub failed_after_stop : List (List ℕ) → List ℕ → Stopped → List (List ℕ)
+failed_after_stop failed name stops.NotRead = failed ++ name ∷ []
+failed_after_stop failed name (stops.Faulty l) = failed
+failed_after_stop failed name stops.NoMemory = failed
+
+-- bytes that a checker's file can hold, and their machine
+pub record HasLoadedChecker (told : Option (List ℕ)) (left : ℕ) (names : List (List ℕ)) (word : List ℕ) (size : ℕ) (machine : Machine) : Type 0 where
+  pub bytes : List ℕ
+  pub stands : Stands told bytes
+  pub sized : length bytes ≡ size
+  pub fits : length bytes ≤ min file_limit left
+  pub checker : IsChecker word names bytes machine
+
+-- bytes that a C file can hold, and their text
+pub record HasLoadedSource (told : Option (List ℕ)) (left number : ℕ) (names : List (List ℕ)) (word : List ℕ) (size : ℕ) (text : Text) : Type 0 where
+  pub bytes : List ℕ
+  pub stands : Stands told bytes
+  pub sized : length bytes ≡ size
+  pub fits : length bytes ≤ min file_limit left
+  pub source : IsSource number word names bytes text
