@@ -15,6 +15,7 @@ use Rattle.report_lists.specs.Repeats.{AgreeWhereEqual}
 use Rattle.report_model.specs.Order.{report_cmp}
 use Rattle.report_model.specs.declared.report.Report.{Report}
 use Rattle.std.specs.Prelude.{Contains}
+use Rattle.std.specs.declared.cmp.Ordering.TheVariants.{Equal}
 
 module _ (depth : ℕ) (names : List (List ℕ)) where
   numbered-on : (n : ℕ) (ms : List Machine) (c : Checker) → Among c (numbered_from n ms depth names) → n ≤ c.number
