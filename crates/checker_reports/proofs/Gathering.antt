@@ -5,7 +5,7 @@ use Rattle.std.proofs.lemmas.List.{length-map, length-take-le, map_more}
 use Rattle.std.proofs.lemmas.List.Elements.{Contains-append_left, Contains-append_right, Contains-append_cases}
 use Rattle.std.specs.Prelude.{AllPairs}
 use Rattle.std.specs.declared.cmp.Ordering.TheVariants.{Less}
-use Rattle.c_paths.specs.Membership.{Among}
+use Rattle.c_paths.proofs.Listed.{among_front, among_back, among_either}
 use Rattle.checker_model.specs.Checkers.{model}
 use Rattle.checker_model.specs.Reports.{Checker}
 use Rattle.checker_programs.specs.Paths.{program}
@@ -30,42 +30,28 @@ HasReports cs ts all = (r : Report) → Contains all r ↔ IsReported cs ts r
 abbrev pub HasReportsOf : Checker → List Text → List Report → Type 0
 HasReportsOf c ts all = (r : Report) → Contains all r ↔ Reported (model c) (program c ts) r
 
-among-left : (c : Checker) (cs ds : List Checker) → Among c cs → Among c (cs ++ ds)
-among-left c [] ds a = absurd a
-among-left c (x ∷ xs) ds (inl e) = inl e
-among-left c (x ∷ xs) ds (inr a) = inr (among-left c xs ds a)
-
-among-last : (c : Checker) (cs : List Checker) → Among c (cs ++ c ∷ [])
-among-last c [] = inl refl
-among-last c (x ∷ xs) = inr (among-last c xs)
-
-among-cases : (c d : Checker) (cs : List Checker) → Among c (cs ++ d ∷ []) → Among c cs ⊎ (c ≡ d)
-among-cases c d [] (inl e) = inr e
-among-cases c d [] (inr a) = absurd a
-among-cases c d (x ∷ xs) (inl e) = inl (inl e)
-among-cases c d (x ∷ xs) (inr a) = elim (among-cases c d xs a) [ inl b ↦ inl (inr b) | inr e ↦ inr e ]
-
 module _ (ts : List Text) where
-  pub nothing-has : (all : List Report) → all ≡ [] → HasReports [] ts all
+  nothing-has : (all : List Report) → all ≡ [] → HasReports [] ts all
   nothing-has all e r = (
     λ h. let k : Contains [] r = subst (λ l. Contains l r) e h in absurd (omega (arith, k.1)),
     λ h. absurd h.among,
   )
 
   -- one checker more
-  pub one-more : (cs : List Checker) (c : Checker) (all more : List Report) → HasReports cs ts all → HasReportsOf c ts more → HasReports (cs ++ c ∷ []) ts (all ++ more)
+  one-more : (cs : List Checker) (c : Checker) (all more : List Report) → HasReports cs ts all → HasReportsOf c ts more → HasReports (cs ++ c ∷ []) ts (all ++ more)
   one-more cs c all more old new r = (there, back)
     where
       there : Contains (all ++ more) r → IsReported (cs ++ c ∷ []) ts r
       there h = elim (Contains-append_cases all more r h) [
-        | inl a ↦ let x = (old r).0 a in record { checker = x.checker; among = among-left x.checker cs (c ∷ []) x.among; taken = x.taken }
-        | inr b ↦ record { checker = c; among = among-last c cs; taken = (new r).0 b }
+        | inl a ↦ let x = (old r).0 a in record { checker = x.checker; among = among_front x.checker cs (c ∷ []) x.among; taken = x.taken }
+        | inr b ↦ record { checker = c; among = among_back c cs (c ∷ []) (inl refl); taken = (new r).0 b }
       ]
 
       back : IsReported (cs ++ c ∷ []) ts r → Contains (all ++ more) r
-      back x = elim (among-cases x.checker c cs x.among) [
+      back x = elim (among_either x.checker cs (c ∷ []) x.among) [
         | inl a ↦ Contains-append_left all more r ((old r).1 (record { checker = x.checker; among = a; taken = x.taken }))
-        | inr e ↦ Contains-append_right all more r ((new r).1 (subst (λ d. Reported (model d) (program d ts) r) e x.taken))
+        | inr (inl e) ↦ Contains-append_right all more r ((new r).1 (subst (λ d. Reported (model d) (program d ts) r) e x.taken))
+        | inr (inr none) ↦ absurd none
       ]
 
 module _ (ts : List Text) (depth : ℕ) (names : List (List ℕ)) where
