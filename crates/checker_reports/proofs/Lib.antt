@@ -1,0 +1,5 @@
+pub mod Compared
+pub mod OwnFiles
+pub mod Written
+pub mod Agreeing
+pub mod Gathering

@@ -1,0 +1,10 @@
+use Rattle.std.proofs.Common.{map, take}
+use Rattle.checker_programs.specs.Units.{texts_of}
+use Rattle.checker_reports.specs.Checkers.{checkers_in}
+use Rattle.checker_reports.proofs.Gathering.{HasReports}
+use Rattle.metal_tree.specs.Whole.{machine_view}
+use Rattle.checker_reports.proofs.reports.gathered.Given as goal
+
+-- the reports of the checkers that were gone through
+abbrev pub invariant-loop-number : goal.invariant-loop-number
+invariant-loop-number l = ∥ HasReports (checkers_in (map machine_view (take l.number l.machines)) l.depth l.names) (texts_of l.program.units.items) l.all.items ∥₁
