@@ -32,22 +32,22 @@ behind kind n [] more i t h e = subst (λ k. slice_get more k ≡ Some t) (omega
 behind kind n (w ∷ ws) more zero t h e = absurd (omega (arith, h))
 behind kind n (w ∷ ws) more (suc i) t h e = subst (λ k. slice_get more k ≡ Some t) (omega arith) (behind kind (n + 1) ws more i t (omega (arith, h)) e)
 
-word-at : (ws : List (Bor (List ℕ))) (i : ℕ) (w : Bor (List ℕ)) (x : List ℕ) → i < length ws → w ≡ get_or ws i w → slice_get (words_of ws) i ≡ Some x → x ≡ w.now
-word-at [] i w x h e s = absurd (omega (arith, h))
-word-at (v ∷ ws) zero w x h e s = let k : v.now ≡ x = cc in sym k ∙ ap (λ (b : Bor (List ℕ)). b.now) (sym e)
-word-at (v ∷ ws) (suc i) w x h e s = word-at ws i w x (omega (arith, h)) e s
+word-at : (ws : List (Bor (List ℕ))) (i : ℕ) (d : Bor (List ℕ)) (x : List ℕ) → i < length ws → slice_get (words_of ws) i ≡ Some x → x ≡ (get_or ws i d).now
+word-at [] i d x h s = absurd (omega (arith, h))
+word-at (v ∷ ws) zero d x h s = let k : v.now ≡ x = cc in sym k
+word-at (v ∷ ws) (suc i) d x h s = word-at ws i d x (omega (arith, h)) s
 
-module _ (checkers sources : List (Bor (List ℕ))) (position : ℕ) (turn : Turn) (here : slice_get (turns (words_of checkers) (words_of sources)) position ≡ Some turn) where
+module _ (checkers sources : List (Bor (List ℕ))) (position : ℕ) (turn : Turn) (d : Bor (List ℕ)) (here : slice_get (turns (words_of checkers) (words_of sources)) position ≡ Some turn) where
   -- that of a checker
-  pub checker_word : (w : Bor (List ℕ)) → position < length checkers → w ≡ get_or checkers position w → turn.word ≡ w.now
-  checker_word w h e =
-      word-at checkers position w turn.word h e
+  pub checker_word : position < length checkers → turn.word ≡ (get_or checkers position d).now
+  checker_word h =
+      word-at checkers position d turn.word h
       (front CheckerFile 0 (words_of checkers) (numbered SourceFile 0 (words_of sources)) position turn (omega (arith, h, length-map checkers (λ (b : Bor (List ℕ)). b.now))) here)
 
   -- that of a C file
-  pub source_word : (w : Bor (List ℕ)) → length checkers ≤ position → position - length checkers < length sources → w ≡ get_or sources (position - length checkers) w → turn.word ≡ w.now
-  source_word w h l e =
+  pub source_word : length checkers ≤ position → position < length checkers + length sources → turn.word ≡ (get_or sources (position - length checkers) d).now
+  source_word h l =
       let many = length-map checkers (λ (b : Bor (List ℕ)). b.now) in
-      word-at sources (position - length checkers) w turn.word l e
+      word-at sources (position - length checkers) d turn.word (omega (arith, h, l))
       (subst (λ k. slice_get (words_of sources) k ≡ Some turn.word) (ap (λ k. position - k) many)
       (numbered-word SourceFile 0 (words_of sources) (position - length (words_of checkers)) turn (behind CheckerFile 0 (words_of checkers) (numbered SourceFile 0 (words_of sources)) position turn (omega (arith, h, many)) here)))

@@ -3,6 +3,7 @@ use Rattle.std.proofs.Common.{◌≡◌, ℕ, zero, suc, ◌+◌, ◌≤◌, ◌
 use Rattle.std.proofs.lemmas.List.{length-map}
 use Rattle.std.proofs.lemmas.List.Elements.{Contains-append_right}
 use Rattle.std.specs.Option.{option_map}
+use Rattle.c_tree.specs.Views.{nodes_of}
 use Rattle.c_tree.specs.declared.place.Place.{Place}
 use Rattle.c_typing.specs.Functions.{Defined}
 use Rattle.checker_programs.specs.Texts.{Text, functions_in}
@@ -20,7 +21,7 @@ same_functions lent = ap definitions (same lent)
   where
     same : (us : List (Bor TypedUnit)) → map (λ (t : Text). t.trees) (map text_of (lent_by us)) ≡ trees_in us
     same [] = refl
-    same (u ∷ us) = λ i. text_of u.now .trees ∷ same us i
+    same (u ∷ us) = ap (λ ns. nodes_of u.now.unit.chunks ∷ ns) (same us)
 
 pub same_texts : (lent : List (Bor TypedUnit)) → texts_of lent ≡ map text_of (lent_by lent)
 same_texts [] = refl
@@ -41,11 +42,11 @@ lent_numbered lent units e h i u s = h i u.now (subst (λ us. slice_get us i ≡
 
 repeat-among : (earlier fs : List Defined) (f : Defined) → first_repeat earlier fs ≡ Some f → Contains fs f
 repeat-among earlier [] f e = cc
-repeat-among earlier (g ∷ fs) f e = by (repeats earlier g) e
+repeat-among earlier (g ∷ fs) f e = by (repeats earlier g) (λ h. repeat-among (earlier ++ (g ∷ [])) fs f h) e
   where
-    by : (b : Bool) → cond b (Some g) (first_repeat (earlier ++ (g ∷ [])) fs) ≡ Some f → Contains (g ∷ fs) f
-    by true e = let s : g ≡ f = cc in (0, omega arith, s)
-    by false e = Contains-append_right (g ∷ []) fs f (repeat-among (earlier ++ (g ∷ [])) fs f e)
+    by : (b : Bool) → (first_repeat (earlier ++ (g ∷ [])) fs ≡ Some f → Contains fs f) → cond b (Some g) (first_repeat (earlier ++ (g ∷ [])) fs) ≡ Some f → Contains (g ∷ fs) f
+    by true further e = let s : g ≡ f = cc in (0, omega arith, s)
+    by false further e = Contains-append_right (g ∷ []) fs f (further e)
 
 -- a function among these whose name stands there
 pub record IsOne (fs : List Defined) (place : Place) : Type 0 where
