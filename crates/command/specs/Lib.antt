@@ -3,6 +3,7 @@ pub mod Due
 pub mod Plans
 pub mod Ran
 pub mod Rendered
+pub mod Requests
 pub mod Statuses
 pub mod Tasks
 pub mod Written

@@ -8,9 +8,11 @@ mod plan;
 mod program;
 mod refusal;
 mod rendering;
+mod request;
 mod status;
 mod words;
 mod write_out;
 
 pub use program::run;
+pub use request::{Request, WordsFault, read_words};
 pub use status::Status;
