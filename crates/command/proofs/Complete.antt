@@ -3,7 +3,7 @@ use Rattle.std.proofs.Common.{◌≡◌, ◌≢◌, ◌⊎◌, inl, inr, ℕ, ze
 use Rattle.mx_io.specs.Reads.{Stands}
 use Rattle.report_model.specs.declared.report.Report.{Report}
 use Rattle.command.specs.Commands.{Command, IsCommand, checkers_of, sources_of, turns_of}
-use Rattle.command.specs.Due.{IsDueFor, IsReported}
+use Rattle.command.specs.Due.{IsDue, IsDueFor}
 use Rattle.command.specs.Ran.{Ran, ReporterStep, Tells, NoRise, Completes}
 use Rattle.command.specs.Written.{SinkStep, Written, Took}
 use Rattle.command.specs.declared.status.Status.{Status}
@@ -133,7 +133,7 @@ module _ (told : List ℕ → Option (List ℕ)) (words : List (List ℕ)) (r : 
       for WriteFault due e o l = absurd due
       for NoMemory due e o l = absurd due
 
-      by : _ → Written c.status c.text c.line result out errs → Completes command contents r.rendered result out errs
+      by : IsDue told words r.called r.rendered old new c.status c.text c.line → Written c.status c.text c.line result out errs → Completes command contents r.rendered result out errs
       by due (inr (inl w)) = absurd (no-out w.1.0)
       by due (inr (inr w)) = absurd (no-errs w.2.0)
       by (inl m) (inl w) = absurd (m.none command given)
@@ -154,7 +154,7 @@ module _ (told : List ℕ → Option (List ℕ)) (words : List (List ℕ)) (r : 
       for WriteFault due e = absurd due
       for NoMemory due e = absurd due
 
-      by : _ → Written c.status c.text c.line result out errs → (result ≡ Refused) ⊎ ((result ≡ WriteFault) ⊎ (result ≡ NoMemory))
+      by : IsDue told words r.called r.rendered old new c.status c.text c.line → Written c.status c.text c.line result out errs → (result ≡ Refused) ⊎ ((result ≡ WriteFault) ⊎ (result ≡ NoMemory))
       by due (inr (inl w)) = inr (inl w.0)
       by due (inr (inr w)) = inr (inl w.0)
       by (inl m) (inl w) = absurd (m.none command given)

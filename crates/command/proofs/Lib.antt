@@ -2,6 +2,7 @@ mod GivenCommands
 mod GivenWords
 mod Turns
 mod Plans
+mod Positions
 mod Writing
 mod Statuses
 mod Complete

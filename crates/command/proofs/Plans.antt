@@ -1,11 +1,12 @@
 -- What is due for a command, by what its files came to.
-use Rattle.std.proofs.Common.{◌≡◌, ◌⊎◌, inl, inr, ℕ, ◌+◌, ◌<◌, List, [], slice_get, Option, Some, refl, sym, ap, ◌∙◌, subst, arith}
+use Rattle.std.proofs.Common.{◌≡◌, ◌⊎◌, inl, inr, ℕ, suc, ◌+◌, ◌≤◌, Bool, true, false, cond, List, [], ◌∷◌, filter, length, map, Option, Bor, sym, ap, subst, arith}
+use Rattle.std.proofs.lemmas.List.{length-map}
 use Rattle.std.proofs.lemmas.Option.{slice_get_within}
 use Rattle.report_model.specs.declared.report.Report.{Report}
-use Rattle.command.specs.Commands.{Command, IsCommand, IsOther, checkers_of, sources_of, turns_of}
+use Rattle.command.specs.Commands.{Command, IsCommand, checkers_of, sources_of}
 use Rattle.command.specs.Due.{FailedInTurn, FailedInTurnOf, IsDue, IsDueFor, IsLacking, IsRefused}
 use Rattle.command.specs.Plans.{IsAmong, IsPlanOf}
-use Rattle.command.specs.Ran.{Leaves, ReporterStep}
+use Rattle.command.specs.Ran.{Leaves}
 use Rattle.command.specs.Rendered.{IsPlanFor}
 use Rattle.command.specs.Tasks.{LeavesAt}
 use Rattle.command.specs.declared.status.Status.{Status}
@@ -15,75 +16,69 @@ use Rattle.judged_files.specs.FirstFault.{AnswersUnjudged}
 use Rattle.judged_files.specs.Judged.{AreAccepted}
 use Rattle.judged_files.specs.declared.unjudged.Unjudged.{Unjudged}
 use Rattle.judged_files.specs.declared.unjudged.Unjudged.TheVariants.{NotRead, Faulty, NoMemory}
-use Rattle.request_files.specs.Turns.{Turn, turns}
+use Rattle.request_files.specs.Turns.{turns}
+use Rattle.request_files.specs.Views.{located_of, words_of}
 
-module _ (told : List ℕ → Option (List ℕ)) (command : Command) (checkers sources : List (List ℕ)) (checkers-are : checkers ≡ checkers_of command) (sources-are : sources ≡ sources_of command) (old new : List (List ℕ)) where
+-- ---- the words of the files of each kind
+
+filter-few : (p : List ℕ → Bool) (ws : List (List ℕ)) → length (filter p ws) ≤ length ws
+filter-few p [] = omega arith
+filter-few p (w ∷ ws) = by (p w) (filter-few p ws)
+  where
+    by : (b : Bool) → length (filter p ws) ≤ length ws → length (cond b (w ∷ filter p ws) (filter p ws)) ≤ suc (length ws)
+    by true h = omega (arith, h)
+    by false h = omega (arith, h)
+
+-- no more of a kind than there are
+pub kind_few : {X : Type 0} (f : X → List ℕ) (p : List ℕ → Bool) (files : List X) (kind : List (Bor (List ℕ))) (most : ℕ) → words_of kind ≡ filter p (map f files) → length files ≤ most → length kind ≤ most
+kind_few f p files kind most e h =
+    let a = length-map kind (λ (w : Bor (List ℕ)). w.now) in
+    let b = filter-few p (map f files) in
+    let c = length-map files f in
+    omega (arith, a, b, c, h, ap length e)
+
+module _ (told : List ℕ → Option (List ℕ)) (command : Command) (old new : List (List ℕ)) where
   -- ---- the files gave reports
-  accepted : (depth : ℕ) (reports : List Report) → depth ≡ command.depth → AreAccepted told checkers sources depth reports → AreAccepted told (checkers_of command) (sources_of command) command.depth reports
-  accepted depth reports d a =
-      subst (λ cs. AreAccepted told cs (sources_of command) command.depth reports) checkers-are
-      (subst (λ ss. AreAccepted told checkers ss command.depth reports) sources-are
-      (subst (λ n. AreAccepted told checkers sources n reports) d a))
-
-  pub due_for_reports : (rendered : List Report → List (List ℕ)) (depth : ℕ) (reports : List Report) (s : Status) (text line : List ℕ) → depth ≡ command.depth → AreAccepted told checkers sources depth reports → new ≡ old
+  pub due_for_reports : (rendered : List Report → List (List ℕ)) (reports : List Report) (s : Status) (text line : List ℕ) → AreAccepted told (checkers_of command) (sources_of command) command.depth reports → new ≡ old
       → IsPlanFor command.place (rendered reports) reports s text line → IsDueFor told command rendered old new s text line
-  due_for_reports rendered depth reports status.Clean text line d a n p = record { reports = reports; accepted = accepted depth reports d a; none_failed = n; asked = p.0; text_is = p.1; line_is = p.2 }
-  due_for_reports rendered depth reports status.Reports text line d a n p = record { reports = reports; accepted = accepted depth reports d a; none_failed = n; asked = p.0; text_is = p.1; line_is = p.2 }
-  due_for_reports rendered depth reports status.Usage text line d a n p = absurd p
-  due_for_reports rendered depth reports status.Refused text line d a n p = absurd p
-  due_for_reports rendered depth reports status.ReadFault text line d a n p = absurd p
-  due_for_reports rendered depth reports status.WriteFault text line d a n p = absurd p
-  due_for_reports rendered depth reports status.NoMemory text line d a n p = absurd p
+  due_for_reports rendered reports status.Clean text line a n p = record { reports = reports; accepted = a; none_failed = n; asked = p.0; text_is = p.1; line_is = p.2 }
+  due_for_reports rendered reports status.Reports text line a n p = record { reports = reports; accepted = a; none_failed = n; asked = p.0; text_is = p.1; line_is = p.2 }
+  due_for_reports rendered reports status.Usage text line a n p = absurd p
+  due_for_reports rendered reports status.Refused text line a n p = absurd p
+  due_for_reports rendered reports status.ReadFault text line a n p = absurd p
+  due_for_reports rendered reports status.WriteFault text line a n p = absurd p
+  due_for_reports rendered reports status.NoMemory text line a n p = absurd p
 
   -- ---- they gave none
-  answers : (u : Unjudged) → AnswersUnjudged told checkers sources old new u → AnswersUnjudged told (checkers_of command) (sources_of command) old new u
-  answers u a = subst (λ cs. AnswersUnjudged told cs (sources_of command) old new u) checkers-are (subst (λ ss. AnswersUnjudged told checkers ss old new u) sources-are a)
-
-  pub due_for_none : (rendered : List Report → List (List ℕ)) (u : Unjudged) (s : Status) (text line : List ℕ) → AnswersUnjudged told checkers sources old new u → IsPlanOf checkers sources u s text line
+  pub due_for_none : (rendered : List Report → List (List ℕ)) (u : Unjudged) (s : Status) (text line : List ℕ) → AnswersUnjudged told (checkers_of command) (sources_of command) old new u → IsPlanOf (checkers_of command) (sources_of command) u s text line
       → IsDueFor told command rendered old new s text line
   due_for_none rendered (NotRead position) s text line a p =
-      let failed = answers (NotRead position) a in
-      let here : slice_get (turns checkers sources) position ≡ Some failed.is_turn.turn =
-      subst (λ cs. slice_get (turns cs sources) position ≡ Some failed.is_turn.turn) (sym checkers-are)
-      (subst (λ ss. slice_get (turns (checkers_of command) ss) position ≡ Some failed.is_turn.turn) (sym sources-are) failed.is_turn.here) in
-      let lacking : IsLacking told command old new text line = record { position = position; failed = failed; text_is = p.1; line_is = p.2 failed.is_turn.turn here } in
+      let lacking : IsLacking told command old new text line = record { position = position; failed = a; text_is = p.1; line_is = p.2 a.is_turn.turn a.is_turn.here } in
       subst (λ x. IsDueFor told command rendered old new x text line) (sym p.0) lacking
   due_for_none rendered (Faulty l) s text line a p =
-      let first = answers (Faulty l) a in
-      let refused : IsRefused told command old new text line = record { fault = _; first = first.0; none_failed = first.1; text_is = p.1; line_is = p.2 } in
+      let refused : IsRefused told command old new text line = record { fault = located_of l; first = a.0; none_failed = a.1; text_is = p.1; line_is = p.2 } in
       subst (λ x. IsDueFor told command rendered old new x text line) (sym p.0) refused
   due_for_none rendered NoMemory s text line a p = absurd p
 
   -- whatever they came to
-  pub failed_for_none : (u : Unjudged) → AnswersUnjudged told checkers sources old new u → FailedInTurnOf told command old new
-  failed_for_none (NotRead position) a = inr (position, answers (NotRead position) a)
+  pub failed_for_none : (u : Unjudged) → AnswersUnjudged told (checkers_of command) (sources_of command) old new u → FailedInTurnOf told command old new
+  failed_for_none (NotRead position) a = inr (position, a)
   failed_for_none (Faulty l) a = inl a.1
   failed_for_none NoMemory a = inl a
 
+-- what is known of lists is known of equal ones
+pub of_both : {X : Type 0} (P : List X → List X → Type 0) (xs ys us vs : List X) → xs ≡ us → ys ≡ vs → P xs ys → P us vs
+of_both P xs ys us vs e f h = subst (λ zs. P zs vs) e (subst (λ zs. P xs zs) f h)
+
 -- the position of a file that wasn't read is that of a file
-pub is_among : (told : List ℕ → Option (List ℕ)) (checkers sources old new : List (List ℕ)) (u : Unjudged) → AnswersUnjudged told checkers sources old new u → IsAmong (length checkers + length sources) u
+pub is_among : (told : List ℕ → Option (List ℕ)) (checkers sources : List (Bor (List ℕ))) (old new : List (List ℕ)) (u : Unjudged) → AnswersUnjudged told (words_of checkers) (words_of sources) old new u → IsAmong (length checkers + length sources) u
 is_among told checkers sources old new (NotRead position) a =
-    let h = slice_get_within (turns checkers sources) position a.is_turn.turn a.is_turn.here in
-    omega (arith, h, all_turns checkers sources)
+    let h = slice_get_within (turns (words_of checkers) (words_of sources)) position a.is_turn.turn a.is_turn.here in
+    let b = length-map checkers (λ (w : Bor (List ℕ)). w.now) in
+    let c = length-map sources (λ (w : Bor (List ℕ)). w.now) in
+    omega (arith, h, b, c, all_turns (words_of checkers) (words_of sources))
 is_among told checkers sources old new (Faulty l) a = tt
 is_among told checkers sources old new NoMemory a = tt
-
--- no reporter is handed anything where there are no reports
-pub none_handed : (checkers sources : List (List ℕ)) (u : Unjudged) (place : Option ℕ) (before after : List (List Report)) (s : Status) (text line : List ℕ) → after ≡ before → IsPlanOf checkers sources u s text line → LeavesAt place before after s
-none_handed checkers sources (NotRead position) place before after s text line e p = subst (LeavesAt place before after) (sym p.0) e
-none_handed checkers sources (Faulty l) place before after s text line e p = subst (LeavesAt place before after) (sym p.0) e
-none_handed checkers sources NoMemory place before after s text line e p = absurd p
-
--- the chosen one is empty where there are
-pub all_handed : (place : Option ℕ) (renderings : List (List ℕ)) (reports : List Report) (before after : List (List Report)) (s : Status) (text line : List ℕ) → LeavesAt place before after status.Clean → IsPlanFor place renderings reports s text line
-    → LeavesAt place before after s
-all_handed place renderings reports before after status.Clean text line e p = e
-all_handed place renderings reports before after status.Reports text line e p = e
-all_handed place renderings reports before after status.Usage text line e p = absurd p
-all_handed place renderings reports before after status.Refused text line e p = absurd p
-all_handed place renderings reports before after status.ReadFault text line e p = absurd p
-all_handed place renderings reports before after status.WriteFault text line e p = absurd p
-all_handed place renderings reports before after status.NoMemory text line e p = absurd p
 
 -- ---- the words give this command, and no other
 
@@ -94,9 +89,6 @@ module _ (words called : List (List ℕ)) (command : Command) (given : IsCommand
   pub failed_for_words : (told : List ℕ → Option (List ℕ)) (old new : List (List ℕ)) → FailedInTurnOf told command old new → FailedInTurn told words called old new
   failed_for_words told old new (inl e) = inl e
   failed_for_words told old new (inr f) = inr (command, given, f)
-
-  pub other_than_given : (k : ℕ) → IsOther words called k → command.place ≡ Some k → ⊥
-  other_than_given k other e = other command given e
 
   pub leaves_for_words : (rendered : List Report → List (List ℕ)) (before after : List (List Report)) (s : Status) → LeavesAt command.place before after s → Leaves words (record { called = called; rendered = rendered; before = before; after = after }) s
   leaves_for_words rendered before after status.Clean l = λ c g. subst (λ (k : Command). LeavesAt k.place before after status.Clean) (sym (only c g)) l

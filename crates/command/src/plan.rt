@@ -27,7 +27,7 @@ fn plan_refusal(
     unjudged: Unjudged,
 ) -> Result<Plan, AllocError>
     requires { IsAmong (length checkers.now + length sources.now) unjudged }
-    ensures { IfOk result (λ plan. IsPlanOf (words_of checkers.now) (words_of sources.now) unjudged.entry plan.status plan.text.items plan.line.items) }
+    ensures { IfOk result (λ plan. IsPlanOf (words_of checkers.now) (words_of sources.now) unjudged plan.status plan.text.items plan.line.items) }
 {
     let text = Vec::new(alloc);
     match unjudged {

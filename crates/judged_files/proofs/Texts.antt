@@ -1,8 +1,9 @@
 -- The texts of C files: there are few functions in them, and the name of each is a token whose presumed file is a name.
 use Rattle.std.proofs.Common.{◌≡◌, ℕ, zero, suc, ◌+◌, ◌-◌, ◌≤◌, ◌<◌, ◌⊎◌, inl, inr, List, [], ◌∷◌, ◌++◌, length, min, Contains, Option, None, Some, slice_get, refl, sym, ap, ◌∙◌, subst, arith, length-append}
 use Rattle.std.proofs.lemmas.List.Elements.{Contains-append_cases}
+use Rattle.c_places.specs.Lines.{row_line}
+use Rattle.c_places.specs.Stands.{Stands}
 use Rattle.c_tree.specs.declared.token.Token.{Token}
-use Rattle.c_tree.specs.Node.{Nodes}
 use Rattle.c_reading.specs.Pieces.{beginning}
 use Rattle.c_reading.specs.Reading.{lexemes}
 use Rattle.c_reading.specs.declared.mode.Mode.TheVariants.{C}
@@ -30,22 +31,21 @@ record IsFit (number : ℕ) (names : List (List ℕ)) (size : ℕ) (t : Text) : 
   named : AreNamedAt (IsThere number names t.tokens) (functions_of t.trees)
 
 source-fit : (number : ℕ) (word : List ℕ) (names : List (List ℕ)) (bytes : List ℕ) (t : Text) → IsSource number word names bytes t → IsFit number names (length bytes) t
-source-fit number word names bytes t s = record { few = few; tokens = tokens; named = functions_named (IsThere number names t.tokens) t.trees trees.high t.tokens stands (among_each (IsOf number names) t.tokens tokens) }
-  where
-    trees = s.typed.trees_are
-    all = s.tokens.lexes.tokens
-    stands = subst (λ ts. _) (sym s.kept) trees.stand
-
-    tokens : Each (IsOf number names) t.tokens
-    tokens = subst (Each (IsOf number names)) (sym s.kept) (kept_of number names s.list.all (tokens_of number names 0 (lexemes C (beginning word) s.tokens.pieces) s.list.all all))
-
-    few : length (functions_of t.trees) ≤ length bytes
-    few =
-        let a = few_functions t.trees trees.high t.tokens stands in
-        let b = few_stripped s.list.all in
-        let c = tokens_few number names 0 (lexemes C (beginning word) s.tokens.pieces) s.list.all all in
-        let d = few_lexemes (beginning word) s.tokens.pieces bytes s.tokens.reading in
-        omega (arith, a, b, c, d, ap length s.kept)
+source-fit number word names bytes t s =
+    let trees = s.typed.trees_are in
+    let lexed = s.tokens.lexes.tokens in
+    let spelled = lexemes C (beginning word) s.tokens.pieces in
+    let stands : Stands (row_line t.trees) 0 trees.high t.tokens [] = subst (λ ts. Stands (row_line t.trees) 0 trees.high ts []) (sym s.kept) trees.stand in
+    let tokens : Each (IsOf number names) t.tokens = subst (Each (IsOf number names)) (sym s.kept) (kept_of number names s.list.all (tokens_of number names 0 spelled s.list.all lexed)) in
+    let functions = few_functions t.trees trees.high t.tokens stands in
+    let stripped-few = few_stripped s.list.all in
+    let as-many = tokens_few number names 0 spelled s.list.all lexed in
+    let few = few_lexemes (beginning word) s.tokens.pieces bytes s.tokens.reading in
+    record {
+      few = omega (arith, functions, stripped-few, as-many, few, ap length s.kept);
+      tokens = tokens;
+      named = functions_named (IsThere number names t.tokens) t.trees trees.high t.tokens stands (among_each (IsOf number names) t.tokens tokens);
+    }
 
 -- names keep their numbers when there are more of them
 number-kept : (front more : List (List ℕ)) (n : ℕ) (x : List ℕ) → slice_get front n ≡ Some x → slice_get (front ++ more) n ≡ Some x
@@ -71,7 +71,7 @@ text-fit names number word bytes t h =
 
 -- ---- the texts of all files
 
-sizes : List (List ℕ) → ℕ
+abbrev sizes : List (List ℕ) → ℕ
 sizes [] = 0
 sizes (b ∷ bs) = length b + sizes bs
 
@@ -109,8 +109,8 @@ few_in_all told ts bs cs names words texts s h =
 -- a function of the first of these functions is one of them
 named-at : (P : Token → Type 0) (fs : List Defined) (f : Defined) → AreNamedAt P fs → Contains fs f → IsNamedAt P f
 named-at P [] f a c = let x = c.1 in absurd (omega (arith, x))
-named-at P (g ∷ fs) f a (zero, (lt, e)) = subst (IsNamedAt P) e a.0
-named-at P (g ∷ fs) f a (suc k, (lt, e)) = named-at P fs f a.1 (k, (omega (arith, lt), e))
+named-at P (g ∷ fs) f a (zero, lt, e) = subst (IsNamedAt P) e a.0
+named-at P (g ∷ fs) f a (suc k, lt, e) = named-at P fs f a.1 (k, omega (arith, lt), e)
 
 all-named : (number : ℕ) (names : List (List ℕ)) (ts : List Token) → Each (IsOf number names) ts → AreNamed names ts
 all-named number names [] h = tt
@@ -133,13 +133,10 @@ within names number [] [] (t ∷ ts) h f c = absurd h
 within names number [] (b ∷ bs) ts h f c = absurd h
 within names number (w ∷ ws) [] ts h f c = absurd h
 within names number (w ∷ ws) (b ∷ bs) [] h f c = absurd h
-within names number (w ∷ ws) (b ∷ bs) (t ∷ ts) h f c = by (Contains-append_cases (functions_of t.trees) (functions_in ts) f c)
+within names number (w ∷ ws) (b ∷ bs) (t ∷ ts) h f c = by (text-fit names number w b t h.0) (within names (number + 1) ws bs ts h.1 f) (Contains-append_cases (functions_of t.trees) (functions_in ts) f c)
   where
-    fit = text-fit names number w b t h.0
-    behind = within names (number + 1) ws bs ts h.1 f
-
-    by : Contains (functions_of t.trees) f ⊎ Contains (functions_in ts) f → IsWithin number names (t ∷ ts) f
-    by (inl here) =
+    by : IsFit number names (length b) t → (Contains (functions_in ts) f → IsWithin (number + 1) names ts f) → Contains (functions_of t.trees) f ⊎ Contains (functions_in ts) f → IsWithin number names (t ∷ ts) f
+    by fit behind (inl here) =
         let x = named-at (IsThere number names t.tokens) (functions_of t.trees) f fit.named here in
         record {
           position = 0;
@@ -151,7 +148,7 @@ within names number (w ∷ ws) (b ∷ bs) (t ∷ ts) h f c = by (Contains-append
           file_is = x.holds.1.0 ∙ omega arith;
           named = all-named number names t.tokens fit.tokens;
         }
-    by (inr there) =
+    by fit behind (inr there) =
         let x = behind there in
         record {
           position = suc x.position;
