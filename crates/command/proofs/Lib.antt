@@ -1,12 +1,8 @@
-pub mod Complete
-pub mod Finding
-pub mod Judging
-pub mod Members
-pub mod Plans
-pub mod Reporting
-pub mod SimpleBodies
-pub mod SourceFaults
-pub mod Statements
-pub mod Statuses
-pub mod Taken
-pub mod Writing
+mod GivenCommands
+mod GivenWords
+mod Turns
+mod Plans
+mod Positions
+mod Writing
+mod Statuses
+mod Complete

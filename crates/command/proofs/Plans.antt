@@ -1,59 +1,100 @@
--- Plans: what a run is due, by what its files came to.
-use Rattle.std.proofs.Common.{◌≡◌, ℕ, zero, suc, true, ◌<◌, List, [], ◌∷◌, length, map, get_or, slice_get, Option, Some, sym, ap, ◌∙◌, arith}
+-- What is due for a command, by what its files came to.
+use Rattle.std.proofs.Common.{◌≡◌, ◌⊎◌, inl, inr, ℕ, suc, ◌+◌, ◌≤◌, Bool, true, false, cond, List, [], ◌∷◌, filter, length, map, Option, Bor, sym, ap, subst, arith}
 use Rattle.std.proofs.lemmas.List.{length-map}
 use Rattle.std.proofs.lemmas.Option.{slice_get_within}
 use Rattle.report_model.specs.declared.report.Report.{Report}
-use Rattle.report_model.specs.Lines.{text_of}
-use Rattle.command.specs.Located.{Located, refused_line}
-use Rattle.command.specs.Due.{IsLacking, IsRefused, IsReported, not_read_line}
-use Rattle.command.specs.Judged.{AreJudged}
-use Rattle.command.specs.Reading.{AreSound, IsTurn, FailedAt, FaultyAt}
-use Rattle.command.specs.Words.{is_request_of}
+use Rattle.command.specs.Commands.{Command, IsCommand, checkers_of, sources_of}
+use Rattle.command.specs.Due.{FailedInTurn, FailedInTurnOf, IsDue, IsDueFor, IsLacking, IsRefused}
+use Rattle.command.specs.Plans.{IsAmong, IsPlanOf}
+use Rattle.command.specs.Ran.{Leaves}
+use Rattle.command.specs.Rendered.{IsPlanFor}
+use Rattle.command.specs.Tasks.{LeavesAt}
+use Rattle.command.specs.declared.status.Status.{Status}
+use Rattle.command.specs.declared.status.Status.TheVariants as status
+use Rattle.command.proofs.Turns.{all_turns}
+use Rattle.judged_files.specs.FirstFault.{AnswersUnjudged}
+use Rattle.judged_files.specs.Judged.{AreAccepted}
+use Rattle.judged_files.specs.declared.unjudged.Unjudged.{Unjudged}
+use Rattle.judged_files.specs.declared.unjudged.Unjudged.TheVariants.{NotRead, Faulty, NoMemory}
+use Rattle.request_files.specs.Turns.{turns}
+use Rattle.request_files.specs.Views.{located_of, words_of}
 
--- the element at an index, seen through a function
-pub named_at : {X Y : Type 0} (f : X → Y) (xs : List X) (i : ℕ) (x : X) → i < length xs → x ≡ get_or xs i x → slice_get (map f xs) i ≡ Some (f x)
-named_at f [] i x h e = absurd (omega arith)
-named_at f (y ∷ xs) zero x h e = ap (λ z. Some (f z)) (sym e)
-named_at f (y ∷ xs) (suc i) x h e = named_at f xs i x (omega arith) e
+-- ---- the words of the files of each kind
 
--- the name at an index is that of the element there
-same_name : {X : Type 0} (f : X → List ℕ) (xs : List X) (i : ℕ) (x : X) (n : List ℕ) → i < length xs → x ≡ get_or xs i x → slice_get (map f xs) i ≡ Some n → n ≡ f x
-same_name f xs i x n h e named = let at : slice_get (map f xs) i ≡ Some (f x) = named_at f xs i x h e in cc
+filter-few : (p : List ℕ → Bool) (ws : List (List ℕ)) → length (filter p ws) ≤ length ws
+filter-few p [] = omega arith
+filter-few p (w ∷ ws) = by (p w) (filter-few p ws)
+  where
+    by : (b : Bool) → length (filter p ws) ≤ length ws → length (cond b (w ∷ filter p ws) (filter p ws)) ≤ suc (length ws)
+    by true h = omega (arith, h)
+    by false h = omega (arith, h)
 
-module _ {X : Type 0} (f : X → List ℕ) (words : List X) (told : List ℕ → Option (List ℕ)) (k : ℕ) where
-  -- a turn is that of a word
-  pub turn_within : IsTurn told (map f words) k → k < length words
-  turn_within t = omega (arith, length-map words f, slice_get_within (map f words) k t.name t.named)
+-- no more of a kind than there are
+pub kind_few : {X : Type 0} (f : X → List ℕ) (p : List ℕ → Bool) (files : List X) (kind : List (Bor (List ℕ))) (most : ℕ) → words_of kind ≡ filter p (map f files) → length files ≤ most → length kind ≤ most
+kind_few f p files kind most e h =
+    let a = length-map kind (λ (w : Bor (List ℕ)). w.now) in
+    let b = filter-few p (map f files) in
+    let c = length-map files f in
+    omega (arith, a, b, c, h, ap length e)
 
-  module _ (old new : List (List ℕ)) (x : X) (text line name : List ℕ) (request : is_request_of (map f words) ≡ true) (here : x ≡ get_or words k x) (name-is : name ≡ f x) (none : text ≡ []) where
-    name_of_turn : (t : IsTurn told (map f words) k) → name ≡ t.name
-    name_of_turn t = name-is ∙ sym (same_name f words k x t.name (turn_within t) here t.named)
+module _ (told : List ℕ → Option (List ℕ)) (command : Command) (old new : List (List ℕ)) where
+  -- ---- the files gave reports
+  pub due_for_reports : (rendered : List Report → List (List ℕ)) (reports : List Report) (s : Status) (text line : List ℕ) → AreAccepted told (checkers_of command) (sources_of command) command.depth reports → new ≡ old
+      → IsPlanFor command.place (rendered reports) reports s text line → IsDueFor told command rendered old new s text line
+  due_for_reports rendered reports status.Clean text line a n p = record { reports = reports; accepted = a; none_failed = n; asked = p.0; text_is = p.1; line_is = p.2 }
+  due_for_reports rendered reports status.Reports text line a n p = record { reports = reports; accepted = a; none_failed = n; asked = p.0; text_is = p.1; line_is = p.2 }
+  due_for_reports rendered reports status.Usage text line a n p = absurd p
+  due_for_reports rendered reports status.Refused text line a n p = absurd p
+  due_for_reports rendered reports status.ReadFault text line a n p = absurd p
+  due_for_reports rendered reports status.WriteFault text line a n p = absurd p
+  due_for_reports rendered reports status.NoMemory text line a n p = absurd p
 
-    pub lacks : FailedAt told (map f words) old new k → line ≡ not_read_line name → IsLacking told (map f words) old new text line
-    lacks failed line-is = record { request = request; position = k; failed = failed; text_is = none; line_is = line-is ∙ ap not_read_line (name_of_turn failed.turn) }
+  -- ---- they gave none
+  pub due_for_none : (rendered : List Report → List (List ℕ)) (u : Unjudged) (s : Status) (text line : List ℕ) → AnswersUnjudged told (checkers_of command) (sources_of command) old new u → IsPlanOf (checkers_of command) (sources_of command) u s text line
+      → IsDueFor told command rendered old new s text line
+  due_for_none rendered (NotRead position) s text line a p =
+      let lacking : IsLacking told command old new text line = record { position = position; failed = a; text_is = p.1; line_is = p.2 a.is_turn.turn a.is_turn.here } in
+      subst (λ x. IsDueFor told command rendered old new x text line) (sym p.0) lacking
+  due_for_none rendered (Faulty l) s text line a p =
+      let refused : IsRefused told command old new text line = record { fault = located_of l; first = a.0; none_failed = a.1; text_is = p.1; line_is = p.2 } in
+      subst (λ x. IsDueFor told command rendered old new x text line) (sym p.0) refused
+  due_for_none rendered NoMemory s text line a p = absurd p
 
--- a file has the first fault
-pub refuses : (told : List ℕ → Option (List ℕ)) (names old new : List (List ℕ)) (text line : List ℕ) (position : ℕ) (fault : Located)
-    → is_request_of names ≡ true → FaultyAt told names position fault → new ≡ old → text ≡ [] → line ≡ refused_line fault → IsRefused told names old new text line
-refuses told names old new text line position fault request faulty same text-is line-is = record {
-  request = request;
-  position = position;
-  fault = fault;
-  faulty = faulty;
-  none_failed = same;
-  text_is = text-is;
-  line_is = line-is;
-}
+  -- whatever they came to
+  pub failed_for_none : (u : Unjudged) → AnswersUnjudged told (checkers_of command) (sources_of command) old new u → FailedInTurnOf told command old new
+  failed_for_none (NotRead position) a = inr (position, a)
+  failed_for_none (Faulty l) a = inl a.1
+  failed_for_none NoMemory a = inl a
 
--- the list of reports
-pub reports_due : (told : List ℕ → Option (List ℕ)) (names old new : List (List ℕ)) (text line : List ℕ) (IsAsked : List Report → Type 0) (reports : List Report)
-    → is_request_of names ≡ true → (texts : List (List ℕ)) → AreSound told names texts → length texts ≡ length names → new ≡ old → AreJudged names texts reports
-    → IsAsked reports → text ≡ text_of reports → line ≡ [] → IsReported told names old new text line IsAsked
-reports_due told names old new text line IsAsked reports request texts read whole same judged asked text-is line-is = record {
-  texts = texts;
-  reports = reports;
-  accepted = record { request = request; read = read; whole = whole; none_failed = same; judged = judged };
-  asked = asked;
-  text_is = text-is;
-  line_is = line-is;
-}
+-- what is known of lists is known of equal ones
+pub of_both : {X : Type 0} (P : List X → List X → Type 0) (xs ys us vs : List X) → xs ≡ us → ys ≡ vs → P xs ys → P us vs
+of_both P xs ys us vs e f h = subst (λ zs. P zs vs) e (subst (λ zs. P xs zs) f h)
+
+-- the position of a file that wasn't read is that of a file
+pub is_among : (told : List ℕ → Option (List ℕ)) (checkers sources : List (Bor (List ℕ))) (old new : List (List ℕ)) (u : Unjudged) → AnswersUnjudged told (words_of checkers) (words_of sources) old new u → IsAmong (length checkers + length sources) u
+is_among told checkers sources old new (NotRead position) a =
+    let h = slice_get_within (turns (words_of checkers) (words_of sources)) position a.is_turn.turn a.is_turn.here in
+    let b = length-map checkers (λ (w : Bor (List ℕ)). w.now) in
+    let c = length-map sources (λ (w : Bor (List ℕ)). w.now) in
+    omega (arith, h, b, c, all_turns (words_of checkers) (words_of sources))
+is_among told checkers sources old new (Faulty l) a = tt
+is_among told checkers sources old new NoMemory a = tt
+
+-- ---- the words give this command, and no other
+
+module _ (words called : List (List ℕ)) (command : Command) (given : IsCommand words called command) (only : (c : Command) → IsCommand words called c → c ≡ command) where
+  pub due_for_words : (told : List ℕ → Option (List ℕ)) (rendered : List Report → List (List ℕ)) (old new : List (List ℕ)) (s : Status) (text line : List ℕ) → IsDueFor told command rendered old new s text line → IsDue told words called rendered old new s text line
+  due_for_words told rendered old new s text line due = inr (record { command = command; given = given; due = due })
+
+  pub failed_for_words : (told : List ℕ → Option (List ℕ)) (old new : List (List ℕ)) → FailedInTurnOf told command old new → FailedInTurn told words called old new
+  failed_for_words told old new (inl e) = inl e
+  failed_for_words told old new (inr f) = inr (command, given, f)
+
+  pub leaves_for_words : (rendered : List Report → List (List ℕ)) (before after : List (List Report)) (s : Status) → LeavesAt command.place before after s → Leaves words (record { called = called; rendered = rendered; before = before; after = after }) s
+  leaves_for_words rendered before after status.Clean l = λ c g. subst (λ (k : Command). LeavesAt k.place before after status.Clean) (sym (only c g)) l
+  leaves_for_words rendered before after status.Reports l = λ c g. subst (λ (k : Command). LeavesAt k.place before after status.Reports) (sym (only c g)) l
+  leaves_for_words rendered before after status.Usage l = l
+  leaves_for_words rendered before after status.Refused l = l
+  leaves_for_words rendered before after status.ReadFault l = l
+  leaves_for_words rendered before after status.WriteFault l = tt
+  leaves_for_words rendered before after status.NoMemory l = tt

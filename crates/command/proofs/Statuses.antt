@@ -1,115 +1,171 @@
 -- What each status says of a run.
-use Rattle.std.proofs.Common.{◌≡◌, ◌≢◌, ◌⊎◌, inl, inr, ℕ, false, List, [], Option, refl, sym, ◌∙◌, subst}
-use Rattle.std.proofs.lemmas.Bool.{true≢false}
+use Rattle.std.proofs.Common.{◌≡◌, ◌≢◌, ◌⊎◌, inl, inr, ℕ, List, [], Option, refl, sym, ◌∙◌, subst}
 use Rattle.mx_io.specs.Causes.{Rose}
 use Rattle.report_model.specs.declared.report.Report.{Report}
 use Rattle.command.specs.declared.status.Status.{Status}
 use Rattle.command.specs.declared.status.Status.TheVariants.{Clean, Reports, Usage, Refused, ReadFault, WriteFault, NoMemory}
-use Rattle.command.specs.Due.{IsDue, IsReported, IsRefused, IsLacking}
-use Rattle.command.specs.Ran.{Ran, Prints, Misuses, Refuses, Misses}
-use Rattle.command.specs.Words.{is_request_of}
+use Rattle.command.specs.Commands.{Command, IsCommand, GiveNone}
+use Rattle.command.specs.Due.{IsDue, IsDueFor, IsMisused, HasTask, IsReported, IsRefused, IsLacking}
+use Rattle.command.specs.Ran.{Ran, IsEmptied, Leaves, ReporterStep, Prints, Misuses, Refuses, Misses}
 use Rattle.command.specs.Written.{SinkStep, Written, Took, IsStill}
 
-module _ (told : List ℕ → Option (List ℕ)) (names old new : List (List ℕ)) (result : Status) (out errs : SinkStep) where
+module _ (told : List ℕ → Option (List ℕ)) (words : List (List ℕ)) (r : ReporterStep) (old new : List (List ℕ)) (result : Status) (out errs : SinkStep) where
   -- what was due under a status was written whole
   pub record Done (s : Status) : Type 0 where
     pub text : List ℕ
     pub line : List ℕ
-    pub due : IsDue told names old new s text line
+    pub due : IsDue told words r.called r.rendered old new s text line
+    pub leaves : Leaves words r s
     pub took_out : Took out text
     pub took_errs : Took errs line
     pub out_still : IsStill out
     pub errs_still : IsStill errs
 
-  done : (s : Status) → s ≢ NoMemory → s ≢ WriteFault → Ran told names old new result out errs → result ≡ s → Done s
+  done : (s : Status) → s ≢ NoMemory → s ≢ WriteFault → Ran told words r old new result out errs → result ≡ s → Done s
   done s memory fault (inl stops) e = absurd (memory (sym e ∙ stops.status))
   done s memory fault (inr c) e = by c.written
     where
       by : Written c.status c.text c.line result out errs → Done s
-      by (inl w) = record { text = c.text; line = c.line; due = subst (λ x. IsDue told names old new x c.text c.line) (sym w.0 ∙ e) c.due; took_out = w.1; took_errs = w.2; out_still = w.3; errs_still = w.4 }
+      by (inl w) = record {
+        text = c.text;
+        line = c.line;
+        due = subst (λ x. IsDue told words r.called r.rendered old new x c.text c.line) (sym w.0 ∙ e) c.due;
+        leaves = subst (Leaves words r) (sym w.0 ∙ e) c.leaves;
+        took_out = w.1;
+        took_errs = w.2;
+        out_still = w.3;
+        errs_still = w.4;
+      }
       by (inr (inl w)) = absurd (fault (sym e ∙ w.0))
       by (inr (inr w)) = absurd (fault (sym e ∙ w.0))
 
-  prints : (IsAsked : List Report → Type 0) (text line : List ℕ) → IsReported told names old new text line IsAsked → Took out text → Took errs line → IsStill out → IsStill errs
-      → Prints told names old new out errs IsAsked
-  prints IsAsked text line r o e out-still errs-still = record {
-    texts = r.texts;
-    reports = r.reports;
-    accepted = r.accepted;
-    asked = r.asked;
-    printed = subst (Took out) r.text_is o;
-    nothing = subst (Took errs) r.line_is e;
-    out_still = out-still;
-    errs_still = errs-still;
+  -- but for usage it was due for a command
+  task : (s : Status) (text line : List ℕ) → s ≢ Usage → IsDue told words r.called r.rendered old new s text line → HasTask told words r.called r.rendered old new s text line
+  task s text line n (inl m) = absurd (n m.status_is)
+  task s text line n (inr t) = t
+
+  prints : (IsAsked : List Report → Type 0) (s : Status) (d : Done s) (command : Command) → IsCommand words r.called command → IsReported told command r.rendered old new d.text d.line IsAsked
+      → IsEmptied words r → Prints told words r old new out errs IsAsked
+  prints IsAsked s d command given cause empty = record {
+    command = command;
+    given = given;
+    text = d.text;
+    cause = subst (λ l. IsReported told command r.rendered old new d.text l IsAsked) cause.line_is cause;
+    printed = d.took_out;
+    nothing = subst (Took errs) cause.line_is d.took_errs;
+    out_still = d.out_still;
+    errs_still = d.errs_still;
+    empty = empty;
   }
 
-  pub clean : Ran told names old new result out errs → result ≡ Clean → Prints told names old new out errs (λ reports. reports ≡ [])
-  clean ran e = let d = done Clean (λ k. cc) (λ k. cc) ran e in prints (λ reports. reports ≡ []) d.text d.line d.due d.took_out d.took_errs d.out_still d.errs_still
+  pub clean : Ran told words r old new result out errs → result ≡ Clean → Prints told words r old new out errs (λ reports. reports ≡ [])
+  clean ran e =
+      let d = done Clean (λ k. cc) (λ k. cc) ran e in
+      let t = task Clean d.text d.line (λ k. cc) d.due in
+      prints (λ reports. reports ≡ []) Clean d t.command t.given t.due d.leaves
 
-  pub reports : Ran told names old new result out errs → result ≡ Reports → Prints told names old new out errs (λ reports. reports ≢ [])
-  reports ran e = let d = done Reports (λ k. cc) (λ k. cc) ran e in prints (λ rs. rs ≢ []) d.text d.line d.due d.took_out d.took_errs d.out_still d.errs_still
+  pub reports : Ran told words r old new result out errs → result ≡ Reports → Prints told words r old new out errs (λ reports. reports ≢ [])
+  reports ran e =
+      let d = done Reports (λ k. cc) (λ k. cc) ran e in
+      let t = task Reports d.text d.line (λ k. cc) d.due in
+      prints (λ rs. rs ≢ []) Reports d t.command t.given t.due d.leaves
 
-  pub usage : Ran told names old new result out errs → result ≡ Usage → Misuses names old new out errs
-  usage ran e =
-      let d = done Usage (λ k. cc) (λ k. cc) ran e in
-      record {
-        cause = record { words = d.due.words; none_failed = d.due.none_failed; text_is = refl; line_is = refl };
-        nothing = subst (Took out) d.due.text_is d.took_out;
-        printed = subst (Took errs) d.due.line_is d.took_errs;
+  pub usage : Ran told words r old new result out errs → result ≡ Usage → Misuses words r old new out errs
+  usage ran e = let d = done Usage (λ k. cc) (λ k. cc) ran e in by d d.due
+    where
+      by : (d : Done Usage) → IsDue told words r.called r.rendered old new Usage d.text d.line → Misuses words r old new out errs
+      by d (inl m) = record {
+        cause = record { none = m.none; none_failed = m.none_failed; status_is = refl; text_is = refl; line_is = refl };
+        nothing = subst (Took out) m.text_is d.took_out;
+        printed = subst (Took errs) m.line_is d.took_errs;
         out_still = d.out_still;
         errs_still = d.errs_still;
+        kept = d.leaves;
       }
+      by d (inr t) = absurd t.due
 
-  pub refused : Ran told names old new result out errs → result ≡ Refused → Refuses told names old new out errs
+  pub refused : Ran told words r old new result out errs → result ≡ Refused → Refuses told words r old new out errs
   refused ran e =
       let d = done Refused (λ k. cc) (λ k. cc) ran e in
-      record { line = d.line; cause = subst (λ t. IsRefused told names old new t d.line) d.due.text_is d.due; nothing = subst (Took out) d.due.text_is d.took_out; printed = d.took_errs; out_still = d.out_still; errs_still = d.errs_still }
+      let t = task Refused d.text d.line (λ k. cc) d.due in
+      let cause : IsRefused told t.command old new d.text d.line = t.due in
+      record {
+        command = t.command;
+        given = t.given;
+        line = d.line;
+        cause = subst (λ x. IsRefused told t.command old new x d.line) cause.text_is cause;
+        nothing = subst (Took out) cause.text_is d.took_out;
+        printed = d.took_errs;
+        out_still = d.out_still;
+        errs_still = d.errs_still;
+        kept = d.leaves;
+      }
 
-  pub read_fault : Ran told names old new result out errs → result ≡ ReadFault → Misses told names old new out errs
+  pub read_fault : Ran told words r old new result out errs → result ≡ ReadFault → Misses told words r old new out errs
   read_fault ran e =
       let d = done ReadFault (λ k. cc) (λ k. cc) ran e in
-      record { line = d.line; cause = subst (λ t. IsLacking told names old new t d.line) d.due.text_is d.due; nothing = subst (Took out) d.due.text_is d.took_out; printed = d.took_errs; out_still = d.out_still; errs_still = d.errs_still }
+      let t = task ReadFault d.text d.line (λ k. cc) d.due in
+      let cause : IsLacking told t.command old new d.text d.line = t.due in
+      record {
+        command = t.command;
+        given = t.given;
+        line = d.line;
+        cause = subst (λ x. IsLacking told t.command old new x d.line) cause.text_is cause;
+        nothing = subst (Took out) cause.text_is d.took_out;
+        printed = d.took_errs;
+        out_still = d.out_still;
+        errs_still = d.errs_still;
+        kept = d.leaves;
+      }
 
-  pub write_fault : Ran told names old new result out errs → result ≡ WriteFault → Rose out.faults_before out.faults_after ⊎ Rose errs.faults_before errs.faults_after
+  pub write_fault : Ran told words r old new result out errs → result ≡ WriteFault → Rose out.faults_before out.faults_after ⊎ Rose errs.faults_before errs.faults_after
   write_fault (inl stops) e = let k = stops.status in cc
-  write_fault (inr c) e = by c.status c.due c.written
+  write_fault (inr c) e = by c.due c.written
     where
-      by : (s : Status) → IsDue told names old new s c.text c.line → Written s c.text c.line result out errs → Rose out.faults_before out.faults_after ⊎ Rose errs.faults_before errs.faults_after
-      by WriteFault due w = absurd due
-      by s due (inl w) = let k = w.0 in cc
-      by s due (inr (inl w)) = inl w.1.0
-      by s due (inr (inr w)) = inr w.2.0
+      none : (s : Status) → result ≡ s → IsDue told words r.called r.rendered old new s c.text c.line → s ≡ WriteFault → ⊥
+      none s h (inl m) w = let u = m.status_is in cc
+      none WriteFault h (inr t) w = t.due
+      none Clean h (inr t) w = cc
+      none Reports h (inr t) w = cc
+      none Usage h (inr t) w = cc
+      none Refused h (inr t) w = cc
+      none ReadFault h (inr t) w = cc
+      none NoMemory h (inr t) w = cc
+
+      by : IsDue told words r.called r.rendered old new c.status c.text c.line → Written c.status c.text c.line result out errs → Rose out.faults_before out.faults_after ⊎ Rose errs.faults_before errs.faults_after
+      by due (inl w) = absurd (none c.status w.0 due (sym w.0 ∙ e))
+      by due (inr (inl w)) = inl w.1.0
+      by due (inr (inr w)) = inr w.2.0
 
   -- what is due ends with its status, or a write failed
-  ended : (s : Status) (text line : List ℕ) → Written s text line result out errs → (result ≡ s) ⊎ (result ≡ WriteFault)
+  pub ended : (s : Status) (text line : List ℕ) → Written s text line result out errs → (result ≡ s) ⊎ (result ≡ WriteFault)
   ended s text line (inl w) = inl w.0
   ended s text line (inr (inl w)) = inr w.0
   ended s text line (inr (inr w)) = inr w.0
 
-  pub no_request : Ran told names old new result out errs → is_request_of names ≡ false → (result ≡ Usage) ⊎ ((result ≡ WriteFault) ⊎ (result ≡ NoMemory))
-  no_request (inl stops) n = inr (inr stops.status)
-  no_request (inr c) n = by c.status c.due (ended c.status c.text c.line c.written)
+  pub no_command : Ran told words r old new result out errs → GiveNone words r.called → (result ≡ Usage) ⊎ ((result ≡ WriteFault) ⊎ (result ≡ NoMemory))
+  no_command (inl stops) n = inr (inr stops.status)
+  no_command (inr c) n = by c.due (ended c.status c.text c.line c.written)
     where
-      by : (s : Status) → IsDue told names old new s c.text c.line → (result ≡ s) ⊎ (result ≡ WriteFault) → (result ≡ Usage) ⊎ ((result ≡ WriteFault) ⊎ (result ≡ NoMemory))
-      by Clean due e = absurd (true≢false (sym due.accepted.request ∙ n))
-      by Reports due e = absurd (true≢false (sym due.accepted.request ∙ n))
-      by Usage due (inl e) = inl e
-      by Usage due (inr e) = inr (inl e)
-      by Refused due e = absurd (true≢false (sym due.request ∙ n))
-      by ReadFault due e = absurd (true≢false (sym due.request ∙ n))
-      by WriteFault due e = absurd due
-      by NoMemory due e = absurd due
+      by : IsDue told words r.called r.rendered old new c.status c.text c.line → (result ≡ c.status) ⊎ (result ≡ WriteFault) → (result ≡ Usage) ⊎ ((result ≡ WriteFault) ⊎ (result ≡ NoMemory))
+      by (inl m) (inl e) = inl (e ∙ m.status_is)
+      by (inl m) (inr e) = inr (inl e)
+      by (inr t) e = absurd (n t.command t.given)
 
-  pub failed : Ran told names old new result out errs → new ≢ old → (result ≡ ReadFault) ⊎ ((result ≡ WriteFault) ⊎ (result ≡ NoMemory))
+  pub failed : Ran told words r old new result out errs → new ≢ old → (result ≡ ReadFault) ⊎ ((result ≡ WriteFault) ⊎ (result ≡ NoMemory))
   failed (inl stops) n = inr (inr stops.status)
-  failed (inr c) n = by c.status c.due (ended c.status c.text c.line c.written)
+  failed (inr c) n = by c.due (ended c.status c.text c.line c.written)
     where
-      by : (s : Status) → IsDue told names old new s c.text c.line → (result ≡ s) ⊎ (result ≡ WriteFault) → (result ≡ ReadFault) ⊎ ((result ≡ WriteFault) ⊎ (result ≡ NoMemory))
-      by Clean due e = absurd (n due.accepted.none_failed)
-      by Reports due e = absurd (n due.accepted.none_failed)
-      by Usage due e = absurd (n due.none_failed)
-      by Refused due e = absurd (n due.none_failed)
-      by ReadFault due (inl e) = inl e
-      by ReadFault due (inr e) = inr (inl e)
-      by WriteFault due e = absurd due
-      by NoMemory due e = absurd due
+      for : (command : Command) (s : Status) → IsDueFor told command r.rendered old new s c.text c.line → (result ≡ s) ⊎ (result ≡ WriteFault) → (result ≡ ReadFault) ⊎ ((result ≡ WriteFault) ⊎ (result ≡ NoMemory))
+      for command Clean due e = absurd (n due.none_failed)
+      for command Reports due e = absurd (n due.none_failed)
+      for command Usage due e = absurd due
+      for command Refused due e = absurd (n due.none_failed)
+      for command ReadFault due (inl e) = inl e
+      for command ReadFault due (inr e) = inr (inl e)
+      for command WriteFault due e = absurd due
+      for command NoMemory due e = absurd due
+
+      by : IsDue told words r.called r.rendered old new c.status c.text c.line → (result ≡ c.status) ⊎ (result ≡ WriteFault) → (result ≡ ReadFault) ⊎ ((result ≡ WriteFault) ⊎ (result ≡ NoMemory))
+      by (inl m) e = absurd (n m.none_failed)
+      by (inr t) e = for t.command c.status t.due e

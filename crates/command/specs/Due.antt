@@ -1,13 +1,14 @@
 -- What a run is due: a status, the text for `out` and the line for `errs`.
-use Rattle.std.specs.Prelude.{◌≡◌, ◌≢◌, ℕ, true, false, ◌⊎◌, List, [], ◌∷◌, ◌++◌, length, Option, codes}
+use Rattle.std.specs.Prelude.{◌≡◌, ◌≢◌, ◌⊎◌, ℕ, List, [], ◌∷◌, ◌++◌, Option, codes}
 use Rattle.report_model.specs.declared.report.Report.{Report}
-use Rattle.report_model.specs.Lines.{text_of}
-use Rattle.command.specs.Located.{Located, refused_line}
+use Rattle.command.specs.Commands.{Command, IsCommand, GiveNone, checkers_of, sources_of, turns_of}
+use Rattle.command.specs.Rendered.{IsText}
 use Rattle.command.specs.declared.status.Status.{Status}
 use Rattle.command.specs.declared.status.Status.TheVariants.{Clean, Reports, Usage, Refused, ReadFault, WriteFault, NoMemory}
-use Rattle.command.specs.Judged.{AreJudged}
-use Rattle.command.specs.Reading.{AreSound, FailedAt, FaultyAt}
-use Rattle.command.specs.Words.{is_request_of}
+use Rattle.judged_files.specs.FirstFault.{IsFirstFault}
+use Rattle.judged_files.specs.Judged.{AreAccepted}
+use Rattle.request_files.specs.Faults.{Located, refused_line}
+use Rattle.request_files.specs.Reading.{FailedAt}
 
 abbrev pub usage_line : List ℕ
 usage_line = codes "usage: metalcheck [--depth N] [--format NAME] [--stats] FILE..." ++ 10 ∷ []
@@ -15,57 +16,61 @@ usage_line = codes "usage: metalcheck [--depth N] [--format NAME] [--stats] FILE
 abbrev pub not_read_line : List ℕ → List ℕ
 not_read_line name = name ++ (codes ": not read" ++ 10 ∷ [])
 
--- at most one read failed: that of a file whose turn had come
-abbrev pub FailedInTurn : (List ℕ → Option (List ℕ)) → List (List ℕ) → List (List ℕ) → List (List ℕ) → Type 0
-FailedInTurn told names old new = (new ≡ old) ⊎ ((is_request_of names ≡ true) × ((position : ℕ) × FailedAt told names old new position))
+-- at most one read failed: that of a file of the command whose turn had come
+abbrev pub FailedInTurnOf : (List ℕ → Option (List ℕ)) → Command → List (List ℕ) → List (List ℕ) → Type 0
+FailedInTurnOf told command old new = (new ≡ old) ⊎ ((position : ℕ) × FailedAt told (turns_of command) old new position)
 
--- all files were read without a fault, and these are their bytes and their reports
-pub record IsAccepted (told : List ℕ → Option (List ℕ)) (names old new texts : List (List ℕ)) (reports : List Report) : Type 0 where
-  pub request : is_request_of names ≡ true
-  pub read : AreSound told names texts
-  pub whole : length texts ≡ length names
-  pub none_failed : new ≡ old
-  pub judged : AreJudged names texts reports
+abbrev pub FailedInTurn : (List ℕ → Option (List ℕ)) → List (List ℕ) → List (List ℕ) → List (List ℕ) → List (List ℕ) → Type 0
+FailedInTurn told words called old new = (new ≡ old) ⊎ ((command : Command) × IsCommand words called command × ((position : ℕ) × FailedAt told (turns_of command) old new position))
 
--- a run that ends with the list of reports
-pub record IsReported (told : List ℕ → Option (List ℕ)) (names old new : List (List ℕ)) (text line : List ℕ) (IsAsked : List Report → Type 0) : Type 0 where
-  pub texts : List (List ℕ)
+-- the files of the command were read without a fault, and these are their reports, of the kind that is asked
+pub record IsReported (told : List ℕ → Option (List ℕ)) (command : Command) (rendered : List Report → List (List ℕ)) (old new : List (List ℕ)) (text line : List ℕ) (IsAsked : List Report → Type 0) : Type 0 where
   pub reports : List Report
-  pub accepted : IsAccepted told names old new texts reports
+  pub accepted : AreAccepted told (checkers_of command) (sources_of command) command.depth reports
+  pub none_failed : new ≡ old
   pub asked : IsAsked reports
-  pub text_is : text ≡ text_of reports
+  pub text_is : IsText command.place (rendered reports) reports text
   pub line_is : line ≡ []
 
--- the words are no request, and nothing was read
-pub record IsMisused (names old new : List (List ℕ)) (text line : List ℕ) : Type 0 where
-  pub words : is_request_of names ≡ false
-  pub none_failed : new ≡ old
-  pub text_is : text ≡ []
-  pub line_is : line ≡ usage_line
-
--- a file has the first fault, and no read failed before
-pub record IsRefused (told : List ℕ → Option (List ℕ)) (names old new : List (List ℕ)) (text line : List ℕ) : Type 0 where
-  pub request : is_request_of names ≡ true
-  pub position : ℕ
+-- a file has the first fault, or linking has it, and no read failed before
+pub record IsRefused (told : List ℕ → Option (List ℕ)) (command : Command) (old new : List (List ℕ)) (text line : List ℕ) : Type 0 where
   pub fault : Located
-  pub faulty : FaultyAt told names position fault
+  pub first : IsFirstFault told (checkers_of command) (sources_of command) fault
   pub none_failed : new ≡ old
   pub text_is : text ≡ []
   pub line_is : line ≡ refused_line fault
 
 -- a read failed
-pub record IsLacking (told : List ℕ → Option (List ℕ)) (names old new : List (List ℕ)) (text line : List ℕ) : Type 0 where
-  pub request : is_request_of names ≡ true
+pub record IsLacking (told : List ℕ → Option (List ℕ)) (command : Command) (old new : List (List ℕ)) (text line : List ℕ) : Type 0 where
   pub position : ℕ
-  pub failed : FailedAt told names old new position
+  pub failed : FailedAt told (turns_of command) old new position
   pub text_is : text ≡ []
-  pub line_is : line ≡ not_read_line failed.turn.name
+  pub line_is : line ≡ not_read_line failed.is_turn.turn.word
 
-abbrev pub IsDue : (List ℕ → Option (List ℕ)) → List (List ℕ) → List (List ℕ) → List (List ℕ) → Status → List ℕ → List ℕ → Type 0
-IsDue told names old new Clean text line = IsReported told names old new text line (λ reports. reports ≡ [])
-IsDue told names old new Reports text line = IsReported told names old new text line (λ reports. reports ≢ [])
-IsDue told names old new Usage text line = IsMisused names old new text line
-IsDue told names old new Refused text line = IsRefused told names old new text line
-IsDue told names old new ReadFault text line = IsLacking told names old new text line
-IsDue told names old new WriteFault text line = ⊥
-IsDue told names old new NoMemory text line = ⊥
+-- what is due for a command
+abbrev pub IsDueFor : (List ℕ → Option (List ℕ)) → Command → (List Report → List (List ℕ)) → List (List ℕ) → List (List ℕ) → Status → List ℕ → List ℕ → Type 0
+IsDueFor told command rendered old new Clean text line = IsReported told command rendered old new text line (λ reports. reports ≡ [])
+IsDueFor told command rendered old new Reports text line = IsReported told command rendered old new text line (λ reports. reports ≢ [])
+IsDueFor told command rendered old new Usage text line = ⊥
+IsDueFor told command rendered old new Refused text line = IsRefused told command old new text line
+IsDueFor told command rendered old new ReadFault text line = IsLacking told command old new text line
+IsDueFor told command rendered old new WriteFault text line = ⊥
+IsDueFor told command rendered old new NoMemory text line = ⊥
+
+-- the words give no command, and nothing was read
+pub record IsMisused (words called old new : List (List ℕ)) (status : Status) (text line : List ℕ) : Type 0 where
+  pub none : GiveNone words called
+  pub none_failed : new ≡ old
+  pub status_is : status ≡ Usage
+  pub text_is : text ≡ []
+  pub line_is : line ≡ usage_line
+
+-- the words give a command, and this is due for it
+pub record HasTask (told : List ℕ → Option (List ℕ)) (words called : List (List ℕ)) (rendered : List Report → List (List ℕ)) (old new : List (List ℕ)) (status : Status) (text line : List ℕ) : Type 0 where
+  pub command : Command
+  pub given : IsCommand words called command
+  pub due : IsDueFor told command rendered old new status text line
+
+-- WHAT A RUN IS DUE
+abbrev pub IsDue : (List ℕ → Option (List ℕ)) → List (List ℕ) → List (List ℕ) → (List Report → List (List ℕ)) → List (List ℕ) → List (List ℕ) → Status → List ℕ → List ℕ → Type 0
+IsDue told words called rendered old new status text line = IsMisused words called old new status text line ⊎ HasTask told words called rendered old new status text line

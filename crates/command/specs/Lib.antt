@@ -1,11 +1,9 @@
+pub mod Commands
 pub mod Due
-pub mod Judged
-pub mod Located
+pub mod Plans
 pub mod Ran
-pub mod Reading
-pub mod Simple
-pub mod Sources
-pub mod Stages
+pub mod Rendered
+pub mod Requests
 pub mod Statuses
-pub mod Words
+pub mod Tasks
 pub mod Written

@@ -1,17 +1,18 @@
-//! What the command does: words, files in turn, the analysis of the small form, the plan of what is due, and its writing.
+//! What the command does: the words, the files of each kind, their reports, the plan of what is due, and its writing.
 #![tactic(auto)]
 
-mod analysis;
-mod fault;
-mod file;
-mod judge;
+mod kinds;
 mod lines;
+mod outcome;
 mod plan;
 mod program;
 mod refusal;
+mod rendering;
+mod request;
 mod status;
 mod words;
 mod write_out;
 
 pub use program::run;
+pub use request::{Request, WordsFault, read_words};
 pub use status::Status;

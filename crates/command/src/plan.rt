@@ -1,48 +1,45 @@
 //! What a run is due, decided before anything is written.
 
-ghost use Rattle.std.specs.Prelude.{◌≡◌, map, string_bytes, IfOk, OnErr};
-ghost use Rattle.command.specs.Due.{IsDue, FailedInTurn};
+ghost use Rattle.std.specs.Prelude.{◌≡◌, ◌≢◌, ◌≤◌, ◌<◌, ◌+◌, ℕ, length, map, slice_get, string_bytes, vec_len, IfOk, IfSome, OnErr, Some};
+ghost use Rattle.command.specs.Commands.{IsOther};
+ghost use Rattle.command.specs.Due.{FailedInTurn, FailedInTurnOf, IsDue, IsDueFor};
+ghost use Rattle.command.specs.Plans.{IsAmong, IsPlanOf};
+ghost use Rattle.command.specs.Ran.{Leaves, reporter_step};
+ghost use Rattle.command.specs.Tasks.{LeavesAt, command_of};
+ghost use Rattle.request_files.specs.Views.{words_of};
 
-use crate::judge::{Outcome, judge};
-use crate::lines::write_lines;
+use crate::kinds::{checkers_among, sources_among, word_at};
+use crate::outcome::reports_of;
 use crate::refusal::{not_read, refused, usage};
+use crate::rendering::{Plan, plan_reports};
 use crate::status::Status;
-use crate::words::is_request;
+use crate::words::{Task, task_of};
+use judged_files::Unjudged;
 use mx_io::Files;
+use reporters::Reporter;
 use std::alloc::{AllocError, Global};
 
-/// A status, the text for `out` and the line for `errs`.
-#[derive(Drop)]
-pub struct Plan {
-    pub status: Status,
-    pub text: Vec<u8>,
-    pub line: Vec<u8>,
-}
-
-/// Reads and judges the files, and makes all that is to be written.
-pub fn decide<F: Files>(alloc: Global, words: &[String], files: &mut F) -> Result<Plan, AllocError>
-    ensures ok { IfOk result (λ plan. IsDue (F.contents files.old) (map string_bytes words.now) (F.failed files.old) (F.failed files.new) plan.status plan.text.items plan.line.items) }
-    ensures err { OnErr result (FailedInTurn (F.contents files.old) (map string_bytes words.now) (F.failed files.old) (F.failed files.new)) }
+/// What is due where the files of a task gave no reports.
+fn plan_refusal(
+    alloc: Global,
+    checkers: &[&str],
+    sources: &[&str],
+    unjudged: Unjudged,
+) -> Result<Plan, AllocError>
+    requires { IsAmong (length checkers.now + length sources.now) unjudged }
+    ensures { IfOk result (λ plan. IsPlanOf (words_of checkers.now) (words_of sources.now) unjudged plan.status plan.text.items plan.line.items) }
 {
     let text = Vec::new(alloc);
-    if !is_request(words) {
-        let line = usage(alloc)?;
-        return Ok(Plan {
-            status: Status::Usage,
-            text,
-            line,
-        });
-    }
-    match judge(alloc, words, files)? {
-        Outcome::NotRead(position) => {
-            let line = not_read(alloc, words[position].as_str())?;
+    match unjudged {
+        Unjudged::NotRead(position) => {
+            let line = not_read(alloc, word_at(checkers, sources, position))?;
             Ok(Plan {
                 status: Status::ReadFault,
                 text,
                 line,
             })
         }
-        Outcome::Faulty(_, located) => {
+        Unjudged::Faulty(located) => {
             let line = refused(alloc, &located)?;
             Ok(Plan {
                 status: Status::Refused,
@@ -50,21 +47,58 @@ pub fn decide<F: Files>(alloc: Global, words: &[String], files: &mut F) -> Resul
                 line,
             })
         }
-        Outcome::Judged(reports) => {
-            let line = Vec::new(alloc);
-            if reports.is_empty() {
-                return Ok(Plan {
-                    status: Status::Clean,
-                    text,
-                    line,
-                });
-            }
-            let text = write_lines(alloc, &reports)?;
-            Ok(Plan {
-                status: Status::Reports,
-                text,
-                line,
-            })
-        }
+        Unjudged::NoMemory => Err(AllocError),
     }
+}
+
+/// What is due for a task.
+fn plan_task<F: Files>(
+    alloc: Global,
+    task: &Task,
+    files: &mut F,
+    reporters: &mut Vec<Box<dyn Reporter>>,
+) -> Result<Plan, AllocError>
+    requires deep { task.now.depth ≤ 8 }
+    requires few { length task.now.files.now ≤ 80 }
+    requires within { IfSome task.now.place (λ p. p < vec_len reporters.old) }
+    ensures due { IfOk result (λ plan. IsDueFor (F.contents files.old) (command_of task.now) (λ reports. map (λ b. rendered b reports) reporters.old.items) (F.failed files.old) (F.failed files.new) plan.status plan.text.items plan.line.items) }
+    ensures failed { OnErr result (FailedInTurnOf (F.contents files.old) (command_of task.now) (F.failed files.old) (F.failed files.new)) }
+    ensures names { map (λ b. called b) reporters.new.items ≡ map (λ b. called b) reporters.old.items }
+    ensures styles { map (λ b. rendered b) reporters.new.items ≡ map (λ b. rendered b) reporters.old.items }
+    ensures others { (k : ℕ) → task.now.place ≢ Some k → slice_get (map (λ b. taken b) reporters.new.items) k ≡ slice_get (map (λ b. taken b) reporters.old.items) k }
+    ensures leaves { IfOk result (λ plan. LeavesAt task.now.place (map (λ b. taken b) reporters.old.items) (map (λ b. taken b) reporters.new.items) plan.status) }
+{
+    let checkers = checkers_among(alloc, task.files)?;
+    let sources = sources_among(alloc, task.files)?;
+    match reports_of(alloc, files, &checkers, &sources, task.depth) {
+        Ok(reports) => plan_reports(alloc, task.place, reporters, &reports),
+        Err(unjudged) => plan_refusal(alloc, &checkers, &sources, unjudged),
+    }
+}
+
+/// Reads and judges the files, and makes all that is to be written.
+pub(crate) fn decide<F: Files>(
+    alloc: Global,
+    words: &[String],
+    files: &mut F,
+    reporters: &mut Vec<Box<dyn Reporter>>,
+) -> Result<Plan, AllocError>
+    ensures due { IfOk result (λ plan. IsDue (F.contents files.old) (map string_bytes words.now) (map (λ b. called b) reporters.old.items) (λ reports. map (λ b. rendered b reports) reporters.old.items) (F.failed files.old) (F.failed files.new) plan.status plan.text.items plan.line.items) }
+    ensures failed { OnErr result (FailedInTurn (F.contents files.old) (map string_bytes words.now) (map (λ b. called b) reporters.old.items) (F.failed files.old) (F.failed files.new)) }
+    ensures names { map (λ b. called b) reporters.new.items ≡ map (λ b. called b) reporters.old.items }
+    ensures styles { map (λ b. rendered b) reporters.new.items ≡ map (λ b. rendered b) reporters.old.items }
+    ensures others { (k : ℕ) → IsOther (map string_bytes words.now) (map (λ b. called b) reporters.old.items) k → slice_get (map (λ b. taken b) reporters.new.items) k ≡ slice_get (map (λ b. taken b) reporters.old.items) k }
+    ensures leaves { IfOk result (λ plan. Leaves (map string_bytes words.now) (reporter_step (map (λ b. called b) reporters.old.items) (λ reports. map (λ b. rendered b reports) reporters.old.items) (map (λ b. taken b) reporters.old.items) (map (λ b. taken b) reporters.new.items)) plan.status) }
+{
+    let Some(task) = task_of(words, reporters) else {
+        let text = Vec::new(alloc);
+        let line = usage(alloc)?;
+        return Ok(Plan {
+            status: Status::Usage,
+            text,
+            line,
+        });
+    };
+    let plan = plan_task(alloc, &task, files, reporters)?;
+    Ok(plan)
 }

@@ -1,15 +1,19 @@
 //! The whole run.
 
-ghost use Rattle.std.specs.Prelude.{◌≡◌, ◌≢◌, ◌⊎◌, ℕ, List, [], true, false, ◌+◌, map, take, string_bytes};
+ghost use Rattle.std.specs.Prelude.{◌≡◌, ◌≢◌, ◌⊎◌, ℕ, List, [], ◌+◌, map, slice_get, take, string_bytes};
 ghost use Rattle.mx_io.specs.Causes.{Rose};
-ghost use Rattle.command.specs.Ran.{Ran, Prints, Misuses, Refuses, Misses, Tells, NoRise, Completes, sink_step};
-ghost use Rattle.command.specs.Reading.{AreFaultlessFrom, UnsoundAt};
-ghost use Rattle.command.specs.Words.{is_request_of};
+ghost use Rattle.command.specs.Commands.{Command, GiveNone, IsCommand, IsOther, checkers_of, sources_of, turns_of};
+ghost use Rattle.command.specs.Ran.{Completes, Misses, Misuses, NoRise, Prints, Ran, Refuses, Tells, reporter_step, sink_step};
+ghost use Rattle.judged_files.specs.Judged.{AreLinked};
+ghost use Rattle.judged_files.specs.Linking.{HaveLinkFault};
+ghost use Rattle.request_files.specs.Faults.{Located};
+ghost use Rattle.request_files.specs.Reading.{AreFrom, IsFaultless, UnsoundAt};
 
 use crate::plan::decide;
 use crate::status::Status;
 use crate::write_out::carry_out;
 use mx_io::{Files, Sink};
+use reporters::Reporter;
 use std::alloc::Global;
 
 /// Decides, and then writes.
@@ -19,12 +23,19 @@ fn decide_and_write<F: Files, O: Sink, E: Sink>(
     files: &mut F,
     out: &mut O,
     errs: &mut E,
+    reporters: &mut Vec<Box<dyn Reporter>>,
 ) -> Status
-    ensures { Ran (F.contents files.old) (map string_bytes words.now) (F.failed files.old) (F.failed files.new)
-        result (sink_step (O.received out.old) (O.received out.new) (O.faults out.old) (O.faults out.new))
+    ensures ran { Ran (F.contents files.old) (map string_bytes words.now)
+        (reporter_step (map (λ b. called b) reporters.old.items) (λ reports. map (λ b. rendered b reports) reporters.old.items) (map (λ b. taken b) reporters.old.items) (map (λ b. taken b) reporters.new.items))
+        (F.failed files.old) (F.failed files.new) result
+        (sink_step (O.received out.old) (O.received out.new) (O.faults out.old) (O.faults out.new))
         (sink_step (E.received errs.old) (E.received errs.new) (E.faults errs.old) (E.faults errs.new)) }
+    ensures names { map (λ b. called b) reporters.new.items ≡ map (λ b. called b) reporters.old.items }
+    ensures styles { map (λ b. rendered b) reporters.new.items ≡ map (λ b. rendered b) reporters.old.items }
+    ensures others { (k : ℕ) → IsOther (map string_bytes words.now) (map (λ b. called b) reporters.old.items) k →
+        slice_get (map (λ b. taken b) reporters.new.items) k ≡ slice_get (map (λ b. taken b) reporters.old.items) k }
 {
-    let Ok(plan) = decide(alloc, words, files) else {
+    let Ok(plan) = decide(alloc, words, files, reporters) else {
         return Status::NoMemory;
     };
     carry_out(
@@ -36,61 +47,86 @@ fn decide_and_write<F: Files, O: Sink, E: Sink>(
     )
 }
 
-/// Runs a checker over a C file: reads and judges the files that the words name, and then writes the reports to `out`, or one
-/// line to `errs`. Nothing is written before all is decided.
+/// Runs checkers over C files: reads and judges the files that the words name, and then writes the reports to `out`, as lines or as the
+/// chosen reporter renders them, or one line to `errs`. Nothing is written before all is decided.
 pub fn run<F: Files, O: Sink, E: Sink>(
     alloc: Global,
     words: &[String],
     files: &mut F,
     out: &mut O,
     errs: &mut E,
+    reporters: &mut Vec<Box<dyn Reporter>>,
 ) -> Status
     // All of it: no memory before the first write, or what the run is due, written as far as the sinks took it.
-    ensures ran { Ran (F.contents files.old) (map string_bytes words.now) (F.failed files.old) (F.failed files.new)
-        result (sink_step (O.received out.old) (O.received out.new) (O.faults out.old) (O.faults out.new))
+    ensures ran { Ran (F.contents files.old) (map string_bytes words.now)
+        (reporter_step (map (λ b. called b) reporters.old.items) (λ reports. map (λ b. rendered b reports) reporters.old.items) (map (λ b. taken b) reporters.old.items) (map (λ b. taken b) reporters.new.items))
+        (F.failed files.old) (F.failed files.new) result
+        (sink_step (O.received out.old) (O.received out.new) (O.faults out.old) (O.faults out.new))
         (sink_step (E.received errs.old) (E.received errs.new) (E.faults errs.old) (E.faults errs.new)) }
 
     // The same by status.
     ensures clean { result ≡ Status.Clean →
-        Prints (F.contents files.old) (map string_bytes words.now) (F.failed files.old) (F.failed files.new)
+        Prints (F.contents files.old) (map string_bytes words.now)
+        (reporter_step (map (λ b. called b) reporters.old.items) (λ reports. map (λ b. rendered b reports) reporters.old.items) (map (λ b. taken b) reporters.old.items) (map (λ b. taken b) reporters.new.items))
+        (F.failed files.old) (F.failed files.new)
         (sink_step (O.received out.old) (O.received out.new) (O.faults out.old) (O.faults out.new))
         (sink_step (E.received errs.old) (E.received errs.new) (E.faults errs.old) (E.faults errs.new)) (λ reports. reports ≡ []) }
     ensures reports { result ≡ Status.Reports →
-        Prints (F.contents files.old) (map string_bytes words.now) (F.failed files.old) (F.failed files.new)
+        Prints (F.contents files.old) (map string_bytes words.now)
+        (reporter_step (map (λ b. called b) reporters.old.items) (λ reports. map (λ b. rendered b reports) reporters.old.items) (map (λ b. taken b) reporters.old.items) (map (λ b. taken b) reporters.new.items))
+        (F.failed files.old) (F.failed files.new)
         (sink_step (O.received out.old) (O.received out.new) (O.faults out.old) (O.faults out.new))
         (sink_step (E.received errs.old) (E.received errs.new) (E.faults errs.old) (E.faults errs.new)) (λ reports. reports ≢ []) }
     ensures usage { result ≡ Status.Usage →
-        Misuses (map string_bytes words.now) (F.failed files.old) (F.failed files.new)
+        Misuses (map string_bytes words.now)
+        (reporter_step (map (λ b. called b) reporters.old.items) (λ reports. map (λ b. rendered b reports) reporters.old.items) (map (λ b. taken b) reporters.old.items) (map (λ b. taken b) reporters.new.items))
+        (F.failed files.old) (F.failed files.new)
         (sink_step (O.received out.old) (O.received out.new) (O.faults out.old) (O.faults out.new))
         (sink_step (E.received errs.old) (E.received errs.new) (E.faults errs.old) (E.faults errs.new)) }
     ensures refused { result ≡ Status.Refused →
-        Refuses (F.contents files.old) (map string_bytes words.now) (F.failed files.old) (F.failed files.new)
+        Refuses (F.contents files.old) (map string_bytes words.now)
+        (reporter_step (map (λ b. called b) reporters.old.items) (λ reports. map (λ b. rendered b reports) reporters.old.items) (map (λ b. taken b) reporters.old.items) (map (λ b. taken b) reporters.new.items))
+        (F.failed files.old) (F.failed files.new)
         (sink_step (O.received out.old) (O.received out.new) (O.faults out.old) (O.faults out.new))
         (sink_step (E.received errs.old) (E.received errs.new) (E.faults errs.old) (E.faults errs.new)) }
     ensures read_fault { result ≡ Status.ReadFault →
-        Misses (F.contents files.old) (map string_bytes words.now) (F.failed files.old) (F.failed files.new)
+        Misses (F.contents files.old) (map string_bytes words.now)
+        (reporter_step (map (λ b. called b) reporters.old.items) (λ reports. map (λ b. rendered b reports) reporters.old.items) (map (λ b. taken b) reporters.old.items) (map (λ b. taken b) reporters.new.items))
+        (F.failed files.old) (F.failed files.new)
         (sink_step (O.received out.old) (O.received out.new) (O.faults out.old) (O.faults out.new))
         (sink_step (E.received errs.old) (E.received errs.new) (E.faults errs.old) (E.faults errs.new)) }
     ensures write_fault { result ≡ Status.WriteFault →
         Rose (O.faults out.old) (O.faults out.new) ⊎ Rose (E.faults errs.old) (E.faults errs.new) }
 
-    // What leads to each status. The contents are told in these two; over files in memory they are.
-    ensures complete { (texts : List (List ℕ)) → is_request_of (map string_bytes words.now) ≡ true →
-        Tells (F.contents files.old) (map string_bytes words.now) texts → AreFaultlessFrom 0 33554432 (map string_bytes words.now) texts →
+    // What leads to each status. The contents are told in these three; over files in memory they are.
+    ensures complete { (command : Command) (contents : List (List ℕ)) → IsCommand (map string_bytes words.now) (map (λ b. called b) reporters.old.items) command →
+        Tells (F.contents files.old) (turns_of command) contents → AreFrom IsFaultless 33554432 (turns_of command) contents →
+        ((l : Located) → HaveLinkFault (checkers_of command) (sources_of command) contents l → ⊥) →
         F.failed files.new ≡ F.failed files.old → NoRise (O.faults out.old) (O.faults out.new) →
         NoRise (E.faults errs.old) (E.faults errs.new) → result ≢ Status.NoMemory →
-        Completes (map string_bytes words.now) texts result
+        Completes command contents (λ reports. map (λ b. rendered b reports) reporters.old.items) result
         (sink_step (O.received out.old) (O.received out.new) (O.faults out.old) (O.faults out.new))
         (sink_step (E.received errs.old) (E.received errs.new) (E.faults errs.old) (E.faults errs.new)) }
-    ensures faulty { (texts : List (List ℕ)) (position : ℕ) → is_request_of (map string_bytes words.now) ≡ true →
-        Tells (F.contents files.old) (take (position + 1) (map string_bytes words.now)) texts →
-        UnsoundAt (F.contents files.old) (map string_bytes words.now) position →
+    ensures faulty { (command : Command) (contents : List (List ℕ)) (position : ℕ) → IsCommand (map string_bytes words.now) (map (λ b. called b) reporters.old.items) command →
+        Tells (F.contents files.old) (take (position + 1) (turns_of command)) contents →
+        UnsoundAt (F.contents files.old) (turns_of command) position →
         F.failed files.new ≡ F.failed files.old →
         (result ≡ Status.Refused) ⊎ ((result ≡ Status.WriteFault) ⊎ (result ≡ Status.NoMemory)) }
-    ensures no_request { is_request_of (map string_bytes words.now) ≡ false →
+    ensures unlinked { (command : Command) (contents : List (List ℕ)) → IsCommand (map string_bytes words.now) (map (λ b. called b) reporters.old.items) command →
+        Tells (F.contents files.old) (turns_of command) contents →
+        (AreLinked (checkers_of command) (sources_of command) contents → ⊥) →
+        F.failed files.new ≡ F.failed files.old →
+        (result ≡ Status.Refused) ⊎ ((result ≡ Status.WriteFault) ⊎ (result ≡ Status.NoMemory)) }
+    ensures no_command { GiveNone (map string_bytes words.now) (map (λ b. called b) reporters.old.items) →
         (result ≡ Status.Usage) ⊎ ((result ≡ Status.WriteFault) ⊎ (result ≡ Status.NoMemory)) }
     ensures failed { F.failed files.new ≢ F.failed files.old →
         (result ≡ Status.ReadFault) ⊎ ((result ≡ Status.WriteFault) ⊎ (result ≡ Status.NoMemory)) }
+
+    // The reporters keep their names and styles, and those that aren't chosen what they hold.
+    ensures names { map (λ b. called b) reporters.new.items ≡ map (λ b. called b) reporters.old.items }
+    ensures styles { map (λ b. rendered b) reporters.new.items ≡ map (λ b. rendered b) reporters.old.items }
+    ensures others { (k : ℕ) → IsOther (map string_bytes words.now) (map (λ b. called b) reporters.old.items) k →
+        slice_get (map (λ b. taken b) reporters.new.items) k ≡ slice_get (map (λ b. taken b) reporters.old.items) k }
 {
-    decide_and_write(alloc, words, files, out, errs)
+    decide_and_write(alloc, words, files, out, errs, reporters)
 }

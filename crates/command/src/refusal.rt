@@ -2,15 +2,16 @@
 
 ghost use Rattle.std.specs.Prelude.{◌≡◌, ◌++◌, IfOk};
 ghost use Rattle.command.specs.Due.{not_read_line, usage_line};
-ghost use Rattle.command.specs.Located.{located_of, refused_line};
+ghost use Rattle.request_files.specs.Faults.{refused_line};
+ghost use Rattle.request_files.specs.Views.{located_of};
 
-use crate::fault::LocatedFault;
 use crate::lines::append_all;
 use itoa::Buffer;
+use request_files::LocatedFault;
 use std::alloc::{AllocError, Global};
 
 /// How the command is called.
-pub fn usage(alloc: Global) -> Result<Vec<u8>, AllocError>
+pub(crate) fn usage(alloc: Global) -> Result<Vec<u8>, AllocError>
     ensures { IfOk result (λ line. line.items ≡ usage_line) }
 {
     Vec::from_slice(
@@ -20,7 +21,7 @@ pub fn usage(alloc: Global) -> Result<Vec<u8>, AllocError>
 }
 
 /// A file was not read.
-pub fn not_read(alloc: Global, name: &str) -> Result<Vec<u8>, AllocError>
+pub(crate) fn not_read(alloc: Global, name: &str) -> Result<Vec<u8>, AllocError>
     ensures { IfOk result (λ line. line.items ≡ not_read_line name.now) }
 {
     let mut line = Vec::from_slice(alloc, name.as_bytes())?;
@@ -29,7 +30,7 @@ pub fn not_read(alloc: Global, name: &str) -> Result<Vec<u8>, AllocError>
 }
 
 /// A file has a fault.
-pub fn refused(alloc: Global, located: &LocatedFault) -> Result<Vec<u8>, AllocError>
+pub(crate) fn refused(alloc: Global, located: &LocatedFault) -> Result<Vec<u8>, AllocError>
     ensures { IfOk result (λ line. line.items ≡ refused_line (located_of located.now)) }
 {
     let mut number = Buffer::new();

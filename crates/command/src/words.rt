@@ -1,36 +1,50 @@
-//! The words of the command.
+//! The words of the command, and the task that they give.
 
-ghost use Rattle.std.specs.Prelude.{◌≡◌, true, length, map, string_bytes};
-ghost use Rattle.command.specs.Words.{starts_with_minus, is_checker_word, is_request_of};
+ghost use Rattle.std.specs.Prelude.{◌≡◌, ◌≤◌, ◌<◌, length, map, string_bytes, None, IfSome};
+ghost use Rattle.command.specs.Commands.{Command, IsCommand, GiveNone};
+ghost use Rattle.command.specs.Tasks.{command_of};
 
-fn is_option(word: &str) -> bool
-    ensures { result ≡ starts_with_minus word.now }
+use command_words::read_asked;
+use reporters::{Reporter, place_of};
+
+/// What the words give to do, as parts of these words.
+#[derive(Clone, Copy)]
+pub(crate) struct Task<'a> {
+    /// How many steps an object may have.
+    pub depth: u8,
+    /// The place of the reporter that renders the reports, if one does.
+    pub place: Option<usize>,
+    /// The FILE words, checkers and C files, in order.
+    pub files: &'a [String],
+}
+
+/// The task that the words give; `None` exactly where they give no command. Nothing reports statistics yet, so words that ask for
+/// them give none. It takes no memory.
+pub(crate) fn task_of<'a>(words: &'a [String], reporters: &[Box<dyn Reporter>]) -> Option<Task<'a>>
+    ensures given { IfSome result (λ task. IsCommand (map string_bytes words.now) (map (λ b. called b) reporters.now) (command_of task)) }
+    ensures only { IfSome result (λ task. (command : Command) → IsCommand (map string_bytes words.now) (map (λ b. called b) reporters.now) command → command ≡ command_of task) }
+    ensures none { result ≡ None → GiveNone (map string_bytes words.now) (map (λ b. called b) reporters.now) }
+    ensures deep { IfSome result (λ task. task.depth ≤ 8) }
+    ensures few { IfSome result (λ task. length task.files.now ≤ 80) }
+    ensures within { IfSome result (λ task. IfSome task.place (λ place. place < length reporters.now)) }
 {
-    match word.as_bytes() {
-        [b'-', ..] => true,
-        _ => false,
+    let asked = read_asked(words)?;
+    if asked.stats {
+        return None;
     }
-}
-
-/// Whether a FILE word names a checker: its last six bytes are `.metal`.
-fn is_checker(word: &str) -> bool
-    ensures { result ≡ is_checker_word word.now }
-{
-    let bytes = word.as_bytes();
-    bytes.len() >= 6 && &bytes[bytes.len() - 6..] == b".metal".as_slice()
-}
-
-/// Whether the words are a checker and a C file, in this order.
-pub fn is_request(words: &[String]) -> bool
-    ensures request { result ≡ is_request_of (map string_bytes words.now) }
-    ensures two { result ≡ true → length words.now ≡ 2 }
-{
-    match words {
-        [checker, source] => {
-            let checker = checker.as_str();
-            let source = source.as_str();
-            !is_option(checker) && !is_option(source) && is_checker(checker) && !is_checker(source)
-        }
-        _ => false,
+    let Some(name) = asked.format else {
+        return Some(Task {
+            depth: asked.depth,
+            place: None,
+            files: asked.files,
+        });
+    };
+    match place_of(reporters, name) {
+        None => None,
+        Some(place) => Some(Task {
+            depth: asked.depth,
+            place: Some(place),
+            files: asked.files,
+        }),
     }
 }

@@ -1,4 +1,4 @@
-//! Checks C files by a checker.
+//! Checks C files by checkers.
 #![tactic(auto)]
 
 #[cfg(test)]
@@ -6,6 +6,7 @@ mod tests;
 
 use command::{Status, run};
 use mx_io::{OsFiles, OsSink};
+use reporters::{JsonLines, Reporter, Table};
 use std::alloc::AllocError;
 use std::env;
 use std::process::ExitCode;
@@ -22,14 +23,29 @@ fn words_of(rt: &HostRuntime) -> Result<Vec<String>, AllocError> {
     Ok(words)
 }
 
-fn main(rt: HostRuntime) -> ExitCode {
+/// Runs the command. `--format` chooses from the reporters `table` and `json`.
+fn run_command(rt: &HostRuntime) -> Result<Status, AllocError> {
     let alloc = rt.alloc();
-    let Ok(words) = words_of(&rt) else {
-        return ExitCode::from(Status::NoMemory.code());
-    };
-    let mut files = OsFiles::new(&rt, alloc);
+    let words = words_of(rt)?;
+    let mut reporters: Vec<Box<dyn Reporter>> = Vec::new(alloc);
+    reporters.push(Box::new(alloc, Table::new(alloc))?)?;
+    reporters.push(Box::new(alloc, JsonLines::new(alloc))?)?;
+    let mut files = OsFiles::new(rt, alloc);
     let mut out = OsSink::new(rt.stdout());
     let mut errs = OsSink::new(rt.stderr());
-    let status = run(alloc, &words, &mut files, &mut out, &mut errs);
-    ExitCode::from(status.code())
+    Ok(run(
+        alloc,
+        &words,
+        &mut files,
+        &mut out,
+        &mut errs,
+        &mut reporters,
+    ))
+}
+
+fn main(rt: HostRuntime) -> ExitCode {
+    match run_command(&rt) {
+        Ok(status) => ExitCode::from(status.code()),
+        Err(_) => ExitCode::from(Status::NoMemory.code()),
+    }
 }

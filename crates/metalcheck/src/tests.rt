@@ -1,7 +1,11 @@
 //! Whole runs over files and sinks in memory.
 
+use c_tree::Place;
 use command::{Status, run};
+use mx_base::Text;
 use mx_io::{MemFiles, MemSink};
+use report_model::Report;
+use reporters::{JsonLines, Reporter, Table};
 use std::alloc::{AllocError, Global};
 use std::process::Abort;
 use std::test::Fail;
@@ -50,22 +54,49 @@ fn words_of(alloc: Global, words: &[&str]) -> Result<Vec<String>, AllocError> {
     Ok(all)
 }
 
-/// Runs the words over `free.metal` and, if there is one, a text as `a.c`. A write takes at most ten bytes.
+/// A report of an earlier run.
+fn old_report(alloc: Global) -> Result<Report, AllocError> {
+    Ok(Report {
+        place: Place { file: 0, token: 0 },
+        file: Text::from_bytes(alloc, b"old.c")?,
+        line: 1,
+        col: 1,
+        checker: 0,
+        checker_name: Text::from_bytes(alloc, b"old")?,
+        rule: 1,
+        object: None,
+        message: Text::from_bytes(alloc, b"old")?,
+    })
+}
+
+/// Runs the words over these files, with a table that holds a report and an empty list of lines of JSON. A write takes at most ten
+/// bytes.
 fn run_in(
     alloc: Global,
     words: &[&str],
-    source: Option<&[u8]>,
+    texts: &[(&str, &[u8])],
     outside: Outside,
 ) -> Result<Outcome, AllocError> {
     let words = words_of(alloc, words)?;
     let mut files = MemFiles::new(alloc, outside.reads)?;
-    files.add("free.metal", FREE)?;
-    if let Some(bytes) = source {
-        files.add("a.c", bytes)?;
+    for (name, bytes) in texts {
+        files.add(name, bytes)?;
     }
+    let mut table = Table::new(alloc);
+    table.take(&old_report(alloc)?)?;
+    let mut reporters: Vec<Box<dyn Reporter>> = Vec::new(alloc);
+    reporters.push(Box::new(alloc, table)?)?;
+    reporters.push(Box::new(alloc, JsonLines::new(alloc))?)?;
     let mut out = MemSink::new(alloc, 10, outside.out, outside.room)?;
     let mut errs = MemSink::new(alloc, 10, outside.errs, 1000)?;
-    let status = run(alloc, &words, &mut files, &mut out, &mut errs);
+    let status = run(
+        alloc,
+        &words,
+        &mut files,
+        &mut out,
+        &mut errs,
+        &mut reporters,
+    );
     Ok(Outcome {
         status,
         out: Vec::from_slice(alloc, out.bytes())?,
@@ -73,100 +104,91 @@ fn run_in(
     })
 }
 
-fn run_over(alloc: Global, source: &[u8]) -> Result<Outcome, AllocError> {
-    run_in(alloc, &["free.metal", "a.c"], Some(source), HONEST)
-}
-
 /// A run ended so, and wrote this.
 fn expect_end(rt: &impl Abort, it: &Outcome, status: Status, out: &[u8], errs: &[u8]) {
     assert!(rt; it.status == status && it.out.as_slice() == out && it.errs.as_slice() == errs);
 }
 
-#[test]
-fn a_freed_pointer_is_used(rt: HostRuntime) -> Result<(), Fail> {
-    let it = run_over(rt.alloc(), USE)?;
-    let out = b"a.c:1:28: free_checker: using p after free!\n";
-    expect_end(&rt, &it, Status::Reports, out, b"");
-    Ok(())
+/// Words, and what a run of them over `free.metal`, `a.c` and `b.c` comes to.
+struct Row {
+    words: &'static [&'static str],
+    source: &'static [u8],
+    status: Status,
+    out: &'static [u8],
+    errs: &'static [u8],
 }
 
-#[test]
-fn the_second_free_is_reported_alone(rt: HostRuntime) -> Result<(), Fail> {
-    let it = run_over(rt.alloc(), b"void f(char *p){ kfree(p); kfree(p); *p; }")?;
-    let out = b"a.c:1:28: free_checker: double free of p!\n";
-    expect_end(&rt, &it, Status::Reports, out, b"");
-    Ok(())
-}
-
-#[test]
-fn refusals_name_their_file(rt: HostRuntime) -> Result<(), Fail> {
-    let it = run_over(rt.alloc(), b"void f(int i){ }")?;
-    expect_end(&rt, &it, Status::Refused, b"", b"a.c:1: refused: NotYet\n");
-    let it = run_in(rt.alloc(), &["a.c"], Some(USE), HONEST)?;
-    expect_end(&rt, &it, Status::Usage, b"", USAGE);
-    let it = run_in(rt.alloc(), &["free.metal", "a.c"], None, HONEST)?;
-    expect_end(&rt, &it, Status::ReadFault, b"", b"a.c: not read\n");
-    Ok(())
-}
-
-/// C files, and the line that refuses each.
-const REFUSED: &[(&[u8], &[u8])] = &[
-    (b"int x = 08;", b"a.c:1: refused: BadNumber\n"),
-    (b"int c = 'a;", b"a.c:1: refused: OpenText\n"),
-    (b"int @;", b"a.c:1: refused: BadByte\n"),
-    (b"# x", b"a.c:1: refused: BadMarker\n"),
-    (
-        b"# 7 \"b.h\"\nint x;\nint y = 08;",
-        b"b.h:8: refused: BadNumber\n",
-    ),
-    (
-        b"void f(void){ }\n\nvoid g(void){ f() }\nvoid h(void){ g() }\n",
-        b"a.c:3: refused: Syntax\n",
-    ),
-    (b"# 7 \"b.h\"\nint x\n", b"b.h:7: refused: Syntax\n"),
-    (b"void f(void){ x; }", b"a.c:1: refused: Undeclared\n"),
-    (b"void f(int i){ *i; }", b"a.c:1: refused: NotPointer\n"),
-    (b"void f(int i){ i.a; }", b"a.c:1: refused: NotStruct\n"),
-    (
-        b"struct s { int a; }; void f(struct s *p){ p->b; }",
-        b"a.c:1: refused: NoField\n",
-    ),
-    (b"void f(int i){ i(); }", b"a.c:1: refused: NotFunction\n"),
-    (
-        b"void f(int i){ (i + 1) = 2; }",
-        b"a.c:1: refused: NotLvalue\n",
-    ),
-    (b"void f(int i){ int i; }", b"a.c:1: refused: Redeclared\n"),
-    (
-        b"void f(int i){\n i();\n *i; }",
-        b"a.c:2: refused: NotFunction\n",
-    ),
-    (
-        b"# 3 \"c.h\"\nvoid f(int i){\n *i; }",
-        b"c.h:4: refused: NotPointer\n",
-    ),
-    (b"void f(void){ x(); }", b"a.c:1: refused: NotYet\n"),
-    (
-        b"# 3 \"c.h\"\nvoid f(void){ x(); }",
-        b"a.c:1: refused: NotYet\n",
-    ),
+const ROWS: &[Row] = &[
+    Row {
+        words: &["free.metal", "a.c"],
+        source: USE,
+        status: Status::Reports,
+        out: b"a.c:1:28: free_checker: using p after free!\n",
+        errs: b"",
+    },
+    // Only what this run reports is in the table.
+    Row {
+        words: &["--format", "table", "free.metal", "a.c"],
+        source: USE,
+        status: Status::Reports,
+        out: b"       1:28    free_checker         a.c: using p after free!\n1 reports\n",
+        errs: b"",
+    },
+    Row {
+        words: &["--format=json", "--depth=0", "free.metal", "a.c"],
+        source: b"void f(char **p){ kfree(*p); **p; kfree(p); kfree(p); }",
+        status: Status::Reports,
+        out: b"{\"file\":\"a.c\",\"line\":1,\"col\":45,\"checker\":\"free_checker\",\"rule\":3,\"object\":\"p\",\"message\":\"double free of p!\"}\n",
+        errs: b"",
+    },
+    Row {
+        words: &["free.metal", "a.c"],
+        source: b"",
+        status: Status::Clean,
+        out: b"",
+        errs: b"",
+    },
+    Row {
+        words: &["a.c", "b.c"],
+        source: b"void g(void){ }",
+        status: Status::Refused,
+        out: b"",
+        errs: b"b.c:1: refused: DuplicateFunction\n",
+    },
+    Row {
+        words: &["free.metal", "a.c"],
+        source: b"# 3 \"c.h\"\nvoid f(int i){\n *i; }",
+        status: Status::Refused,
+        out: b"",
+        errs: b"c.h:4: refused: NotPointer\n",
+    },
+    Row {
+        words: &["free.metal"],
+        source: USE,
+        status: Status::Usage,
+        out: b"",
+        errs: USAGE,
+    },
+    Row {
+        words: &["free.metal", "c.c"],
+        source: USE,
+        status: Status::ReadFault,
+        out: b"",
+        errs: b"c.c: not read\n",
+    },
 ];
 
 #[test]
-fn a_fault_of_a_text_is_named_at_its_line(rt: HostRuntime) -> Result<(), Fail> {
-    for (source, line) in REFUSED {
-        let it = run_over(rt.alloc(), source)?;
-        expect_end(&rt, &it, Status::Refused, b"", line);
+fn runs_end_and_write_what_is_due(rt: HostRuntime) -> Result<(), Fail> {
+    for row in ROWS {
+        let texts = [
+            ("free.metal", FREE),
+            ("a.c", row.source),
+            ("b.c", b"void g(void){ }".as_slice()),
+        ];
+        let it = run_in(rt.alloc(), row.words, &texts, HONEST)?;
+        expect_end(&rt, &it, row.status, row.out, row.errs);
     }
-    Ok(())
-}
-
-#[test]
-fn blanks_comments_and_markers_may_stand_in_a_small_file(rt: HostRuntime) -> Result<(), Fail> {
-    let source = b"# 5 \"b.c\"\nvoid f(char *p){ /* gone */\n\tkfree(p);\n\t*p; }";
-    let it = run_over(rt.alloc(), source)?;
-    let out = b"b.c:7:2: free_checker: using p after free!\n";
-    expect_end(&rt, &it, Status::Reports, out, b"");
     Ok(())
 }
 
@@ -286,7 +308,12 @@ fn expect_lengths(rt: &impl Abort, it: &Outcome, status: Status, out: usize, err
 #[test]
 fn failed_calls_end_the_run(rt: HostRuntime) -> Result<(), Fail> {
     for (outside, status, out, errs) in FAILED {
-        let it = run_in(rt.alloc(), &["free.metal", "a.c"], Some(USE), *outside)?;
+        let it = run_in(
+            rt.alloc(),
+            &["free.metal", "a.c"],
+            &[("free.metal", FREE), ("a.c", USE)],
+            *outside,
+        )?;
         expect_lengths(&rt, &it, *status, *out, *errs);
     }
     Ok(())

@@ -1,17 +1,34 @@
-use Rattle.std.proofs.Common.{◌∙◌, map, sym, string_bytes}
-use Rattle.command.specs.Located.{located_of}
-use Rattle.command.proofs.Plans.{lacks, refuses}
+use Rattle.std.proofs.Common.{Global, map, string_bytes, refl, inl}
+use Rattle.reporters.proofs.Appending.{on_err}
+use Rattle.command.specs.Tasks.{command_of}
+use Rattle.command.proofs.Plans.{due_for_words, failed_for_words, leaves_for_words}
 use Rattle.command.proofs.plan.decide.Goals as goal
 
-pub returns-in_ok-line-in-NotRead-clause-ok : goal.returns-in_ok-line-in-NotRead-clause-ok
-returns-in_ok-line-in-NotRead-clause-ok g c =
-    lacks string_bytes c.args.words.now (g.F.Files.contents c.args.files.now) c.in-NotRead.position (g.F.Files.failed c.args.files.now) (g.F.Files.failed c.judge.new.files) c.index-words-position.result
-    c.new-text.result.items c.in_ok-line-in-NotRead.line.items c.as_str.result.now (sym c.is_request.ensures.request ∙ c.if-not-is_request.false) c.index-words-position.is c.as_str.ensures.value c.new-text.ensures.items
-    (rw c.in-NotRead.is at c.in_ok-position.ensures.ok) c.in_ok-line-in-NotRead.ensures
+pub returns-in_default-clause-due : goal.returns-in_default-clause-due
+returns-in_default-clause-due g c = inl (record {
+  none = rw c.deref.ensures.value at (c.in_default.ensures.none refl);
+  none_failed = refl;
+  status_is = refl;
+  text_is = c.new-text.ensures.items;
+  line_is = c.in_ok-line.ensures;
+})
 
-pub returns-in_ok-line-in-Faulty-clause-ok : goal.returns-in_ok-line-in-Faulty-clause-ok
-returns-in_ok-line-in-Faulty-clause-ok g c =
-    let faulty = rw c.in-Faulty.is at c.in_ok-position.ensures.ok in
-    refuses (g.F.Files.contents c.args.files.now) (map string_bytes c.args.words.now) (g.F.Files.failed c.args.files.now) (g.F.Files.failed c.judge.new.files)
-    c.new-text.result.items c.in_ok-line-in-Faulty.line.items c.in-Faulty.field-0 (located_of c.in-Faulty.located)
-    (sym c.is_request.ensures.request ∙ c.if-not-is_request.false) faulty.0 faulty.1 c.new-text.ensures.items c.in_ok-line-in-Faulty.ensures
+pub returns-in_err-plan-clause-failed : goal.returns-in_err-plan-clause-failed
+returns-in_err-plan-clause-failed g c =
+    let words = map (string_bytes {Z = Global}) c.args.words.now in
+    let called = map (λ b. (goal.Reporter-dyn g (b.vtable, b.value)).called b.value) c.args.reporters.now.items in
+    on_err c.from_residual-in_err-plan.result _
+    (failed_for_words words called (command_of c.in-Some.task) (rw c.deref.ensures.value at c.in-Some.ensures.given) (rw c.deref.ensures.value at c.in-Some.ensures.only) (g.F.Files.contents c.args.files.now) (g.F.Files.failed c.args.files.now) (g.F.Files.failed c.plan_task.new.files) c.in_err-plan.ensures.failed)
+
+pub returns-in_err-plan-clause-others : goal.returns-in_err-plan-clause-others
+returns-in_err-plan-clause-others g c k other = c.plan_task.ensures.others k (λ e. other (command_of c.in-Some.task) (rw c.deref.ensures.value at c.in-Some.ensures.given) e)
+
+pub returns-clause-others : goal.returns-clause-others
+returns-clause-others g c k other = c.plan_task.ensures.others k (λ e. other (command_of c.in-Some.task) (rw c.deref.ensures.value at c.in-Some.ensures.given) e)
+
+pub returns-clause-leaves : goal.returns-clause-leaves
+returns-clause-leaves g c =
+    let words = map (string_bytes {Z = Global}) c.args.words.now in
+    let called = map (λ b. (goal.Reporter-dyn g (b.vtable, b.value)).called b.value) c.args.reporters.now.items in
+    leaves_for_words words called (command_of c.in-Some.task) (rw c.deref.ensures.value at c.in-Some.ensures.given) (rw c.deref.ensures.value at c.in-Some.ensures.only)
+    (λ reports. map (λ b. (goal.Reporter-dyn g (b.vtable, b.value)).rendered b.value reports) c.args.reporters.now.items) _ _ c.in_ok-plan.plan.status c.in_ok-plan.ensures.leaves

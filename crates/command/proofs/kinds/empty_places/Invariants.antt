@@ -1,0 +1,9 @@
+-- no more places than are wanted
+use Rattle.std.proofs.Common.{◌≤◌, ◌-◌, length}
+use Rattle.command.proofs.kinds.empty_places.Given as goal
+
+abbrev pub invariant-loop-places : goal.invariant-loop-places
+invariant-loop-places l = length l.places.items ≤ l.count
+
+abbrev pub decreases-loop-places : goal.decreases-loop-places
+decreases-loop-places l = l.count - length l.places.items

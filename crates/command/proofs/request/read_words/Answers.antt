@@ -1,0 +1,26 @@
+use Rattle.std.proofs.Common.{Global, map, string_bytes, sym, ap, subst, arith}
+use Rattle.std.proofs.lemmas.List.{length-map}
+use Rattle.command.specs.Commands.{Command, IsCommand}
+use Rattle.command.specs.Requests.{words_at}
+use Rattle.command.specs.Tasks.{command_of}
+use Rattle.command.proofs.Positions.{by_positions, command_few, files_fewer}
+use Rattle.command.proofs.request.read_words.Goals as goal
+
+pub returns-in_default-clause-usage : goal.returns-in_default-clause-usage
+returns-in_default-clause-usage g c e = c.task_of.ensures.none c.in_default.is
+
+pub positions-requires-clause-bounded : goal.positions-requires-clause-bounded
+positions-requires-clause-bounded g c =
+    let h = command_few (map (string_bytes {Z = Global}) c.args.words.now) (map (λ b. (goal.Reporter-dyn g (b.vtable, b.value)).called b.value) c.args.reporters.now) (command_of c.in-Some.task) c.in-Some.ensures.given in
+    omega (arith, h, length-map c.args.words.now (string_bytes {Z = Global}))
+
+pub returns-clause-request : goal.returns-clause-request
+returns-clause-request g c =
+    let words = map (string_bytes {Z = Global}) c.args.words.now in
+    let called = map (λ b. (goal.Reporter-dyn g (b.vtable, b.value)).called b.value) c.args.reporters.now in
+    subst (λ place. IsCommand words called (record { depth = c.in-Some.task.depth; place = place; files = words_at words c.in-Ok.files.items })) (sym c.short_place.ensures)
+    (by_positions words called (command_of c.in-Some.task) c.in-Ok.files.items _ _ c.in-Some.ensures.given (sym (length-map c.args.words.now (string_bytes {Z = Global})))
+    (sym (length-map c.in-Some.task.files.now (string_bytes {Z = Global}))) c.in-Ok.ensures)
+
+pub returns-clause-none : goal.returns-clause-none
+returns-clause-none g c none = absurd (none (command_of c.in-Some.task) c.in-Some.ensures.given)

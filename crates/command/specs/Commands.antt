@@ -1,0 +1,45 @@
+-- THE COMMAND that words give, where reporters are handed in.
+use Rattle.std.specs.Prelude.{◌≡◌, ℕ, false, List, filter, Option, None, Some}
+use Rattle.std.specs.List.{position}
+use Rattle.std.specs.Str.{bytes_eq}
+use Rattle.command_words.specs.Words.{Request, IsRequest, is_checker_word, is_source_word}
+use Rattle.request_files.specs.Turns.{Turn, turns}
+
+-- what is to be done: objects with at most so many steps, the reporter at this place or none, and these files
+pub record Command : Type 0 where
+  pub depth : ℕ
+  pub place : Option ℕ
+  pub files : List (List ℕ)
+
+-- the place of the first reporter of the name that is asked for; there is none where no name is
+abbrev pub IsPlace : List (List ℕ) → Option (List ℕ) → Option ℕ → Type 0
+IsPlace called None place = place ≡ None
+IsPlace called (Some name) place = (k : ℕ) × (place ≡ Some k) × (position (bytes_eq name) called ≡ Some k)
+
+-- the words stand for a request that asks for no statistics, and whose format is the name of a reporter
+pub record IsCommand (words called : List (List ℕ)) (command : Command) : Type 0 where
+  pub request : Request
+  pub is_request : IsRequest words request
+  pub plain : request.stats ≡ false
+  pub place : IsPlace called request.format command.place
+  pub depth : command.depth ≡ request.depth
+  pub files : command.files ≡ request.files
+
+-- the words give no command
+abbrev pub GiveNone : List (List ℕ) → List (List ℕ) → Type 0
+GiveNone words called = (command : Command) → IsCommand words called command → ⊥
+
+-- the reporter at this place isn't the one that the words choose
+abbrev pub IsOther : List (List ℕ) → List (List ℕ) → ℕ → Type 0
+IsOther words called k = (command : Command) → IsCommand words called command → command.place ≡ Some k → ⊥
+
+-- the files of each kind, in the order of the words
+abbrev pub checkers_of : Command → List (List ℕ)
+checkers_of command = filter is_checker_word command.files
+
+abbrev pub sources_of : Command → List (List ℕ)
+sources_of command = filter is_source_word command.files
+
+-- the order in which they are read
+abbrev pub turns_of : Command → List Turn
+turns_of command = turns (checkers_of command) (sources_of command)

@@ -1,0 +1,21 @@
+-- What is written of a list of reports: a line for each, or what the chosen reporter renders.
+use Rattle.std.specs.Prelude.{◌≡◌, ◌≢◌, ℕ, List, [], slice_get, Option, None, Some}
+use Rattle.report_model.specs.declared.report.Report.{Report}
+use Rattle.report_model.specs.Lines.{text_of}
+use Rattle.command.specs.declared.status.Status.{Status}
+use Rattle.command.specs.declared.status.Status.TheVariants as status
+
+-- a line for each report, or what the reporter at the place renders
+abbrev pub IsText : Option ℕ → List (List ℕ) → List Report → List ℕ → Type 0
+IsText None renderings reports text = text ≡ text_of reports
+IsText (Some place) renderings reports text = slice_get renderings place ≡ Some text
+
+-- what is planned for a list of reports
+abbrev pub IsPlanFor : Option ℕ → List (List ℕ) → List Report → Status → List ℕ → List ℕ → Type 0
+IsPlanFor place renderings reports status.Clean text line = (reports ≡ []) × IsText place renderings reports text × (line ≡ [])
+IsPlanFor place renderings reports status.Reports text line = (reports ≢ []) × IsText place renderings reports text × (line ≡ [])
+IsPlanFor place renderings reports status.Usage text line = ⊥
+IsPlanFor place renderings reports status.Refused text line = ⊥
+IsPlanFor place renderings reports status.ReadFault text line = ⊥
+IsPlanFor place renderings reports status.WriteFault text line = ⊥
+IsPlanFor place renderings reports status.NoMemory text line = ⊥

@@ -1,0 +1,53 @@
+//! What the files of a task come to.
+
+ghost use Rattle.std.specs.Prelude.{◌≡◌, ◌≤◌, length, IfOk, IfErr, OnOk};
+ghost use Rattle.judged_files.specs.FirstFault.{AnswersUnjudged};
+ghost use Rattle.judged_files.specs.Judged.{AreAccepted};
+ghost use Rattle.request_files.specs.Views.{words_of};
+
+use crate::kinds::empty_places;
+use bumpalo::Bump;
+use judged_files::{Unjudged, judge_files};
+use mx_base::Names;
+use mx_io::Files;
+use report_model::Report;
+use std::alloc::Global;
+
+/// The reports of checkers over C files. Their trees and tokens stand in places that are made here.
+pub(crate) fn reports_of<F: Files>(
+    alloc: Global,
+    files: &mut F,
+    checkers: &[&str],
+    sources: &[&str],
+    depth: u8,
+) -> Result<Vec<Report>, Unjudged>
+    requires few_checkers { length checkers.now ≤ 80 }
+    requires few_sources { length sources.now ≤ 80 }
+    requires deep { depth ≤ 8 }
+    ensures accepted { IfOk result (λ reports. AreAccepted (F.contents files.old) (words_of checkers.now) (words_of sources.now) depth reports.items) }
+    ensures unjudged { IfErr result (λ e. AnswersUnjudged (F.contents files.old) (words_of checkers.now) (words_of sources.now) (F.failed files.old) (F.failed files.new) e) }
+    ensures none_failed { OnOk result (F.failed files.new ≡ F.failed files.old) }
+{
+    let Ok(mut checker_places) = empty_places(alloc, checkers.len()) else {
+        return Err(Unjudged::NoMemory);
+    };
+    let Ok(mut source_places) = empty_places(alloc, sources.len()) else {
+        return Err(Unjudged::NoMemory);
+    };
+    let arena = Bump::new(alloc);
+    let mut names = Names::new(alloc);
+    match judge_files(
+        &arena,
+        alloc,
+        files,
+        checkers,
+        sources,
+        depth,
+        &mut checker_places,
+        &mut source_places,
+        &mut names,
+    ) {
+        Ok(reports) => Ok(reports),
+        Err(unjudged) => Err(unjudged),
+    }
+}

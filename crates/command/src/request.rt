@@ -1,0 +1,85 @@
+//! The request that words stand for, by positions.
+
+ghost use Rattle.std.specs.Prelude.{◌≡◌, ◌⊎◌, ◌<◌, ◌≤◌, ◌-◌, ◌^◌, Err, false, length, map, string_bytes, IfOk, IfSome};
+ghost use Rattle.std.specs.List.{range_with_len};
+ghost use Rattle.command.specs.Commands.{GiveNone, IsCommand};
+ghost use Rattle.command.specs.Requests.{command_at};
+
+use crate::words::task_of;
+use reporters::Reporter;
+use std::alloc::{AllocError, Global};
+
+/// What words ask for, by positions in the lists that were handed in.
+#[derive(Drop)]
+pub struct Request {
+    /// How many steps an object may have, 0 to 8.
+    pub depth: u8,
+    /// The reporter that `--format` names.
+    pub format: Option<u32>,
+    /// Whether statistics are asked for.
+    pub stats: bool,
+    /// The FILE words, checkers and C files, in order.
+    pub files: Vec<u32>,
+}
+
+/// Why words give no request.
+#[derive(Clone, Copy, Debug, PartialEq, Eq)]
+pub enum WordsFault {
+    /// They stand for none.
+    Usage,
+    /// There was no memory.
+    NoMemory,
+}
+
+/// The positions from one on, up to and without another.
+fn positions(alloc: Global, from: usize, to: usize) -> Result<Vec<u32>, AllocError>
+    requires bounded { to < 2 ^ 32 }
+    requires ordered { from ≤ to }
+    ensures { IfOk result (λ all. all.items ≡ range_with_len from (to - from)) }
+{
+    let mut all = Vec::new(alloc);
+    let mut position = from;
+    while position < to {
+        all.push(position as u32)?;
+        position += 1;
+    }
+    Ok(all)
+}
+
+/// The same place, of which there are fewer than 2^32.
+fn short_place(place: Option<usize>) -> Option<u32>
+    requires { IfSome place (λ p. p < 2 ^ 32) }
+    ensures { result ≡ place }
+{
+    match place {
+        Some(place) => Some(place as u32),
+        None => None,
+    }
+}
+
+/// The request that words stand for, where these reporters are handed in.
+pub fn read_words(
+    alloc: Global,
+    words: &[String],
+    reporters: &[Box<dyn Reporter>],
+) -> Result<Request, WordsFault>
+    requires few { length reporters.now < 2 ^ 32 }
+    ensures request { IfOk result (λ request. IsCommand (map string_bytes words.now) (map (λ b. called b) reporters.now) (command_at (map string_bytes words.now) request)) }
+    ensures plain { IfOk result (λ request. request.stats ≡ false) }
+    ensures usage { result ≡ Err WordsFault.Usage → GiveNone (map string_bytes words.now) (map (λ b. called b) reporters.now) }
+    ensures none { GiveNone (map string_bytes words.now) (map (λ b. called b) reporters.now) → (result ≡ Err WordsFault.Usage) ⊎ (result ≡ Err WordsFault.NoMemory) }
+{
+    let Some(task) = task_of(words, reporters) else {
+        return Err(WordsFault::Usage);
+    };
+    let from = words.len() - task.files.len();
+    let Ok(files) = positions(alloc, from, words.len()) else {
+        return Err(WordsFault::NoMemory);
+    };
+    Ok(Request {
+        depth: task.depth,
+        format: short_place(task.place),
+        stats: false,
+        files,
+    })
+}

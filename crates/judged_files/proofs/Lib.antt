@@ -1,0 +1,6 @@
+mod Defining
+mod Linked
+mod Located
+mod Sizes
+mod Texts
+mod Tokens
