@@ -25,10 +25,10 @@ use std::alloc::{AllocError, Global};
 fn at_call<'a>(
     alloc: Global,
     tables: &Tables<'_, '_, 'a>,
-    frame: &Frame<'_, '_, 'a>,
+    frame: &Frame,
     edge: &Edge,
     tuples: &[Tuple],
-    call: &'a Tree<'a>,
+    call: &Tree<'a>,
     next: u32,
 ) -> Result<Vec<Edge>, AllocError>
     ensures { IfOk result (λ list. AreKnown tables.now → IsFrame tables.now edge.now.context.function frame.now → option_map (λ b. b.ending) (slice_get (graph_in frame.now.table.now.graph).blocks edge.now.block) ≡ Some (Calls (node_of call.now) next) → IsExactly tuples.now (StandsBehind (checker_in tables.now) (texts_in tables.now) (graphs_in tables.now) edge.now) → IsExactly list.items (LeadsTo (checker_in tables.now) (texts_in tables.now) (graphs_in tables.now) edge.now)) }
