@@ -22,11 +22,11 @@ use Rattle.engine_tables.specs.declared.tables.Tables.{Tables}
 use Rattle.engine_tables.specs.Known.{checker_in, texts_in, graphs_in}
 use Rattle.engine_tables.proofs.Places.{IsPlace, named, ending-there}
 use Rattle.flow_graph.specs.Seen.{graph_in}
-use Rattle.path_edges.specs.Edges.{call_in, call_at}
+use Rattle.path_edges.specs.Edges.{call_in, call_at, no_site, site_at}
 use Rattle.programs.specs.Definitions.{trees_in}
 use Rattle.wait_rules.specs.CallEnds.{if_call, ending_at}
 use Rattle.wait_rules.specs.FollowedCalls.{IsCall, HasNoCall}
-use Rattle.wait_rules.proofs.Callers.{CallAt, nowhere, one-function}
+use Rattle.wait_rules.proofs.Callers.{CallAt, nowhere, one-function, site-by-call}
 
 no-ending : (e : Ending) → None ≡ Some e → ⊥
 no-ending e h = cc
@@ -128,3 +128,16 @@ module _ (t : Tables) (n b : ℕ) (f : Frame) (p : IsPlace t n f) where
         into ∙ ap (λ o. option_map function_of (o >? slice_get (functions_in ts))) to ∙ there,
       );
     }
+
+-- the site of a waiter at the block, by the call in which it ends
+module _ (t : Tables) (n b : ℕ) (f : Frame) (p : IsPlace t n f) where
+  pub site-at-call : (call : Node) (next : ℕ) → Some (Calls call next) ≡ (ending_at (graph_in f.table.now.graph).blocks b >? if_call)
+      → site_at t.depth (texts_in t) (graphs_in t) n b ≡ site t.depth (texts_in t) (function_of p.defined) call
+  site-at-call call next e =
+      site-by-call (checker_in t) (texts_in t) (graphs_in t) n b (function_of p.defined) (Some call) (named t n p.defined p.is)
+      (ap (λ (g : Graph). call_at g b) p.graph ∙ call-there (graph_in f.table.now.graph) b call next e)
+
+  pub site-at-none : None ≡ (ending_at (graph_in f.table.now.graph).blocks b >? if_call) → site_at t.depth (texts_in t) (graphs_in t) n b ≡ no_site
+  site-at-none e =
+      site-by-call (checker_in t) (texts_in t) (graphs_in t) n b (function_of p.defined) None (named t n p.defined p.is)
+      (ap (λ (g : Graph). call_at g b) p.graph ∙ call-missing (graph_in f.table.now.graph) b e)

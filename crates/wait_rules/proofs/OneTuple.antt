@@ -1,16 +1,15 @@
 -- Who waits, and where he goes on, because of one tuple.
-use Rattle.std.proofs.Common.{◌≡◌, ◌⊎◌, inl, inr, ℕ, ◌+◌, ◌<◌, ◌++◌, List, [], ◌∷◌, map, length, get_or, take, Option, None, Some, refl, sym, ap, subst, ◌∙◌, Contains}
-use Rattle.std.proofs.lemmas.List.Elements.{Contains-append_left, Contains-append_cases, Contains-push, Contains-push_cases}
-use Rattle.std.proofs.lemmas.Option.{slice_get-get_or, get_or_from_slice_get}
+use Rattle.std.proofs.Common.{◌≡◌, inl, inr, ℕ, ◌++◌, List, [], ◌∷◌, map, Option, None, Some, sym, ap, subst, ◌∙◌, Contains}
+use Rattle.std.proofs.lemmas.List.Elements.{Contains-append_left, Contains-push, Contains-push_cases}
 use Rattle.c_objects.specs.Objects.{Object, is_static}
 use Rattle.c_typing.specs.Options.{or_else}
-use Rattle.c_typing.specs.Vars.{CVar}
 use Rattle.std.specs.Prelude.{cond}
 use Rattle.checker_model.specs.Calls.{out, reached}
+use Rattle.checker_model.specs.Choices.{State}
 use Rattle.checker_model.specs.Happenings.{Function, Site}
 use Rattle.checker_model.specs.Reports.{Checker}
-use Rattle.edge_steps.specs.Steps.{wait_for}
-use Rattle.edge_steps.proofs.Lists.{contains-map, map-contains, given-next}
+use Rattle.edge_steps.specs.Steps.{wait_for, woken_edge}
+use Rattle.edge_steps.proofs.Lists.{contains-map, map-contains}
 use Rattle.least_set.specs.declared.two_premises.Wait.{Wait}
 use Rattle.least_set.specs.Logs.{IsExactly, SomeGives}
 use Rattle.path_edges.specs.declared.edges.Context.{Context}
@@ -19,9 +18,9 @@ use Rattle.path_edges.specs.declared.edges.Waiter.{Waiter}
 use Rattle.refine_restore.specs.declared.site.Site as code
 use Rattle.refine_restore.specs.Sites.{site_of}
 use Rattle.state_tuples.specs.declared.tuple.Tuple.{Tuple}
-use Rattle.tuple_flows.specs.Passed.{IsSite, IsEntered}
+use Rattle.tuple_flows.specs.Passed.{IsSite, IsEntered, IsReturned}
 use Rattle.wait_rules.specs.Handing.{HandBackAlike}
-use Rattle.wait_rules.specs.Waiters.{IsSaved, IsWaiting, ForEntered, WithSaved, wait_with}
+use Rattle.wait_rules.specs.Waiters.{IsSaved, IsWaiting, ForEntered, WithSaved, GoesOn, WithHanded, WithPutBack, put_back, wait_with}
 
 -- what is made of each value of a list
 pub exactly-mapped : {A B : Type 0} (f : A → B) (P : A → Type 0) (xs : List A) → IsExactly xs P → IsExactly (map f xs) (λ b. (a : A) × P a × (f a ≡ b))
@@ -79,3 +78,42 @@ module _ (c : Checker) (s : Site) (callee : Function) (objects : List Object) (n
       by w (WithSaved p other is) =
           let same : p ≡ o = one-object p o (sym other.has ∙ saved.has) in
           subst (λ z. Contains (out ++ wait_with e number behind t o ∷ []) z) (ap (wait_with e number behind t) (sym same) ∙ is) (Contains-push out (wait_with e number behind t o))
+
+none-saved : (x : Object × Option State) → None ≡ Some x → ⊥
+none-saved x e = cc
+
+one-saved : (o p : Object) (x y : Option State) → Some (o, x) ≡ Some (p, y) → (o ≡ p) × (x ≡ y)
+one-saved o p x y e = (ap (λ z. z.0) (only (o, x) (p, y) e), ap (λ z. z.1) (only (o, x) (p, y) e))
+  where
+    only : (a b : Object × Option State) → Some a ≡ Some b → a ≡ b
+    only a b e = cc
+
+module _ (c : Checker) (s : Site) (caller : Function) (objects : List Object) (w : Waiter) (tuples : List Tuple) (out : List Edge) where
+  abbrev Goes : Tuple → Edge → Type 0
+  Goes t d = GoesOn c s caller objects w t d
+
+  -- who has nothing saved goes on with what is handed back
+  pub only-handed : w.saved ≡ None → IsExactly out (SomeGives (λ t d. (u : Tuple) × IsReturned c s caller objects t u × (woken_edge w u ≡ d)) tuples)
+      → IsExactly out (SomeGives (GoesOn c s caller objects w) tuples)
+  only-handed none x = (
+    λ d m. let g = x.0 d m in (g.0, g.1, WithHanded g.2.0 none g.2.1 g.2.2),
+    λ d h. x.1 d (h.0, h.1, by h.0 d h.2),
+  )
+    where
+      by : (t : Tuple) (d : Edge) → Goes t d → (u : Tuple) × IsReturned c s caller objects t u × (woken_edge w u ≡ d)
+      by t d (WithHanded u nothing back is) = (u, back, is)
+      by t d (WithPutBack o x saved empty is) = absurd (none-saved (o, x) (sym none ∙ saved))
+
+  -- who has an object saved goes on with it
+  pub only-put-back : (o : Object) (x : Option State) → w.saved ≡ Some (o, x) → IsExactly out (SomeGives (λ t d. (t.object ≡ None) × (woken_edge w (put_back t o x) ≡ d)) tuples)
+      → IsExactly out (SomeGives (GoesOn c s caller objects w) tuples)
+  only-put-back o x saved y = (
+    λ d m. let g = y.0 d m in (g.0, g.1, WithPutBack o x saved g.2.0 g.2.1),
+    λ d h. y.1 d (h.0, h.1, by h.0 d h.2),
+  )
+    where
+      by : (t : Tuple) (d : Edge) → Goes t d → (t.object ≡ None) × (woken_edge w (put_back t o x) ≡ d)
+      by t d (WithHanded u nothing back is) = absurd (none-saved (o, x) (sym nothing ∙ saved))
+      by t d (WithPutBack p z other empty is) =
+          let same = one-saved p o z x (sym other ∙ saved) in
+          (empty, ap (λ a. woken_edge w (put_back t a x)) (sym same.0) ∙ ap (λ a. woken_edge w (put_back t p a)) (sym same.1) ∙ is)

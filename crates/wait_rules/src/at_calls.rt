@@ -133,7 +133,7 @@ pub fn waits(
     edge: &Edge,
     tuples: &[Tuple],
 ) -> Result<Vec<Wait<Context, Waiter>>, AllocError>
-    ensures { IfOk result (λ list. AreKnown tables.now → IsExactly tuples.now (StandsBehind (checker_in tables.now) (texts_in tables.now) (graphs_in tables.now) edge.now) → ∥ IsExactly list.items (λ w. WaitsAt (checker_in tables.now) (texts_in tables.now) (graphs_in tables.now) edge.now w.on w.waiter) ∥₁) }
+    ensures { IfOk result (λ list. AreKnown tables.now → IsExactly tuples.now (StandsBehind (checker_in tables.now) (texts_in tables.now) (graphs_in tables.now) edge.now) → IsExactly list.items (λ w. WaitsAt (checker_in tables.now) (texts_in tables.now) (graphs_in tables.now) edge.now w.on w.waiter)) }
 {
     match followed_call(tables, edge.context.function, edge.block) {
         Some(call) => waits_of_all(alloc, tables.depth, &call, edge, tuples),

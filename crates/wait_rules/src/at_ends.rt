@@ -138,7 +138,7 @@ pub fn wake(
     end: &Edge,
     tuples: &[Tuple],
 ) -> Result<Vec<Edge>, AllocError>
-    ensures { IfOk result (λ list. AreKnown tables.now → IsExactly tuples.now (StandsBehind (checker_in tables.now) (texts_in tables.now) (graphs_in tables.now) end.now) → ∥ IsExactly list.items (IsWoken (checker_in tables.now) (texts_in tables.now) (graphs_in tables.now) waiter.now end.now) ∥₁) }
+    ensures { IfOk result (λ list. AreKnown tables.now → IsExactly tuples.now (StandsBehind (checker_in tables.now) (texts_in tables.now) (graphs_in tables.now) end.now) → IsExactly list.items (IsWoken (checker_in tables.now) (texts_in tables.now) (graphs_in tables.now) waiter.now end.now)) }
 {
     match tables.frame(waiter.context.function) {
         Some(frame) => goes_on(alloc, tables, &frame, waiter, tuples),
