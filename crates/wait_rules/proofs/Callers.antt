@@ -1,7 +1,10 @@
 -- Calls at the ends of blocks, and the tuples that stand before them.
 use Rattle.std.proofs.Common.{◌≡◌, ℕ, List, Option, None, Some, sym, ap, subst, ◌∙◌}
+use Rattle.std.specs.Option.{option_map}
 use Rattle.c_objects.specs.Objects.{Object}
 use Rattle.c_paths.specs.Building.{Graph}
+use Rattle.c_paths.specs.Events.{Event}
+use Rattle.c_paths.specs.Fragments.{Has}
 use Rattle.c_paths.specs.Graphs.{Block, Ending, Calls}
 use Rattle.c_tree.specs.Node.{Node}
 use Rattle.c_typing.specs.Options.{if_there, ◌>?◌}
@@ -26,27 +29,32 @@ one-function f g e = cc
 pub nowhere : (f : Function) → None ≡ Some f → ⊥
 nowhere f e = cc
 
-one-block : (a b : Block) → Some a ≡ Some b → a ≡ b
-one-block a b e = cc
+some-ending : (x y : Ending) → Some x ≡ Some y → x ≡ y
+some-ending x y e = cc
+
+one-ending : (a b : Node) (m n : ℕ) → Calls a m ≡ Calls b n → (a ≡ b) × (m ≡ n)
+one-ending a b m n e = let call : a ≡ b = cc in let next : m ≡ n = cc in (call, next)
+
+-- blocks that are the same end in the same call
+pub same-ending : (bs : List Block) (i : ℕ) (es fs : List Event) (a b : Node) (m n : ℕ) → Has bs i es (Calls a m) → Has bs i fs (Calls b n) → (a ≡ b) × (m ≡ n)
+same-ending bs i es fs a b m n x y = one-ending a b m n (some-ending (Calls a m) (Calls b n) (sym (ap (option_map (λ (k : Block). k.ending)) x) ∙ ap (option_map (λ (k : Block). k.ending)) y))
+
+-- two calls are one
+pub record AreSame (s r : Site) (h g : Function) (m n : ℕ) : Type 0 where
+  pub site : s ≡ r
+  pub callee : h ≡ g
+  pub behind : m ≡ n
 
 module _ (c : Checker) (ts : List Text) (gs : List Graph) where
   abbrev pub CallAt : Function → ℕ → Site → Function → ℕ → Type 0
   CallAt f b s h next = (flow_graphs c ts gs).Call f b s h next
 
   -- a block ends in one call
-  pub record AreSame (s r : Site) (h g : Function) (m n : ℕ) : Type 0 where
-    pub site : s ≡ r
-    pub callee : h ≡ g
-    pub behind : m ≡ n
-
   pub one-call : (f : Function) (b : ℕ) (s r : Site) (h g : Function) (m n : ℕ) → CallAt f b s h m → CallAt f b r g n → AreSame s r h g m n
   one-call f b s r h g m n x y =
-      let ends : Calls x.1 m ≡ Calls y.1 n =
-      ap (λ (k : Block). k.ending) (one-block (record { events = x.0; ending = Calls x.1 m }) (record { events = y.0; ending = Calls y.1 n }) (sym x.2 ∙ y.2)) in
-      let call : x.1 ≡ y.1 = cc in
-      let next : m ≡ n = cc in
-      let same : s ≡ r = x.3 ∙ ap (site c.depth ts f) call ∙ sym y.3 in
-      record { site = same; callee = one-function h g (sym x.4 ∙ ap (followed_into c.machine) same ∙ y.4); behind = next }
+      let ends = same-ending (graph_at ts gs f).blocks b x.0 y.0 x.1 y.1 m n x.2 y.2 in
+      let same : s ≡ r = x.3 ∙ ap (site c.depth ts f) ends.0 ∙ sym y.3 in
+      record { site = same; callee = one-function h g (sym x.4 ∙ ap (followed_into c.machine) same ∙ y.4); behind = ends.1 }
 
   -- the site at a block, by the call in which it ends
   pub site-by-call : (n b : ℕ) (f : Function) (o : Option Node) → function_at ts n ≡ Some f → call_at (graph_at ts gs f) b ≡ o

@@ -26,13 +26,10 @@ use Rattle.path_edges.specs.Edges.{call_in, call_at, no_site, site_at}
 use Rattle.programs.specs.Definitions.{trees_in}
 use Rattle.wait_rules.specs.CallEnds.{if_call, ending_at}
 use Rattle.wait_rules.specs.FollowedCalls.{IsCall, HasNoCall}
-use Rattle.wait_rules.proofs.Callers.{CallAt, nowhere, one-function, site-by-call}
+use Rattle.wait_rules.proofs.Callers.{CallAt, nowhere, one-function, same-ending, site-by-call}
 
 no-ending : (e : Ending) → None ≡ Some e → ⊥
 no-ending e h = cc
-
-some-ending : (x y : Ending) → Some x ≡ Some y → x ≡ y
-some-ending x y e = cc
 
 -- an end by whether it is a call
 pub ends-in-call : (o : Option Ending) (call : Node) (next : ℕ) → Some (Calls call next) ≡ (o >? if_call) → o ≡ Some (Calls call next)
@@ -109,9 +106,8 @@ module _ (t : Tables) (n b : ℕ) (f : Frame) (p : IsPlace t n f) where
     pub not-followed : option_map function_of (callee >? slice_get (functions_in ts)) ≡ None → HasNoCall c ts (graphs_in t) n b
     not-followed none caller called s behind there x =
         let y = ends-in caller called s behind there x in
-        let ends : Calls y.call behind ≡ Calls call next = some-ending (Calls y.call behind) (Calls call next) (sym (ap (option_map (λ (k : Block). k.ending)) y.ends) ∙ ap (option_map (λ (k : Block). k.ending)) has) in
-        let same : y.call ≡ call = cc in
-        nowhere called (sym none ∙ sym into ∙ ap (λ (z : Node). followed_into c.machine (site t.depth ts fn z)) (sym same) ∙ ap (followed_into c.machine) (sym y.site) ∙ y.followed)
+        let same = same-ending g.blocks b y.events es y.call call behind next y.ends has in
+        nowhere called (sym none ∙ sym into ∙ ap (λ (z : Node). followed_into c.machine (site t.depth ts fn z)) (sym same.0) ∙ ap (followed_into c.machine) (sym y.site) ∙ y.followed)
 
     -- it is, into this function
     pub is-call : (k : ℕ) (h : Function) → callee ≡ Some k → function_at ts k ≡ Some h → IsCall c ts (graphs_in t) n b k next (site t.depth ts fn call)

@@ -82,11 +82,8 @@ module _ (c : Checker) (s : Site) (callee : Function) (objects : List Object) (n
 none-saved : (x : Object × Option State) → None ≡ Some x → ⊥
 none-saved x e = cc
 
-one-saved : (o p : Object) (x y : Option State) → Some (o, x) ≡ Some (p, y) → (o ≡ p) × (x ≡ y)
-one-saved o p x y e = (ap (λ z. z.0) (only (o, x) (p, y) e), ap (λ z. z.1) (only (o, x) (p, y) e))
-  where
-    only : (a b : Object × Option State) → Some a ≡ Some b → a ≡ b
-    only a b e = cc
+one-saved : (x y : Object × Option State) → Some x ≡ Some y → x ≡ y
+one-saved x y e = cc
 
 module _ (c : Checker) (s : Site) (caller : Function) (objects : List Object) (w : Waiter) (tuples : List Tuple) (out : List Edge) where
   abbrev Goes : Tuple → Edge → Type 0
@@ -115,5 +112,5 @@ module _ (c : Checker) (s : Site) (caller : Function) (objects : List Object) (w
       by : (t : Tuple) (d : Edge) → Goes t d → (t.object ≡ None) × (woken_edge w (put_back t o x) ≡ d)
       by t d (WithHanded u nothing back is) = absurd (none-saved (o, x) (sym nothing ∙ saved))
       by t d (WithPutBack p z other empty is) =
-          let same = one-saved p o z x (sym other ∙ saved) in
-          (empty, ap (λ a. woken_edge w (put_back t a x)) (sym same.0) ∙ ap (λ a. woken_edge w (put_back t p a)) (sym same.1) ∙ is)
+          let same = one-saved (o, x) (p, z) (sym saved ∙ other) in
+          (empty, ap (λ (a : Object × Option State). woken_edge w (put_back t a.0 a.1)) same ∙ is)

@@ -64,7 +64,7 @@ module _ (c : Checker) (ts : List Text) (gs : List Graph) where
     Taken w = (u : Tuple) × StandsBehind c ts gs e u × Of u w
 
     same-call : (w : Waiter) (f h : Function) → function_at ts e.context.function ≡ Some f → CallAt c ts gs f e.block (site_at c.depth ts gs w.context.function w.block) h w.behind
-        → AreSame c ts gs (site_at c.depth ts gs w.context.function w.block) s h k.called w.behind next
+        → AreSame (site_at c.depth ts gs w.context.function w.block) s h k.called w.behind next
     same-call w f h named call =
         let r = site_at c.depth ts gs w.context.function w.block in
         let there = subst (λ (z : Function). CallAt c ts gs z e.block r h w.behind) (one-function f k.caller (sym named ∙ k.named)) call in

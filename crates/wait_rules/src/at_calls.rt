@@ -46,16 +46,11 @@ fn saved_object<'p>(site: &Site, depth: u8, tuple: &'p Tuple) -> Option<&'p Obje
     ensures there { IfSome result (λ o. IsSaved depth (site_of depth site.now) tuple.now o.now) }
     ensures missing { result ≡ None → (o : Form) → IsSaved depth (site_of depth site.now) tuple.now o → ⊥ }
 {
-    match &tuple.object {
-        Some(object) => {
-            if is_saved(site, object, depth) {
-                Some(object)
-            } else {
-                None
-            }
-        }
-        None => None,
+    let object = tuple.object.as_ref()?;
+    if !is_saved(site, object, depth) {
+        return None;
     }
+    Some(object)
 }
 
 // Who waits with an object that is saved over the call.
@@ -98,8 +93,8 @@ fn waits_of(
     ensures { IfOk result (λ list. (c : Checker) (s : Call) (callee : Function) → c.depth ≡ depth → IsSite depth call.now.site s → IsExactly list.items (IsWaiting c s callee call.now.objects.now call.now.callee call.now.behind edge.now tuple.now)) }
 {
     let mut waits = waits_for_entered(alloc, depth, call, edge, tuple)?;
-    if let Some(object) = saved_object(&call.site, depth, tuple) {
-        waits.push(wait_with(call, edge, tuple, object))?;
+    if let Some(saved) = saved_object(&call.site, depth, tuple) {
+        waits.push(wait_with(call, edge, tuple, saved))?;
     }
     Ok(waits)
 }

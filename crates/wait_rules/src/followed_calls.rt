@@ -12,22 +12,22 @@ use refine_restore::Site;
 
 /// A followed call at the end of a block.
 #[derive(Drop)]
-pub(crate) struct FollowedCall<'t, 'u, 'a> {
-    pub(crate) site: Site<'u, 'a>,
+pub(crate) struct FollowedCall<'s, 'a> {
+    pub(crate) site: Site<'s, 'a>,
     /// The callee's number.
     pub(crate) callee: u32,
     /// The objects that are followed in the callee.
-    pub(crate) objects: &'t [Object],
+    pub(crate) objects: &'s [Object],
     /// The block behind the call.
     pub(crate) behind: u32,
 }
 
 /// The followed call at the end of a block of a function, if it ends in one. Any numbers may be asked for.
-pub(crate) fn followed_call<'t, 'u, 'a>(
-    tables: &Tables<'t, 'u, 'a>,
+pub(crate) fn followed_call<'s, 'a>(
+    tables: &'s Tables<'_, '_, 'a>,
     function: u32,
     block: u32,
-) -> Option<FollowedCall<'t, 'u, 'a>>
+) -> Option<FollowedCall<'s, 'a>>
     ensures there { IfSome result (λ k. AreKnown tables.now → IsFound tables.now function block k) }
     ensures missing { result ≡ None → AreKnown tables.now → HasNoCall (checker_in tables.now) (texts_in tables.now) (graphs_in tables.now) function block }
 {

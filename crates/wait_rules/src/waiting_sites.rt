@@ -13,7 +13,7 @@ use programs::FnId;
 use refine_restore::Site;
 
 // A place of a function at which nothing is passed; none where there is no such function.
-fn passing_nothing<'u, 'a>(tables: &Tables<'_, 'u, 'a>, function: u32) -> Option<Site<'u, 'a>>
+fn passing_nothing<'s, 'a>(tables: &'s Tables<'_, '_, 'a>, function: u32) -> Option<Site<'s, 'a>>
     ensures there { IfSome result (λ s. s.formals.now ≡ []) }
     ensures missing { result ≡ None → function_at (texts_in tables.now) function ≡ None }
 {
@@ -30,12 +30,12 @@ fn passing_nothing<'u, 'a>(tables: &Tables<'_, 'u, 'a>, function: u32) -> Option
 
 /// The call in which a block of a function ends, which is this one. Where the block ends in none, nothing is passed; none where there is no such
 /// function.
-pub(crate) fn waiting_site<'u, 'a>(
-    tables: &Tables<'_, 'u, 'a>,
-    frame: &Frame<'_, 'u, 'a>,
+pub(crate) fn waiting_site<'s, 'a>(
+    tables: &'s Tables<'_, '_, 'a>,
+    frame: &Frame<'_, '_, 'a>,
     function: u32,
     block: u32,
-) -> Option<Site<'u, 'a>>
+) -> Option<Site<'s, 'a>>
     ensures there { IfSome result (λ s. AreKnown tables.now → IsFrame tables.now function frame.now → HandBackAlike tables.now.depth (site_of tables.now.depth s) (site_at tables.now.depth (texts_in tables.now) (graphs_in tables.now) function block)) }
     ensures missing { result ≡ None → function_at (texts_in tables.now) function ≡ None }
 {
