@@ -1,6 +1,7 @@
 -- The followed call at the end of a block of a function, by what its tables say.
 use Rattle.std.proofs.Common.{◌≡◌, ℕ, List, Option, None, Some, refl, sym, ap, subst, ◌∙◌}
-use Rattle.std.specs.Prelude.{slice_get}
+use Rattle.std.specs.Prelude.{slice_get, length, ◌≤◌, IfSome}
+use Rattle.std.proofs.lemmas.Option.{slice_get_past}
 use Rattle.std.specs.Option.{option_map}
 use Rattle.c_paths.specs.Building.{Graph}
 use Rattle.c_paths.specs.Events.{Event}
@@ -23,7 +24,7 @@ use Rattle.engine_tables.specs.Known.{checker_in, texts_in, graphs_in}
 use Rattle.engine_tables.proofs.Places.{IsPlace, named, ending-there}
 use Rattle.flow_graph.specs.Seen.{graph_in}
 use Rattle.path_edges.specs.Edges.{call_in, call_at, no_site, site_at}
-use Rattle.programs.specs.Definitions.{trees_in}
+use Rattle.programs.specs.Definitions.{definitions, trees_in}
 use Rattle.wait_rules.specs.CallEnds.{if_call, ending_at}
 use Rattle.wait_rules.specs.FollowedCalls.{IsCall, HasNoCall}
 use Rattle.wait_rules.proofs.Callers.{CallAt, nowhere, one-function, same-ending, site-by-call}
@@ -38,9 +39,12 @@ ends-in-call (Some (Calls m k)) call next e = sym e
 ends-in-call (Some (ToAny bs)) call next e = cc
 ends-in-call (Some Stops) call next e = cc
 
+pub block-there : (bs : List Block) (b : ℕ) (call : Node) (next : ℕ) → Some (Calls call next) ≡ (ending_at bs b >? if_call) → (es : List Event) × Has bs b es (Calls call next)
+block-there bs b call next e = ending-there bs b (Calls call next) (ends-in-call (ending_at bs b) call next e)
+
 -- the call in which a block ends
 pub call-there : (g : Graph) (b : ℕ) (call : Node) (next : ℕ) → Some (Calls call next) ≡ (ending_at g.blocks b >? if_call) → call_at g b ≡ Some call
-call-there g b call next e = let x = ending-there g.blocks b (Calls call next) (ends-in-call (ending_at g.blocks b) call next e) in ap (λ o. o >? λ s. call_in s.ending) x.1
+call-there g b call next e = ap (λ o. o >? λ s. call_in s.ending) (block-there g.blocks b call next e).1
 
 pub call-missing : (g : Graph) (b : ℕ) → None ≡ (ending_at g.blocks b >? if_call) → call_at g b ≡ None
 call-missing g b e = by (slice_get g.blocks b) e
@@ -53,6 +57,16 @@ call-missing g b e = by (slice_get g.blocks b) e
     by : (o : Option Block) → None ≡ (option_map (λ s. s.ending) o >? if_call) → (o >? λ s. call_in s.ending) ≡ None
     by None e = refl
     by (Some s) e = of-ending s.ending e
+
+-- what is said of the one that is found
+pub if-found : {A : Type 0} (P Q : A → Type 0) (o : Option A) → ((a : A) → P a → Q a) → IfSome o P → IfSome o Q
+if-found P Q (Some a) f h = f a h
+if-found P Q None f h = tt
+
+-- a function behind the last one isn't there
+pub past-functions : (t : Tables) (n : ℕ) → length (definitions (trees_in t.program.now.units.items)) ≤ n → function_at (texts_in t) n ≡ None
+past-functions t n h =
+    ap (option_map function_of) (ap (λ (fs : List Defined). slice_get fs n) (functions-are t.program.now.units.items) ∙ slice_get_past (definitions (trees_in t.program.now.units.items)) n h)
 
 -- no call stands in a function that isn't there
 pub no-function : (c : Checker) (ts : List Text) (gs : List Graph) (n b : ℕ) → function_at ts n ≡ None → HasNoCall c ts gs n b
