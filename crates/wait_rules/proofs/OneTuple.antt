@@ -4,7 +4,7 @@ use Rattle.std.proofs.lemmas.List.Elements.{Contains-append_left, Contains-push,
 use Rattle.c_objects.specs.Objects.{Object, is_static}
 use Rattle.c_typing.specs.Options.{or_else}
 use Rattle.std.specs.Prelude.{cond}
-use Rattle.checker_model.specs.Calls.{out, reached}
+use Rattle.checker_model.specs.Calls.{reached}
 use Rattle.checker_model.specs.Choices.{State}
 use Rattle.checker_model.specs.Happenings.{Function, Site}
 use Rattle.checker_model.specs.Reports.{Checker}
