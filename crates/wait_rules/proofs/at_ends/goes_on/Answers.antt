@@ -1,8 +1,9 @@
 use Rattle.std.proofs.Common.{refl}
 use Rattle.checker_programs.specs.Texts.{function_of}
 use Rattle.engine_tables.specs.Known.{checker_in, texts_in, graphs_in}
-use Rattle.engine_tables.proofs.Places.{if-ok, named, place}
+use Rattle.engine_tables.proofs.Places.{named, place}
 use Rattle.path_edges.specs.Edges.{site_at}
+use Rattle.tuple_flows.proofs.Lists.{if-ok}
 use Rattle.wait_rules.proofs.OneTuple.{only-put-back}
 use Rattle.wait_rules.proofs.WhoIsWoken.{exactly-woken}
 use Rattle.wait_rules.proofs.at_ends.goes_on.Goals as goal
