@@ -103,10 +103,10 @@ fn with_put_back(
 }
 
 // Where a waiter in this function goes on that has nothing saved.
-fn goes_on_handed(
+fn goes_on_handed<'a>(
     alloc: Global,
-    tables: &Tables,
-    frame: &Frame,
+    tables: &Tables<'_, '_, 'a>,
+    frame: &Frame<'_, '_, 'a>,
     waiter: &Waiter,
     tuples: &[Tuple],
 ) -> Result<Vec<Edge>, AllocError>
@@ -119,10 +119,10 @@ fn goes_on_handed(
 }
 
 // Where a waiter in this function goes on.
-fn goes_on(
+fn goes_on<'a>(
     alloc: Global,
-    tables: &Tables,
-    frame: &Frame,
+    tables: &Tables<'_, '_, 'a>,
+    frame: &Frame<'_, '_, 'a>,
     waiter: &Waiter,
     tuples: &[Tuple],
 ) -> Result<Vec<Edge>, AllocError>
