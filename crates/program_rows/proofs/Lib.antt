@@ -1,0 +1,7 @@
+pub mod Lists
+pub mod FiledCalls
+pub mod Happening
+pub mod FollowedCalls
+pub mod MadeRows
+pub mod TabledCalls
+pub mod RightRows
