@@ -64,13 +64,13 @@ none-filed count lists e n l = (λ j h. absurd (nothing j (subst (λ (ps : List 
 
 module _ {A : Type 0} (calls : List FollowedCall) (count : ℕ) where
   -- so at the place i of a list of calls that is gone through
-  pub filed-next : (i : ℕ) (d : FollowedCall) (old new : List (Vec ℕ A)) → i < length calls → length old ≡ count
-      → ((n : ℕ) → n < length old → at new n ≡ (at old n ++ one_if (get_or calls i d).caller n i) ++ one_if (get_or calls i d).callee n i) → IsFiled (take i calls) count old → IsFiled (take (i + 1) calls) count new
-  filed-next i d old new within long put all n l =
-      let k = get_or calls i d in
+  pub filed-next : (i : ℕ) (k : FollowedCall) (old new : List (Vec ℕ A)) → i < length calls → k ≡ get_or calls i k → length old ≡ count
+      → ((n : ℕ) → n < length old → at new n ≡ (at old n ++ one_if k.caller n i) ++ one_if k.callee n i) → IsFiled (take i calls) count old → IsFiled (take (i + 1) calls) count new
+  filed-next i k old new within is long put all n l =
       let long-take : length (take i calls) ≡ i = length-take-le i calls (omega (arith, within)) in
+      let more : take (i + 1) calls ≡ take i calls ++ (k ∷ []) = take_more calls i k within ∙ ap (λ (x : FollowedCall). take i calls ++ (x ∷ [])) (sym is) in
       let one = filed-push (take i calls) k n (at old n) (all n l) in
-      subst (λ (xs : List FollowedCall). IsExactly (at new n) (MeetsAt xs n)) (sym (take_more calls i d within))
+      subst (λ (xs : List FollowedCall). IsExactly (at new n) (MeetsAt xs n)) (sym more)
       (subst (λ (ps : List ℕ). IsExactly ps (MeetsAt (take i calls ++ (k ∷ [])) n)) (sym (put n (subst (λ c. n < c) (sym long) l)))
       (subst (λ (p : ℕ). IsExactly ((at old n ++ one_if k.caller n p) ++ one_if k.callee n p) (MeetsAt (take i calls ++ (k ∷ [])) n)) long-take one))
 

@@ -1,5 +1,6 @@
 pub mod Lists
 pub mod FiledCalls
+pub mod Formals
 pub mod Happening
 pub mod FollowedCalls
 pub mod MadeRows

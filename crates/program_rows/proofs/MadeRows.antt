@@ -1,41 +1,39 @@
 -- Rows are made one after the other.
-use Rattle.std.proofs.Common.{◌≡◌, inl, inr, ℕ, ◌+◌, ◌<◌, List, [], ◌∷◌, ◌++◌, length, take, get_or, Contains, Option, None, Some, slice_get, Bor, sym, ap, ◌∙◌, subst}
+use Rattle.std.proofs.Common.{◌≡◌, inl, inr, ℕ, List, [], ◌∷◌, ◌++◌, length, Contains, Option, None, Some, slice_get, Bor, refl, sym, ap, ◌∙◌, subst}
+use Rattle.std.specs.Prelude.{flat_map}
+use Rattle.std.specs.Option.{option_to_list}
 use Rattle.std.proofs.lemmas.Option.{same_Some}
+use Rattle.c_paths.specs.Membership.{Among}
 use Rattle.function_tables.specs.declared.table.FunctionTable.{FunctionTable}
-use Rattle.least_set.specs.Logs.{IsExactly, SomeGives}
-use Rattle.least_set.proofs.Enumerating.{exactly_next, exactly_past}
+use Rattle.least_set.specs.Logs.{IsExactly}
 use Rattle.least_set.proofs.Growing.{place_of, at_place}
 use Rattle.program_rows.specs.Filing.{Meets, MeetsAt}
 use Rattle.program_rows.specs.Made.{IsOf, IsMade, AreMade}
-use Rattle.program_rows.proofs.Lists.{placed}
+use Rattle.program_rows.proofs.Lists.{contains-joined, joined-contains, placed}
 use Rattle.relevant_objects.specs.declared.rows.FollowedCall.{FollowedCall}
 use Rattle.relevant_objects.specs.declared.rows.FunctionRow.{FunctionRow}
 use Rattle.typed_unit.specs.declared.typed_unit.TypedUnit.{TypedUnit}
 
-module _ (calls : List FollowedCall) where
-  abbrev pub StandsAt : ℕ → FollowedCall → Type 0
-  StandsAt i k = slice_get calls i ≡ Some k
+-- those at the positions of a function's calls are its calls
+pub calls-at : (calls : List FollowedCall) (n : ℕ) (ps : List ℕ) (list : List FollowedCall) → IsExactly ps (MeetsAt calls n) → list ≡ flat_map (λ i. option_to_list (slice_get calls i)) ps → IsExactly list (IsOf calls n)
+calls-at calls n ps list filed is = (
+  λ k h.
+      let s = joined-contains at ps k (subst (λ (l : List FollowedCall). Contains l k) is h) in
+      let stands = one (slice_get calls s.0) k s.2 in
+      let m = filed.0 s.0 s.1 in
+      (at_place calls s.0 k stands, subst (Meets n) (same_Some m.0 k (sym m.1 ∙ stands)) m.2),
+  λ k h.
+      let p = place_of calls k h.0 in
+      subst (λ (l : List FollowedCall). Contains l k) (sym is) (contains-joined at ps p.0 k (filed.1 p.0 (k, p.2, h.1)) (subst (λ o. Among k (option_to_list o)) (sym p.2) (inl refl))),
+)
+  where
+    at : ℕ → List FollowedCall
+    at i = option_to_list (slice_get calls i)
 
-  -- the call at one more position
-  pub listed-next : (ps : List ℕ) (i d : ℕ) (k : FollowedCall) (old new : List FollowedCall) → i < length ps → Some k ≡ slice_get calls (get_or ps i d) → new ≡ old ++ (k ∷ []) → IsExactly old (SomeGives StandsAt (take i ps)) → IsExactly new (SomeGives StandsAt (take (i + 1) ps))
-  listed-next ps i d k old new within is e all =
-      subst (λ (l : List FollowedCall). IsExactly l (SomeGives StandsAt (take (i + 1) ps))) (sym e) (exactly_next StandsAt ps i d old k within all (sym is) (λ c g. same_Some k c (is ∙ g)))
-
-  -- there is none at it
-  pub listed-past : (ps : List ℕ) (i d : ℕ) (old : List FollowedCall) → i < length ps → None ≡ slice_get calls (get_or ps i d) → IsExactly old (SomeGives StandsAt (take i ps)) → IsExactly old (SomeGives StandsAt (take (i + 1) ps))
-  listed-past ps i d old within is all = exactly_past StandsAt ps i d old within all (λ c g. let z : None ≡ Some c = is ∙ g in cc)
-
-  -- those at the positions of a function's calls are its calls
-  pub calls-at : (n : ℕ) (ps : List ℕ) (list : List FollowedCall) → IsExactly ps (MeetsAt calls n) → IsExactly list (SomeGives StandsAt ps) → IsExactly list (IsOf calls n)
-  calls-at n ps list filed all = (
-    λ k h.
-        let s = all.0 k h in
-        let m = filed.0 s.0 s.1 in
-        (at_place calls s.0 k s.2, subst (Meets n) (same_Some m.0 k (sym m.1 ∙ s.2)) m.2),
-    λ k h.
-        let p = place_of calls k h.0 in
-        all.1 k (p.0, filed.1 p.0 (k, p.2, h.1), p.2),
-  )
+    one : (o : Option FollowedCall) (k : FollowedCall) → Among k (option_to_list o) → o ≡ Some k
+    one None k h = absurd h
+    one (Some q) k (inl e) = ap Some (sym e)
+    one (Some q) k (inr h) = absurd h
 
 module _ (units : List (Bor TypedUnit)) (tables : List FunctionTable) (calls : List FollowedCall) where
   pub no-rows : AreMade units tables calls []

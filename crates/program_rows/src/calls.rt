@@ -1,13 +1,13 @@
 //! All followed calls of a program.
 
-ghost use Rattle.std.specs.Prelude.{◌≡◌, ◌<◌, ◌++◌, All, length, map, Some, IfOk, OnOk};
-ghost use Rattle.std.specs.Option.{option_to_list};
+ghost use Rattle.std.specs.Prelude.{◌≡◌, ◌<◌, All, length, map, Some, IfOk, OnOk};
 ghost use Rattle.least_set.specs.Logs.{Adds, IsExactly, SomeGives};
 ghost use Rattle.program_rows.specs.Ends.{followed_at, followed_in, HasFollowed, SomeHasFollowed, IsSite, IsUnitOf};
 ghost use Rattle.programs.specs.Definitions.{definitions, trees_in};
 
 use crate::ends::followed_at;
 use crate::functions::unit_of;
+use crate::listing::add_call;
 use crate::tables::table_at;
 use function_tables::FunctionTable;
 use programs::Program;
@@ -15,22 +15,6 @@ use reached_blocks::reached;
 use relevant_objects::FollowedCall;
 use std::alloc::{AllocError, Global};
 use typed_unit::TypedUnit;
-
-// Puts a call last, if there is one.
-fn add_call<'u, 'a>(
-    calls: &mut Vec<FollowedCall<'u, 'a>>,
-    call: Option<FollowedCall<'u, 'a>>,
-) -> Result<(), AllocError>
-    ensures { OnOk result (calls.new.items ≡ calls.old.items ++ option_to_list call) }
-{
-    match call {
-        None => Ok(()),
-        Some(call) => {
-            calls.push(call)?;
-            Ok(())
-        }
-    }
-}
 
 // Puts last the followed calls at the ends of these blocks of the function with a number, which has this table and stands in this unit.
 fn add_calls_in<'u, 'a>(

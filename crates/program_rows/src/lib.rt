@@ -7,6 +7,7 @@ mod ends;
 mod events;
 mod filing;
 mod functions;
+mod listing;
 mod rows;
 mod tables;
 

@@ -1,11 +1,10 @@
 //! Rows by the numbers of their functions.
 
-ghost use Rattle.std.specs.Prelude.{◌≡◌, ◌<◌, length, map, Some, slice_get, IfOk};
+ghost use Rattle.std.specs.Prelude.{◌≡◌, ◌<◌, length, map, IfOk};
 ghost use Rattle.checker_model.specs.Reports.{Checker};
 ghost use Rattle.checker_programs.specs.Units.{texts_of};
 ghost use Rattle.flow_graph.specs.Seen.{graph_in};
 ghost use Rattle.function_tables.specs.Tables.{AreTables};
-ghost use Rattle.least_set.specs.Logs.{IsExactly, SomeGives};
 ghost use Rattle.program_rows.specs.Filing.{IsFiled};
 ghost use Rattle.program_rows.specs.Made.{IsMade, AreMade};
 ghost use Rattle.programs.specs.Definitions.{definitions, trees_in};
@@ -15,34 +14,11 @@ use crate::calls::followed_calls;
 use crate::events::events_at;
 use crate::filing::{filed, positions_at};
 use crate::functions::unit_of;
+use crate::listing::calls_at;
 use function_tables::FunctionTable;
 use programs::Program;
 use relevant_objects::{FollowedCall, FunctionRow};
 use std::alloc::{AllocError, Global};
-
-// The call at a position, if there is one.
-fn call_at<'u, 'a>(calls: &[FollowedCall<'u, 'a>], position: usize) -> Option<FollowedCall<'u, 'a>>
-    ensures { result ≡ slice_get calls.now position }
-{
-    calls.get(position).copied()
-}
-
-// The calls at these positions.
-fn calls_at<'u, 'a>(
-    alloc: Global,
-    calls: &[FollowedCall<'u, 'a>],
-    positions: &[usize],
-) -> Result<Vec<FollowedCall<'u, 'a>>, AllocError>
-    ensures { IfOk result (λ list. IsExactly list.items (SomeGives (λ i k. slice_get calls.now i ≡ Some k) positions.now)) }
-{
-    let mut list = Vec::new(alloc);
-    for position in positions {
-        if let Some(call) = call_at(calls, *position) {
-            list.push(call)?;
-        }
-    }
-    Ok(list)
-}
 
 // The row of the function with a number, out of all followed calls and of the positions of each function's.
 fn row_of<'u, 'a>(

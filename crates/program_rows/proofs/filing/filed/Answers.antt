@@ -12,10 +12,11 @@ loop-position-init c = record {
 pub loop-position-preserved : goal.loop-position-preserved
 loop-position-preserved c =
     let at = c.loop-position in
+    let item = c.index-calls-position in
     let within : at.position < length c.args.calls.now = grind (arith, common_steps) in
     record {
       count = c.in_ok-file_call.ensures.count ∙ at.invariant.count;
-      filed = filed-next c.args.calls.now c.args.count at.position _ at.lists.items c.file_call.new.lists.items within at.invariant.count c.in_ok-file_call.ensures.filed at.invariant.filed;
+      filed = filed-next c.args.calls.now c.args.count at.position item.result at.lists.items c.file_call.new.lists.items within item.is at.invariant.count c.in_ok-file_call.ensures.filed at.invariant.filed;
     }
 
 pub returns : goal.returns
