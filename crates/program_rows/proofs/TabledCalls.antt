@@ -1,5 +1,5 @@
 -- The followed calls by the tables of functions are those of their program.
-use Rattle.std.proofs.Common.{◌≡◌, ℕ, ◌<◌, List, map, length, Contains, Option, None, Some, slice_get, Bor, cond, Bool, true, false, refl, sym, ap, ◌∙◌, subst}
+use Rattle.std.proofs.Common.{◌≡◌, ℕ, ◌<◌, List, [], map, length, Contains, Option, None, Some, slice_get, Bor, cond, Bool, true, false, refl, sym, ap, ◌∙◌, subst}
 use Rattle.std.specs.Option.{option_map}
 use Rattle.std.proofs.lemmas.Option.{slice_get_within, same_Some}
 use Rattle.c_paths.specs.Building.{Graph}

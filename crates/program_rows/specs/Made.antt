@@ -24,10 +24,10 @@ abbrev pub IsOf : List FollowedCall → ℕ → FollowedCall → Type 0
 IsOf calls n k = Contains calls k × Meets n k
 
 -- the row of the function with this number
-pub record IsMade (units : List (Bor TypedUnit)) (tables : List FunctionTable) (calls : List FollowedCall) (n : ℕ) (row : FunctionRow) : Type 0 where
+pub record IsMade (units : List (Bor TypedUnit)) (tables : List FunctionTable) (followed : List FollowedCall) (n : ℕ) (row : FunctionRow) : Type 0 where
   pub unit : IsUnitOf units n row.unit
   pub events : IsExactly (map event_of row.events.items) (HappensIn tables n)
-  pub calls : IsExactly row.calls.items (IsOf calls n)
+  pub calls : IsExactly row.calls.items (IsOf followed n)
 
 -- the rows of the first functions, by their numbers
 abbrev pub AreMade : List (Bor TypedUnit) → List FunctionTable → List FollowedCall → List FunctionRow → Type 0

@@ -25,7 +25,7 @@ fn add_calls_in<'u, 'a>(
     caller: u32,
     blocks: &[u32],
 ) -> Result<(), AllocError>
-    requires unit { IsUnitOf program.now.units.items caller unit.entry }
+    requires unit { IsUnitOf program.now.units.items caller unit }
     requires sites { All (IsSite program.now.units.items) calls.old.items }
     ensures calls { OnOk result (Adds (SomeGives (λ b f. followed_at table.now caller b ≡ Some f) blocks.now) (map followed_in calls.old.items) (map followed_in calls.new.items)) }
     ensures sites { OnOk result (All (IsSite program.now.units.items) calls.new.items) }

@@ -59,7 +59,7 @@ pub(crate) fn followed_at<'u, 'a>(
     caller: u32,
     block: u32,
 ) -> Option<FollowedCall<'u, 'a>>
-    requires { IsUnitOf program.now.units.items caller unit.entry }
+    requires { IsUnitOf program.now.units.items caller unit }
     ensures call { option_map followed_in result ≡ followed_at table.now caller block }
     ensures site { IfSome result (IsSite program.now.units.items) }
 {

@@ -1,4 +1,4 @@
-use Rattle.std.proofs.Common.{◌<◌, ◌≤◌, All, length, map, sym, subst, arith}
+use Rattle.std.proofs.Common.{◌≡◌, ◌<◌, ◌≤◌, All, length, map, sym, subst, arith}
 use Rattle.std.proofs.lemmas.Grind.{common_steps}
 use Rattle.std.proofs.lemmas.List.Elements.{All-nil}
 use Rattle.least_set.specs.Logs.{IsExactly}
@@ -23,3 +23,9 @@ loop-caller-preserved c =
       sites = c.in_ok-add_calls_of.ensures.sites;
       within = grind (arith, further);
     }
+
+pub returns-clause-calls : goal.returns-clause-calls
+returns-clause-calls c =
+    let at = c.loop-caller in
+    let all : at.caller ≡ length (definitions (trees_in c.args.program.now.units.items)) = grind (arith, common_steps) in
+    subst (λ n. IsExactly (map followed_in at.calls.items) (SomeHasFollowed c.args.tables.now n)) all at.invariant.calls
