@@ -1,5 +1,5 @@
 -- Followed calls are listed one after the other.
-use Rattle.std.proofs.Common.{◌≡◌, ℕ, ◌+◌, ◌<◌, List, [], ◌∷◌, ◌++◌, map, length, take, get_or, Contains, All, Option, None, Some, slice_get, Bor, refl, sym, ap, ◌∙◌, subst, append-nil, arith, inl, inr}
+use Rattle.std.proofs.Common.{◌≡◌, ℕ, ◌+◌, ◌<◌, List, [], ◌∷◌, ◌++◌, map, length, take, get_or, Contains, All, Option, None, Some, slice_get, Bor, sym, ap, ◌∙◌, subst, append-nil, arith, inl, inr}
 use Rattle.std.specs.Prelude.{IfSome}
 use Rattle.std.specs.Option.{option_map, option_to_list}
 use Rattle.std.proofs.lemmas.List.{map-append}
@@ -15,7 +15,7 @@ use Rattle.relevant_objects.specs.declared.rows.FollowedCall.{FollowedCall}
 use Rattle.typed_unit.specs.declared.typed_unit.TypedUnit.{TypedUnit}
 
 -- one was put last, if there is one
-pub one-added : (k : Option FollowedCall) (o : Option Followed) (old new : List FollowedCall) → option_map followed_in k ≡ o → new ≡ old ++ option_to_list k → Adds (λ f. o ≡ Some f) (map followed_in old) (map followed_in new)
+one-added : (k : Option FollowedCall) (o : Option Followed) (old new : List FollowedCall) → option_map followed_in k ≡ o → new ≡ old ++ option_to_list k → Adds (λ f. o ≡ Some f) (map followed_in old) (map followed_in new)
 one-added None o old new is e = subst (λ (l : List FollowedCall). Adds (λ f. o ≡ Some f) (map followed_in old) (map followed_in l)) (sym (e ∙ append-nil old)) (adds_none (map followed_in old) (λ f s. let z : None ≡ Some f = is ∙ s in cc))
 one-added (Some k) o old new is e =
     let whole = ap (map followed_in) e ∙ map-append followed_in old (k ∷ []) in
@@ -49,10 +49,6 @@ module _ (t : FunctionTable) (caller : ℕ) where
       (h.block, all.1 h.block (subst (λ (x : FunctionTable). Reaches (graph_in x.graph) h.block) same h.reached), subst (λ (x : FunctionTable). followed_at x caller h.block ≡ Some f) same h.ends))
 
 module _ (tables : List FunctionTable) where
-  -- a function that isn't there has none
-  pub no-calls : (caller : ℕ) (old : List Followed) → slice_get tables caller ≡ None → Adds (HasFollowed tables caller) old old
-  no-calls caller old none = adds_none old (λ f h. let z : None ≡ Some h.table = sym none ∙ h.is in cc)
-
   -- at first there are none
   pub none-followed : IsExactly [] (SomeHasFollowed tables 0)
   none-followed = (λ f h. absurd (nothing f h), λ f h. let below = h.1 in absurd (omega (arith, below)))

@@ -1,12 +1,10 @@
 -- Rows that are made of right tables are the rows of the program.
-use Rattle.std.proofs.Common.{◌≡◌, inl, inr, ℕ, ◌<◌, List, map, length, Contains, All, Option, None, Some, slice_get, Bor, refl, sym, ap, ◌∙◌, subst}
+use Rattle.std.proofs.Common.{◌≡◌, inl, inr, ℕ, ◌<◌, List, map, length, Contains, All, Some, slice_get, Bor, refl, sym, ap, ◌∙◌, subst}
 use Rattle.std.specs.Option.{option_map}
-use Rattle.std.proofs.lemmas.List.{length-map}
 use Rattle.std.proofs.lemmas.List.Elements.{All-contains}
 use Rattle.std.proofs.lemmas.Option.{slice_get-map, slice_get_within, same_Some}
 use Rattle.c_paths.specs.Building.{Graph}
 use Rattle.c_paths.specs.Events.{Event}
-use Rattle.c_paths.specs.Graphs.{Block}
 use Rattle.c_tree.specs.Node.{Node}
 use Rattle.c_tree.specs.Views.{node_of}
 use Rattle.c_typing.specs.Functions.{Defined}
@@ -18,7 +16,6 @@ use Rattle.checker_model.specs.Reports.{Checker}
 use Rattle.checker_programs.specs.Texts.{Text, functions_in, function_of, table_of, objects_in, site}
 use Rattle.checker_programs.specs.Units.{texts_of}
 use Rattle.flow_graph.specs.Seen.{graph_in}
-use Rattle.flow_graph.specs.Values.{event_of}
 use Rattle.function_tables.specs.declared.table.FunctionTable.{FunctionTable}
 use Rattle.function_tables.specs.Tables.{AreTables}
 use Rattle.least_set.specs.Logs.{IsExactly}
@@ -31,7 +28,7 @@ use Rattle.programs.specs.Definitions.{definitions, trees_in}
 use Rattle.reached_blocks.specs.Reached.{Happens, Called}
 use Rattle.relevant_objects.specs.declared.rows.FollowedCall.{FollowedCall}
 use Rattle.relevant_objects.specs.declared.rows.FunctionRow.{FunctionRow}
-use Rattle.relevant_rows.specs.Rows.{Passes, HasCall, IsCallOfProgram, IsRow, AreRows}
+use Rattle.relevant_rows.specs.Rows.{Passes, IsCallOfProgram, IsRow, AreRows}
 use Rattle.relevant_steps.specs.Steps.{IsNumbered, IsCall}
 use Rattle.typed_unit.specs.declared.typed_unit.TypedUnit.{TypedUnit}
 
@@ -47,6 +44,9 @@ module _ (c : Checker) (units : List (Bor TypedUnit)) (tables : List FunctionTab
 
   at-text : (n : ℕ) (d : Defined) → slice_get fs n ≡ Some d → slice_get (functions_in ts) n ≡ Some d
   at-text n d e = ap (λ (l : List Defined). slice_get l n) (functions-are units) ∙ e
+
+  function-named : (n : ℕ) (d : Defined) → slice_get fs n ≡ Some d → function_at ts n ≡ Some (function_of d)
+  function-named n d e = ap (option_map function_of) (at-text n d e)
 
   -- ---- functions with their tables
 
@@ -66,7 +66,7 @@ module _ (c : Checker) (units : List (Bor TypedUnit)) (tables : List FunctionTab
 
   numbered : (n : ℕ) (d : Defined) (t : FunctionTable) → slice_get fs n ≡ Some d → slice_get tables n ≡ Some t → IsNumbered c ts gs n (function_of d) (graph_in t.graph)
   numbered n d t at is = record {
-    named = ap (option_map function_of) (at-text n d at);
+    named = function-named n d at;
     graph = slice_get-map (λ (x : FunctionTable). graph_in x.graph) tables n ∙ ap (option_map (λ (x : FunctionTable). graph_in x.graph)) is;
   }
 
@@ -122,7 +122,7 @@ module _ (c : Checker) (units : List (Bor TypedUnit)) (tables : List FunctionTab
             same = refl;
             follows = by-file k.caller d.0 call d.1 ∙ follows;
             callee = function_of callee.0;
-            named = ap (option_map function_of) (at-text k.callee callee.0 callee.1);
+            named = function-named k.callee callee.0 callee.1;
           };
           passes = call-passes c units k d.0 callee.0 (All-contains (IsSite units) calls k S among) d.1 callee.1 follows;
         }

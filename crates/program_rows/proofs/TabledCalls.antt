@@ -1,7 +1,7 @@
 -- The followed calls by the tables of functions are those of their program.
-use Rattle.std.proofs.Common.{◌≡◌, ℕ, ◌<◌, List, [], map, length, Contains, Option, None, Some, slice_get, Bor, cond, Bool, true, false, refl, sym, ap, ◌∙◌, subst}
+use Rattle.std.proofs.Common.{◌≡◌, ℕ, ◌<◌, List, [], length, Option, None, Some, slice_get, Bor, cond, Bool, true, false, refl, sym, ap, ◌∙◌}
 use Rattle.std.specs.Option.{option_map}
-use Rattle.std.proofs.lemmas.Option.{slice_get_within, same_Some}
+use Rattle.std.proofs.lemmas.Option.{same_Some}
 use Rattle.c_paths.specs.Building.{Graph}
 use Rattle.c_paths.specs.Fragments.{Has}
 use Rattle.c_paths.specs.Graphs.{Block, Ending, ToAny, Calls, Stops}
@@ -22,7 +22,7 @@ use Rattle.function_tables.specs.declared.table.FunctionTable.{FunctionTable}
 use Rattle.function_tables.specs.Ends.{call_in}
 use Rattle.function_tables.specs.Tables.{IsBlockTable, AreBlockTables}
 use Rattle.metal_machines.specs.Machine.{Machine}
-use Rattle.program_rows.specs.Ends.{call_at, callee_at, Followed, followed_in, followed_at, IsSite}
+use Rattle.program_rows.specs.Ends.{call_at, callee_at, Followed, followed_at, IsSite}
 use Rattle.program_rows.proofs.Lists.{zip-at, zip-there}
 use Rattle.programs.specs.Bodies.{body_of}
 use Rattle.programs.specs.Calls.{called_name, body_called}
