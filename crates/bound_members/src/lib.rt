@@ -1,0 +1,8 @@
+//! The objects that a checker's rules bind in the functions of a program.
+#![tactic(auto)]
+
+mod blocks;
+mod events;
+mod functions;
+
+pub use functions::bound;
