@@ -1,7 +1,7 @@
 -- Objects that are put into lists one after the other.
 use Rattle.std.proofs.Common.{arith, ◌≡◌, ◌⊎◌, inl, inr, ℕ, zero, suc, ◌+◌, ◌<◌, ◌≤◌, List, [], ◌∷◌, ◌++◌, Contains, map, replicate, length, take, get_or, Vec, Some, refl, sym, ap, ◌∙◌, subst}
 use Rattle.std.specs.Prelude.{slice_get, slice_set}
-use Rattle.std.proofs.lemmas.List.{take_more}
+use Rattle.std.proofs.lemmas.List.{take_more, take_all, length-map, map-append}
 use Rattle.std.proofs.lemmas.List.Elements.{Contains-append_left, Contains-push, Contains-push_cases}
 use Rattle.std.proofs.lemmas.Option.{same_Some}
 use Rattle.c_objects.specs.Objects.{Object}
@@ -85,6 +85,10 @@ filed-next ms i x old new l e k h =
     let more : take (i + 1) ms ≡ take i ms ++ (x ∷ []) = take_more ms i x l ∙ ap (λ (z : Member). take i ms ++ (z ∷ [])) (sym e) in
     subst (λ ys. AreFiled ys new) (sym more) (subst (AreFiled (take i ms ++ (x ∷ []))) (sym k) (filed-more (take i ms) x.0 x.1 old h))
 
+-- all members
+pub filed-all : (ms : List Member) (i : ℕ) (lists : List (List Object)) → length ms ≤ i → AreFiled (take i ms) lists → AreFiled ms lists
+filed-all ms i lists l h = subst (λ ys. AreFiled ys lists) (take_all i ms l) h
+
 -- ---- the vectors in which the lists stand
 
 -- one of them was written over by what it was with one object more
@@ -99,3 +103,21 @@ pub past-all : {Z : Type 0} (xs : List (Vec Object Z)) (n : ℕ) (o : Object) �
 past-all [] n o l = refl
 past-all (x ∷ xs) zero o l = absurd (omega (arith, l))
 past-all (x ∷ xs) (suc n) o l = ap (λ (ys : List (List Object)). x.items ∷ ys) (past-all xs n o (omega (arith, l)))
+
+-- there are as many lists as before
+pub items-count : {Z : Type 0} (old new : List (Vec Object Z)) (n : ℕ) (o : Object) → map (λ (os : Vec Object Z). os.items) new ≡ with_member n o (map (λ (os : Vec Object Z). os.items) old) → length new ≡ length old
+items-count old new n o e =
+    sym (length-map new (λ (os : Vec Object _). os.items)) ∙ ap length e ∙ member-count n o (map (λ (os : Vec Object _). os.items) old) ∙ length-map old (λ (os : Vec Object _). os.items)
+
+-- one list without objects more
+pub lists-next : {Z : Type 0} (old new : List (Vec Object Z)) (v : Vec Object Z) (n : ℕ) → new ≡ old ++ (v ∷ []) → v.items ≡ [] → map (λ (os : Vec Object Z). os.items) old ≡ replicate n []
+    → map (λ (os : Vec Object Z). os.items) new ≡ replicate (n + 1) []
+lists-next old new v n e empty are =
+    ap (map (λ (os : Vec Object _). os.items)) e
+    ∙ map-append (λ (os : Vec Object _). os.items) old (v ∷ [])
+    ∙ ap (λ (l : List Object). map (λ (os : Vec Object _). os.items) old ++ (l ∷ [])) empty
+    ∙ ap (λ (ls : List (List Object)). ls ++ ([] ∷ [])) are
+    ∙ one-more-empty n
+
+pub lists-all : {Z : Type 0} (lists : List (Vec Object Z)) (n count : ℕ) → n ≤ count → count ≤ n → map (λ (os : Vec Object Z). os.items) lists ≡ replicate n [] → map (λ (os : Vec Object Z). os.items) lists ≡ replicate count []
+lists-all lists n count l m are = are ∙ ap (λ k. replicate k []) (let e : n ≡ count = omega (arith, l, m) in e)
