@@ -38,9 +38,8 @@ use Rattle.relevant_steps.specs.Steps.{Member, IsBound, Base}
 -- ---- one after the other
 
 -- one more of the list gave what it gives
-pub gave-next : {T : Type 0} (G : T → Member → Type 0) (xs : List T) (i : ℕ) (x : T) (old mid new : List Member) → slice_get xs i ≡ Some x → Adds (SomeGives G (take i xs)) old mid → Adds (G x) mid new → Adds (SomeGives G (take (i + 1) xs)) old new
-gave-next G xs i x old mid new at v w =
-    adds_next G xs i x (slice_get_within xs i x at) v (subst (λ z. Adds (G z) mid new) (sym (get_or_from_slice_get xs i x x at)) w)
+pub gave-next : {T : Type 0} (G : T → Member → Type 0) (xs : List T) (i : ℕ) (x : T) (old mid new : List Member) → i < length xs → x ≡ get_or xs i x → Adds (SomeGives G (take i xs)) old mid → Adds (G x) mid new → Adds (SomeGives G (take (i + 1) xs)) old new
+gave-next G xs i x old mid new l e v w = adds_next G xs i x l v (subst (λ z. Adds (G z) mid new) e w)
 
 -- all did
 pub gave-all : {T : Type 0} (G : T → Member → Type 0) (xs : List T) (i : ℕ) (old new : List Member) → length xs ≤ i → Adds (SomeGives G (take i xs)) old new → Adds (SomeGives G xs) old new
@@ -57,7 +56,7 @@ module _ (m : Machine) (depth n : ℕ) where
         → ((h : Happening) → AreOfEvent m depth h f r → Adds (BoundAt m depth n f h) mid new) → Adds (SomeGives (BoundAt m depth n f) (take (i + 1) hs)) old new
     events-next i r old mid new l e v w =
         let p = partner (λ h x. AreOfEvent m depth h f x) hs rules i r are (slice_get_read rules (length rules) i r refl l e) in
-        gave-next (BoundAt m depth n f) hs i p.0 old mid new p.1 v (w p.0 p.2)
+        gave-next (BoundAt m depth n f) hs i p.0 old mid new (slice_get_within hs i p.0 p.1) (sym (get_or_from_slice_get hs i p.0 p.0 p.1)) v (w p.0 p.2)
 
     pub events-all : (i : ℕ) (old new : List Member) → length rules ≤ i → Adds (SomeGives (BoundAt m depth n f) (take i hs)) old new → Adds (SomeGives (BoundAt m depth n f) hs) old new
     events-all i old new l v = gave-all (BoundAt m depth n f) hs i old new (subst (λ k. k ≤ i) (AllZip-long (λ h x. AreOfEvent m depth h f x) hs rules are) l) v
@@ -85,20 +84,20 @@ module _ (m : Machine) (depth n : ℕ) where
         by (e ∷ es) (inr h) = inr (by es h)
 
     module _ (bs : List Block) (tables : List BlockTable) (are : AreBlockTables m depth ts d bs tables) where
-      pub in-block : (b : ℕ) (t : BlockTable) (old new : List Member) → Some t ≡ slice_get tables b
+      pub in-block : (b : ℕ) (t : BlockTable) (old new : List Member) → slice_get tables b ≡ Some t
           → ((hs : List Happening) → AreOfEvents m depth (function_of d) hs t.rules.items → Adds (SomeGives (BoundAt m depth n (function_of d)) hs) old new)
           → Adds (BoundIn m depth n ts d bs b) old new
       in-block b t old new at v =
-          let p = partner (IsBlockTable m depth ts d) bs tables b t are (sym at) in
+          let p = partner (IsBlockTable m depth ts d) bs tables b t are at in
           let es = (p.0).events in
           let same : es ≡ events_at (slice_get bs b) = ap events_at (sym p.1) in
           adds_same (v (map (happening ts (function_of d)) es) (p.2).rules)
           (λ y h. subst (λ l. (e : Event) × Among e l × BoundAt m depth n (function_of d) (happening ts (function_of d) e) y) same (given-by es y h))
           (λ y h. gives es y (subst (λ l. (e : Event) × Among e l × BoundAt m depth n (function_of d) (happening ts (function_of d) e) y) (sym same) h))
 
-      pub no-block : (b : ℕ) (old : List Member) → None ≡ slice_get tables b → Adds (BoundIn m depth n ts d bs b) old old
+      pub no-block : (b : ℕ) (old : List Member) → slice_get tables b ≡ None → Adds (BoundIn m depth n ts d bs b) old old
       no-block b old at =
-          let empty : events_at (slice_get bs b) ≡ [] = ap events_at (no-partner (IsBlockTable m depth ts d) bs tables b are (sym at)) in
+          let empty : events_at (slice_get bs b) ≡ [] = ap events_at (no-partner (IsBlockTable m depth ts d) bs tables b are at) in
           adds_none old (λ y h. subst (Among h.0) empty h.1)
 
     -- ---- functions
@@ -127,13 +126,13 @@ module _ (c : Checker) (ts : List Text) (tables : List FunctionTable) (are : Are
   graph-at : (n : ℕ) (t : FunctionTable) → slice_get tables n ≡ Some t → slice_get gs n ≡ Some (graph_in t.graph)
   graph-at n t at = slice_get-map (λ (x : FunctionTable). graph_in x.graph) tables n ∙ ap (option_map (λ (x : FunctionTable). graph_in x.graph)) at
 
-  pub with-number : (n : ℕ) (t : FunctionTable) (old new : List Member) → Some t ≡ slice_get tables n
+  pub with-number : (n : ℕ) (t : FunctionTable) (old new : List Member) → slice_get tables n ≡ Some t
       → ((d : Defined) → AreBlockTables c.machine c.depth ts d (graph_in t.graph).blocks t.blocks.items → Adds (BoundOf c.machine c.depth n ts d (graph_in t.graph)) old new)
       → Adds (BoundWith c ts gs n) old new
-  with-number n t old new at v = adds_same (v d.0 (are.blocks n d.0 t d.1 (sym at))) to from
+  with-number n t old new at v = adds_same (v d.0 (are.blocks n d.0 t d.1 at)) to from
     where
       d : (x : Defined) × (slice_get (functions_in ts) n ≡ Some x)
-      d = named n t (sym at)
+      d = named n t at
 
       to : (y : Member) → BoundOf c.machine c.depth n ts d.0 (graph_in t.graph) y → BoundWith c ts gs n y
       to y h = (
@@ -141,7 +140,7 @@ module _ (c : Checker) (ts : List Text) (tables : List FunctionTable) (are : Are
         subst (λ k. IsBound c ts gs k y.1) (h.2).0 (record {
           function = function_of d.0;
           graph = graph_in t.graph;
-          is = record { named = ap (option_map function_of) d.1; graph = graph-at n t (sym at) };
+          is = record { named = ap (option_map function_of) d.1; graph = graph-at n t at };
           event = h.0;
           happens = h.1;
           binds = (h.2).1;
@@ -151,18 +150,18 @@ module _ (c : Checker) (ts : List Text) (tables : List FunctionTable) (are : Are
       bound-there : (y : Member) → n ≡ y.0 → IsBound c ts gs n y.1 → BoundOf c.machine c.depth n ts d.0 (graph_in t.graph) y
       bound-there y e b =
           let f : b.function ≡ function_of d.0 = same_Some b.function (function_of d.0) (sym b.is.named ∙ ap (option_map function_of) d.1) in
-          let g : b.graph ≡ graph_in t.graph = same_Some b.graph (graph_in t.graph) (sym b.is.graph ∙ graph-at n t (sym at)) in
+          let g : b.graph ≡ graph_in t.graph = same_Some b.graph (graph_in t.graph) (sym b.is.graph ∙ graph-at n t at) in
           (b.event, subst (λ (x : Graph). Happens x b.event) g b.happens, e, subst (λ (x : Function). Binds c.machine c.depth x (happening ts x b.event) y.1) f b.binds)
 
       from : (y : Member) → BoundWith c ts gs n y → BoundOf c.machine c.depth n ts d.0 (graph_in t.graph) y
       from y h = bound-there y h.0 (subst (λ k. IsBound c ts gs k y.1) (sym h.0) h.1)
 
-  pub no-number : (n : ℕ) (old : List Member) → None ≡ slice_get tables n → Adds (BoundWith c ts gs n) old old
+  pub no-number : (n : ℕ) (old : List Member) → slice_get tables n ≡ None → Adds (BoundWith c ts gs n) old old
   no-number n old at = adds_none old (λ y h. away y h.0 h.1)
     where
       away : (y : Member) → n ≡ y.0 → IsBound c ts gs y.0 y.1 → ⊥
       away y e b =
-          let none : slice_get gs n ≡ None = slice_get-map (λ (x : FunctionTable). graph_in x.graph) tables n ∙ ap (option_map (λ (x : FunctionTable). graph_in x.graph)) (sym at) in
+          let none : slice_get gs n ≡ None = slice_get-map (λ (x : FunctionTable). graph_in x.graph) tables n ∙ ap (option_map (λ (x : FunctionTable). graph_in x.graph)) at in
           none-some b.graph (sym none ∙ ap (slice_get gs) e ∙ b.is.graph)
 
   -- one function more, and all

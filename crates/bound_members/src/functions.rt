@@ -30,7 +30,13 @@ fn add_in_function(
     ensures { IfOk result (λ _. (m : Machine) (depth : ℕ) (ts : List Text) (d : Defined) → AreBlockTables m depth ts d (graph_in table.now.graph).blocks table.now.blocks.items → Adds (BoundOf m depth number ts d (graph_in table.now.graph)) found.old.items found.new.items) }
 {
     let blocks = reached(alloc, &table.graph)?;
-    add_in_blocks(alloc, found, table.blocks.as_slice(), blocks.as_slice(), number)
+    add_in_blocks(
+        alloc,
+        found,
+        table.blocks.as_slice(),
+        blocks.as_slice(),
+        number,
+    )
 }
 
 // The table of the function with this number.

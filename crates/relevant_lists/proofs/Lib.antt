@@ -1,1 +1,2 @@
 pub mod ByFunction
+pub mod Relevances
