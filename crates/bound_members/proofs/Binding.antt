@@ -151,7 +151,7 @@ module _ (c : Checker) (ts : List Text) (tables : List FunctionTable) (are : Are
       bound-there y e b =
           let f : b.function ≡ function_of d.0 = same_Some b.function (function_of d.0) (sym b.is.named ∙ ap (option_map function_of) d.1) in
           let g : b.graph ≡ graph_in t.graph = same_Some b.graph (graph_in t.graph) (sym b.is.graph ∙ graph-at n t at) in
-          (b.event, subst (λ (x : Graph). Happens x b.event) g b.happens, e, subst (λ (x : Function). Binds c.machine c.depth x (happening ts x b.event) y.1) f b.binds)
+          (b.event, subst (λ (x : Graph). Happens x b.event) g b.happens, (e, subst (λ (x : Function). Binds c.machine c.depth x (happening ts x b.event) y.1) f b.binds))
 
       from : (y : Member) → BoundWith c ts gs n y → BoundOf c.machine c.depth n ts d.0 (graph_in t.graph) y
       from y h = bound-there y h.0 (subst (λ k. IsBound c ts gs k y.1) (sym h.0) h.1)

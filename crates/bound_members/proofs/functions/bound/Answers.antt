@@ -1,4 +1,5 @@
-use Rattle.std.proofs.Common.{◌≤◌, length, map, sym, ap, subst}
+use Rattle.std.proofs.Common.{◌≤◌, length, map, sym, subst, arith}
+use Rattle.std.proofs.lemmas.Grind.{common_steps}
 use Rattle.bound_members.specs.Bound.{BoundBefore}
 use Rattle.bound_members.proofs.Binding.{before-none, before-next, before-all}
 use Rattle.bound_members.proofs.functions.bound.Goals as goal
@@ -7,6 +8,7 @@ use Rattle.checker_programs.specs.Texts.{functions_in}
 use Rattle.checker_programs.specs.Units.{texts_of}
 use Rattle.flow_graph.specs.Seen.{graph_in}
 use Rattle.least_set.specs.Logs.{IsExactly}
+use Rattle.programs.specs.Definitions.{definitions, trees_in}
 
 pub loop-number-init : goal.loop-number-init
 loop-number-init c =
@@ -21,5 +23,6 @@ pub returns : goal.returns
 returns c =
     let at = c.loop-number in
     let units = c.args.program.now.units.items in
-    let all : length (functions_in (texts_of units)) ≤ at.number = ? in
+    let within : length (definitions (trees_in units)) ≤ at.number = grind (arith, common_steps) in
+    let all : length (functions_in (texts_of units)) ≤ at.number = subst (λ ds. length ds ≤ at.number) (sym (functions-are units)) within in
     λ k are. before-all k (texts_of units) c.args.tables.now are at.number at.found.items all (at.invariant k (texts_of units) are)

@@ -3,7 +3,7 @@ use Rattle.relevant_lists.proofs.ByFunction.{filed-next, filed-all, items-count}
 use Rattle.relevant_lists.proofs.filing.filed.Goals as goal
 
 pub loop-member-preserved : goal.loop-member-preserved
-loop-member-preserved c = 
+loop-member-preserved c =
     let at = c.loop-member in
     record {
       count = items-count at.lists.items c.file_member.new.lists.items c.member-item.result.0 c.member-item.result.1 c.in_ok-file_member.ensures ∙ at.invariant.count;
