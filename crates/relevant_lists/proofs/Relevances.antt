@@ -1,8 +1,9 @@
 -- The lists of a program: where all relevant objects were found, those that were filed are the lists of what is relevant.
-use Rattle.std.proofs.Common.{arith, ◌≡◌, ◌↔◌, ℕ, zero, suc, ◌<◌, List, [], ◌∷◌, Contains, length, Some, refl, sym, ap, ◌∙◌, subst}
+use Rattle.std.proofs.Common.{◌≡◌, ◌↔◌, ℕ, ◌<◌, List, Contains, length, Some, ap, subst}
 use Rattle.std.specs.Prelude.{slice_get}
 use Rattle.std.specs.Option.{option_map}
 use Rattle.std.proofs.lemmas.Option.{slice_get_within}
+use Rattle.bound_members.proofs.Zipped.{there}
 use Rattle.c_objects.specs.Objects.{Object, IsObject}
 use Rattle.c_typing.specs.Functions.{Defined}
 use Rattle.checker_graphs.specs.Graphs.{function_at}
@@ -12,11 +13,6 @@ use Rattle.checker_programs.specs.Relevant.{Relevant}
 use Rattle.checker_programs.specs.Texts.{Text, functions_in, function_of}
 use Rattle.relevant_lists.specs.Filed.{Member, AreFiled}
 use Rattle.relevant_lists.specs.Lists.{AreLists}
-
-there : {A : Type 0} (xs : List A) (i : ℕ) → i < length xs → (x : A) × (slice_get xs i ≡ Some x)
-there [] i l = absurd (omega (arith, l))
-there (x ∷ xs) zero l = (x, refl)
-there (x ∷ xs) (suc i) l = there xs i (omega (arith, l))
 
 module _ (c : Checker) (ts : List Text) (found : List Member) (lists : List (List Object)) where
   pub are-lists : ((f : Function) (o : Object) → Relevant c ts f o → IsObject c.depth o)
