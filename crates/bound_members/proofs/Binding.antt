@@ -37,11 +37,7 @@ use Rattle.relevant_steps.specs.Steps.{Member, IsBound, Base}
 
 -- ---- one after the other
 
--- one more of the list gave what it gives
-pub gave-next : {T : Type 0} (G : T → Member → Type 0) (xs : List T) (i : ℕ) (x : T) (old mid new : List Member) → i < length xs → x ≡ get_or xs i x → Adds (SomeGives G (take i xs)) old mid → Adds (G x) mid new → Adds (SomeGives G (take (i + 1) xs)) old new
-gave-next G xs i x old mid new l e v w = adds_next G xs i x l v (subst (λ z. Adds (G z) mid new) e w)
-
--- all did
+-- all of the list gave what they give
 pub gave-all : {T : Type 0} (G : T → Member → Type 0) (xs : List T) (i : ℕ) (old new : List Member) → length xs ≤ i → Adds (SomeGives G (take i xs)) old new → Adds (SomeGives G xs) old new
 gave-all G xs i old new l h = subst (λ ys. Adds (SomeGives G ys) old new) (take_all i xs l) h
 
@@ -56,7 +52,7 @@ module _ (m : Machine) (depth n : ℕ) where
         → ((h : Happening) → AreOfEvent m depth h f r → Adds (BoundAt m depth n f h) mid new) → Adds (SomeGives (BoundAt m depth n f) (take (i + 1) hs)) old new
     events-next i r old mid new l e v w =
         let p = partner (λ h x. AreOfEvent m depth h f x) hs rules i r are (slice_get_read rules (length rules) i r refl l e) in
-        gave-next (BoundAt m depth n f) hs i p.0 old mid new (slice_get_within hs i p.0 p.1) (sym (get_or_from_slice_get hs i p.0 p.0 p.1)) v (w p.0 p.2)
+        adds_next (BoundAt m depth n f) hs i p.0 (slice_get_within hs i p.0 p.1) v (subst (λ h. Adds (BoundAt m depth n f h) mid new) (sym (get_or_from_slice_get hs i p.0 p.0 p.1)) (w p.0 p.2))
 
     pub events-all : (i : ℕ) (old new : List Member) → length rules ≤ i → Adds (SomeGives (BoundAt m depth n f) (take i hs)) old new → Adds (SomeGives (BoundAt m depth n f) hs) old new
     events-all i old new l v = gave-all (BoundAt m depth n f) hs i old new (subst (λ k. k ≤ i) (AllZip-long (λ h x. AreOfEvent m depth h f x) hs rules are) l) v

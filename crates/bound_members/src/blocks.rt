@@ -1,7 +1,6 @@
 //! Objects that rules bind in blocks.
 
-ghost use Rattle.std.specs.Prelude.{◌≡◌, ℕ, List, IfOk, slice_get};
-ghost use Rattle.std.specs.Option.{option_map};
+ghost use Rattle.std.specs.Prelude.{ℕ, List, IfOk};
 ghost use Rattle.bound_members.specs.Bound.{BoundIn};
 ghost use Rattle.c_paths.specs.Graphs.{Block};
 ghost use Rattle.c_typing.specs.Functions.{Defined};
@@ -11,19 +10,10 @@ ghost use Rattle.least_set.specs.Logs.{Adds, SomeGives};
 ghost use Rattle.metal_machines.specs.Machine.{Machine};
 
 use crate::events::add_at_events;
+use crate::items::item;
 use function_tables::BlockTable;
 use objects::Object;
 use std::alloc::{AllocError, Global};
-
-// The table of the block with this number.
-fn block_table<'t, 'u, 'a>(
-    tables: &'t [BlockTable<'u, 'a>],
-    block: u32,
-) -> Option<&'t BlockTable<'u, 'a>>
-    ensures { option_map (λ table. table.now) result ≡ slice_get tables.now block }
-{
-    tables.get(block as usize)
-}
 
 // Puts last what rules bind in the block with this number.
 fn add_in_block(
@@ -35,7 +25,7 @@ fn add_in_block(
 ) -> Result<(), AllocError>
     ensures { IfOk result (λ _. (m : Machine) (depth : ℕ) (ts : List Text) (d : Defined) (bs : List Block) → AreBlockTables m depth ts d bs tables.now → Adds (BoundIn m depth number ts d bs block) found.old.items found.new.items) }
 {
-    match block_table(tables, block) {
+    match item(tables, block) {
         Some(table) => add_at_events(alloc, found, table.rules.as_slice(), number),
         None => Ok(()),
     }

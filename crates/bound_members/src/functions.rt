@@ -1,7 +1,6 @@
 //! Objects that rules bind in functions.
 
-ghost use Rattle.std.specs.Prelude.{◌≡◌, ℕ, List, IfOk, map, slice_get};
-ghost use Rattle.std.specs.Option.{option_map};
+ghost use Rattle.std.specs.Prelude.{ℕ, List, IfOk, map};
 ghost use Rattle.bound_members.specs.Bound.{BoundOf, BoundWith};
 ghost use Rattle.c_typing.specs.Functions.{Defined};
 ghost use Rattle.checker_model.specs.Reports.{Checker};
@@ -14,6 +13,7 @@ ghost use Rattle.metal_machines.specs.Machine.{Machine};
 ghost use Rattle.relevant_steps.specs.Steps.{Base};
 
 use crate::blocks::add_in_blocks;
+use crate::items::item;
 use function_tables::FunctionTable;
 use objects::Object;
 use programs::Program;
@@ -39,16 +39,6 @@ fn add_in_function(
     )
 }
 
-// The table of the function with this number.
-fn function_table<'t, 'u, 'a>(
-    tables: &'t [FunctionTable<'u, 'a>],
-    number: u32,
-) -> Option<&'t FunctionTable<'u, 'a>>
-    ensures { option_map (λ table. table.now) result ≡ slice_get tables.now number }
-{
-    tables.get(number as usize)
-}
-
 // Puts last what rules bind in the function with this number.
 fn add_with_number(
     alloc: Global,
@@ -58,7 +48,7 @@ fn add_with_number(
 ) -> Result<(), AllocError>
     ensures { IfOk result (λ _. (c : Checker) (ts : List Text) → AreTables c.machine c.depth ts tables.now → Adds (BoundWith c ts (map (λ t. graph_in t.graph) tables.now) number) found.old.items found.new.items) }
 {
-    match function_table(tables, number) {
+    match item(tables, number) {
         Some(table) => add_in_function(alloc, found, table, number),
         None => Ok(()),
     }

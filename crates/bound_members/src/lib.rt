@@ -4,5 +4,6 @@
 mod blocks;
 mod events;
 mod functions;
+mod items;
 
 pub use functions::bound;
