@@ -1,9 +1,9 @@
 -- What rules bind, from one event up to all functions of a program: each loop adds what it goes through.
-use Rattle.std.proofs.Common.{arith, ◌≡◌, ◌⊎◌, ◌↔◌, inl, inr, ℕ, ◌+◌, ◌<◌, ◌≤◌, List, [], ◌∷◌, ◌++◌, Contains, map, length, take, get_or, None, Some, refl, sym, ap, ◌∙◌, subst}
+use Rattle.std.proofs.Common.{arith, ◌≡◌, ◌↔◌, inl, inr, ℕ, ◌+◌, ◌<◌, ◌≤◌, List, [], ◌∷◌, ◌++◌, Contains, map, length, take, get_or, None, Some, refl, sym, ap, ◌∙◌, subst}
 use Rattle.std.specs.Prelude.{slice_get}
 use Rattle.std.specs.Option.{option_map}
 use Rattle.std.proofs.lemmas.List.{take_all, length-map}
-use Rattle.std.proofs.lemmas.Option.{same_Some, none-some, slice_get-map, slice_get_within, slice_get_read, slice_get_past, get_or_from_slice_get}
+use Rattle.std.proofs.lemmas.Option.{same_Some, none-some, slice_get-map, slice_get_within, slice_get_read, get_or_from_slice_get}
 use Rattle.std.proofs.lemmas.Slice.Zip.{AllZip-long}
 use Rattle.applied_rules.specs.declared.rules.EventRules.{EventRules}
 use Rattle.applied_rules.specs.Events.{AreOfEvent}
@@ -16,7 +16,6 @@ use Rattle.c_paths.specs.Events.{Event}
 use Rattle.c_paths.specs.Graphs.{Block}
 use Rattle.c_paths.specs.Membership.{Among}
 use Rattle.c_typing.specs.Functions.{Defined}
-use Rattle.checker_graphs.specs.Graphs.{function_at}
 use Rattle.checker_model.specs.Choices.{Binds}
 use Rattle.checker_model.specs.Happenings.{Function, Happening}
 use Rattle.checker_model.specs.Reports.{Checker}
@@ -27,7 +26,7 @@ use Rattle.function_tables.specs.declared.table.FunctionTable.{FunctionTable}
 use Rattle.function_tables.specs.Rules.{AreOfEvents}
 use Rattle.function_tables.specs.Tables.{IsBlockTable, AreBlockTables, AreTables}
 use Rattle.least_set.specs.Logs.{IsExactly, Adds, SomeGives}
-use Rattle.least_set.proofs.Growing.{nothing, either, kept, adds_none, adds_nothing, adds_same, adds_next, before_or_at}
+use Rattle.least_set.proofs.Growing.{nothing, either, kept, adds_none, adds_same, adds_next, before_or_at}
 use Rattle.linked_objects.proofs.Listed.{among-contains, contains-among}
 use Rattle.metal_machines.specs.Machine.{Machine}
 use Rattle.reached_blocks.specs.Reached.{Happens, AreReached}
