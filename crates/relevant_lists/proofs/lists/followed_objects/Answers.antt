@@ -24,6 +24,6 @@ returns c =
     let bound = subst (λ l. IsExactly l (Base k ts gs)) (sym c.as_slice-2.ensures.value) (c.in_ok-bound.ensures k are) in
     let all = c.in_ok-found.ensures.relevant k ts gs (sym deep) are.graphs apart rows bound in
     let count = length-map lists.items (λ os. os.items) ∙ many ∙ c.count.ensures ∙ ap length (sym (functions-are units)) in
-    are-lists k ts found (map (λ os. os.items) lists.items) (c.relevant_objects_are_objects.ensures k ts) all count
-    (subst (λ ms. AreFiled ms (map (λ os. os.items) lists.items)) c.as_slice-3.ensures.keys filed))
+    ∣ are-lists k ts found (map (λ os. os.items) lists.items) (c.relevant_objects_are_objects.ensures k ts) all count
+    (subst (λ ms. AreFiled ms (map (λ os. os.items) lists.items)) c.as_slice-3.ensures.keys filed) ∣₁)
     c.filed.ensures.count c.filed.ensures.filed
