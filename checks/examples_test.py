@@ -2,13 +2,15 @@
 
 In README.md, docs/ and examples/ a command is a line of an indented block that begins with '$ '. The lines behind it in its block, up to
 the next command, are all that it writes (both outputs). '$ cat FILE' shows a file of the repository. A command with gcc is left out
-where there is none. Usage: checks/examples [FILE ..]
+where there is none. A row of a table that ends in a refusal of a.c says what becomes of a file of its two lines.
+Usage: checks/examples [FILE ..]
 """
 import os
 import re
 import shutil
 import subprocess
 import sys
+import tempfile
 
 ROOT = os.path.dirname(os.path.dirname(os.path.realpath(__file__)))
 PROGRAM = os.environ.get("METALCHECK") or os.path.join(ROOT, "metalcheck")
@@ -36,6 +38,26 @@ def commands(text):
     return found
 
 
+def rows(text):
+    """The rows that show a refused file: its line number, the file, and what is printed."""
+    found = []
+    for number, line in enumerate(text.splitlines(), 1):
+        row = re.fullmatch(r"\| \w+ \| `(.*)` \| `(.*)` \| `(a\.c:[0-9]+: refused: \w+)` \|", line)
+        if row:
+            found.append((number, row[1] + "\n" + row[2] + "\n", row[3]))
+    return found
+
+
+def refusal(text):
+    """What is written of a file with this text."""
+    with tempfile.TemporaryDirectory() as folder:
+        with open(os.path.join(folder, "a.c"), "w", encoding="utf-8") as file:
+            file.write(text)
+        done = subprocess.run([PROGRAM, os.path.join(ROOT, "examples", "free.metal"), "a.c"], cwd=folder, stdout=subprocess.PIPE,
+                              stderr=subprocess.STDOUT, timeout=300)
+    return done.stdout.decode().splitlines()
+
+
 def run(command):
     line = re.sub(r"(?<![\w/.])\./metalcheck\b", lambda _: '"$METALCHECK"', command)
     done = subprocess.run(["bash", "-c", line], cwd=ROOT, stdout=subprocess.PIPE, stderr=subprocess.STDOUT, timeout=300,
@@ -50,16 +72,18 @@ def main():
     for page in sys.argv[1:] or manual():
         with open(os.path.join(ROOT, page), encoding="utf-8") as file:
             text = file.read()
+        tried = [(number, file, refusal(file), [printed]) for number, file, printed in rows(text)]
         for number, command, wanted in commands(text):
             if re.search(r"\bgcc\b", command) and not shutil.which("gcc"):
                 skipped += 1
-                continue
-            seen = [line.rstrip() for line in run(command)]
-            if seen == [line.rstrip() for line in wanted]:
+            else:
+                tried.append((number, "$ " + command, run(command), wanted))
+        for number, what, seen, wanted in tried:
+            if [line.rstrip() for line in seen] == [line.rstrip() for line in wanted]:
                 passed += 1
             else:
                 failed += 1
-                print(f"{page}:{number}: $ {command}\nwrites\n" + "\n".join(seen) + "\nand not\n" + "\n".join(wanted))
+                print(f"{page}:{number}: {what}\nwrites\n" + "\n".join(seen) + "\nand not\n" + "\n".join(wanted))
     print(f"examples: {passed} passed, {failed} failed" + (f", {skipped} skipped" if skipped else ""))
     return 1 if failed or not passed else 0
 
