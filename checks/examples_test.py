@@ -1,0 +1,92 @@
+"""Runs the commands of the manual. checks/examples calls it.
+
+In README.md, docs/ and examples/ a command is a line of an indented block that begins with '$ '. The lines behind it in its block, up to
+the next command, are all that it writes (both outputs). '$ cat FILE' shows a file of the repository. A command with gcc is left out
+where there is none. A row of a table that ends in a refusal of a.c says what becomes of a file of its two lines.
+Usage: checks/examples [FILE ..]
+"""
+import os
+import re
+import shutil
+import subprocess
+import sys
+import tempfile
+
+ROOT = os.path.dirname(os.path.dirname(os.path.realpath(__file__)))
+PROGRAM = os.environ.get("METALCHECK") or os.path.join(ROOT, "metalcheck")
+
+
+def manual():
+    found = ["README.md", "examples/checkers/README.md"]
+    return found + sorted("docs/" + name for name in os.listdir(os.path.join(ROOT, "docs")) if name.endswith(".md"))
+
+
+def commands(text):
+    """The commands of a page, each with its line number and what it has to write."""
+    found, current = [], None
+    for number, line in enumerate(text.splitlines(), 1):
+        if not line.startswith("    ") and line.strip():
+            current = None
+        elif line.startswith("    $ "):
+            current = [number, line[6:], []]
+            found.append(current)
+        elif current is not None:
+            current[2].append(line[4:])
+    for one in found:
+        while one[2] and not one[2][-1]:
+            one[2].pop()
+    return found
+
+
+def rows(text):
+    """The rows that show a refused file: its line number, the file, and what is printed."""
+    found = []
+    for number, line in enumerate(text.splitlines(), 1):
+        row = re.fullmatch(r"\| \w+ \| `(.*)` \| `(.*)` \| `(a\.c:[0-9]+: refused: \w+)` \|", line)
+        if row:
+            found.append((number, row[1] + "\n" + row[2] + "\n", row[3]))
+    return found
+
+
+def refusal(text):
+    """What is written of a file with this text."""
+    with tempfile.TemporaryDirectory() as folder:
+        with open(os.path.join(folder, "a.c"), "w", encoding="utf-8") as file:
+            file.write(text)
+        done = subprocess.run([PROGRAM, os.path.join(ROOT, "examples", "free.metal"), "a.c"], cwd=folder, stdout=subprocess.PIPE,
+                              stderr=subprocess.STDOUT, timeout=300)
+    return done.stdout.decode().splitlines()
+
+
+def run(command):
+    line = re.sub(r"(?<![\w/.])\./metalcheck\b", lambda _: '"$METALCHECK"', command)
+    done = subprocess.run(["bash", "-c", line], cwd=ROOT, stdout=subprocess.PIPE, stderr=subprocess.STDOUT, timeout=300,
+                          env={**os.environ, "METALCHECK": PROGRAM})
+    return done.stdout.decode("utf-8", "replace").rstrip("\n").split("\n") if done.stdout.strip() else []
+
+
+def main():
+    # builds the program first, where it has to be
+    subprocess.run([PROGRAM], capture_output=True)
+    passed = failed = skipped = 0
+    for page in sys.argv[1:] or manual():
+        with open(os.path.join(ROOT, page), encoding="utf-8") as file:
+            text = file.read()
+        tried = [(number, file, refusal(file), [printed]) for number, file, printed in rows(text)]
+        for number, command, wanted in commands(text):
+            if re.search(r"\bgcc\b", command) and not shutil.which("gcc"):
+                skipped += 1
+            else:
+                tried.append((number, "$ " + command, run(command), wanted))
+        for number, what, seen, wanted in tried:
+            if [line.rstrip() for line in seen] == [line.rstrip() for line in wanted]:
+                passed += 1
+            else:
+                failed += 1
+                print(f"{page}:{number}: {what}\nwrites\n" + "\n".join(seen) + "\nand not\n" + "\n".join(wanted))
+    print(f"examples: {passed} passed, {failed} failed" + (f", {skipped} skipped" if skipped else ""))
+    return 1 if failed or not passed else 0
+
+
+if __name__ == "__main__":
+    sys.exit(main())

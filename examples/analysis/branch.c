@@ -1,0 +1,6 @@
+void f(char *p, int c)
+{
+    if (c)
+        kfree(p);
+    *p;
+}

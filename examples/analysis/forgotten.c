@@ -1,0 +1,9 @@
+void f(char *p, int done)
+{
+    if (done) {
+        kfree(p);
+        p = 0;
+    }
+    if (!done)
+        *p;
+}

@@ -1,0 +1,7 @@
+void f(char *p, int done)
+{
+    if (done)
+        kfree(p);
+    else
+        *p;
+}

@@ -1,0 +1,12 @@
+// A pointer that was freed is used.
+sm freed_use {
+  state decl any_pointer v;
+  decl any_expr x, n;
+
+  start:   { kfree(v) } || { kvfree(v) } || { vfree(v) } || { free(v) } ==> v.freed;
+
+  v.freed: { *v } || { v[x] }
+               ==> v.stop, { err("%s is used after it was freed", mc_identifier(v)); }
+         | { memcpy(v, x, n) } || { memcpy(x, v, n) } || { memset(v, x, n) } || { strlen(v) }
+               ==> v.stop, { err("%s is handed on after it was freed", mc_identifier(v)); };
+}

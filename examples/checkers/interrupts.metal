@@ -1,0 +1,10 @@
+// Interrupts are disabled and not enabled again.
+sm interrupts {
+  decl any_arguments how;
+
+  start: { local_irq_disable() } || { __disable_irq() } || { cli() } ==> off;
+  off:   { local_irq_enable() } || { __enable_irq() } || { sti() } ==> start
+       | { local_irq_disable() } || { __disable_irq() } || { cli() } ==> off, { err("interrupts are disabled twice"); }
+       | { delay_ms(how) } || { wait_for_event(how) } ==> off, { err("waiting with interrupts disabled"); }
+       | $end_of_path$ ==> start, { err("interrupts are left disabled"); };
+}

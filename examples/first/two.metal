@@ -1,0 +1,9 @@
+sm ports {
+  state decl any_pointer p;
+
+  start:     { port_claim(p) } ==> p.claimed;
+  p.claimed: { port_claim(p) } ==> true=p.stop, false=p.claimed
+           | { port_claim(p) } ==> p.claimed, { err("%s is claimed twice", mc_identifier(p)); }
+           | { port_release(p) } ==> p.stop
+           | $end_of_path$ ==> p.stop, { err("%s is still claimed", mc_identifier(p)); };
+}
