@@ -13,7 +13,6 @@ use Rattle.checker_programs.specs.Texts.{Text, functions_in, function_of, happen
 use Rattle.edge_reports.proofs.AtEvents.{of-unit}
 use Rattle.edge_reports.proofs.CrossedReports.{ShowsHere}
 use Rattle.edge_reports.specs.Said.{happening_at}
-use Rattle.edge_steps.proofs.Lists.{exactly-same, exactly-none}
 use Rattle.engine_tables.specs.Known.{checker_in, texts_in, graphs_in}
 use Rattle.engine_tables.specs.declared.frames.Frame.{Frame}
 use Rattle.engine_tables.specs.declared.tables.Tables.{Tables}
@@ -21,12 +20,14 @@ use Rattle.engine_tables.proofs.Places.{IsPlace, named}
 use Rattle.event_walks.proofs.SameObjects.{shows}
 use Rattle.flow_graph.specs.Seen.{graph_in}
 use Rattle.least_set.specs.Logs.{IsExactly}
+use Rattle.least_set.proofs.Growing.{nothing}
 use Rattle.path_edges.specs.declared.edges.Edge.{Edge}
 use Rattle.path_edges.specs.Edges.{edge_in}
 use Rattle.path_edges.specs.Relations.{ShowsAt}
 use Rattle.path_theory.specs.BlockEdges.{Shows}
 use Rattle.report_model.specs.declared.report.Report.{Report}
-use Rattle.tuple_flows.specs.Facts.{listed, fact_in}
+use Rattle.tuple_flows.specs.Facts.{listed}
+use Rattle.tuple_flows.proofs.Lists.{exactly-same}
 use Rattle.typed_unit.specs.declared.typed_unit.TypedUnit.{TypedUnit}
 
 one-function : (f g : Function) → Some f ≡ Some g → f ≡ g
@@ -71,7 +72,7 @@ module _ (t : Tables) (e : Edge) (f : Frame) (p : IsPlace t e.context.function f
 
 -- an edge in a function that isn't there shows nothing
 pub nothing-shown : (c : Checker) (ts : List Text) (gs : List Graph) (e : Edge) → function_at ts e.context.function ≡ None → IsExactly [] (ShowsAt c ts gs e)
-nothing-shown c ts gs e none = exactly-none (ShowsAt c ts gs e) (λ r s. nowhere s.fn (sym none ∙ s.named))
+nothing-shown c ts gs e none = (λ r m. absurd (nothing r m), λ r s. absurd (nowhere s.fn (sym none ∙ s.named)))
   where
     nowhere : (f : Function) → None ≡ Some f → ⊥
     nowhere f h = cc

@@ -35,7 +35,7 @@ pub fn reports_of<'u, 'a>(
     ensures { IfOk result (λ list. ∥ ((r : Said) → Contains list.items r ↔ Reported (model (checker_of number machine.now names.now depth)) (paths (checker_of number machine.now names.now depth) (texts_of program.now.units.items)) r) ∥₁) }
 {
     let functions = build_tables(alloc, program, machine, depth)?;
-    let objects = followed_objects(alloc, program, machine, functions.as_slice(), depth)?;
+    let objects = followed_objects(alloc, program, functions.as_slice(), depth)?;
     let roots = roots(alloc, program, machine)?;
     let tables = Tables {
         program,
