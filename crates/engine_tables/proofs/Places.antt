@@ -13,13 +13,16 @@ use Rattle.c_paths.specs.Fragments.{Has}
 use Rattle.c_paths.specs.Graphs.{Block, Ending, Calls}
 use Rattle.c_tree.specs.Node.{Node}
 use Rattle.c_typing.specs.Functions.{Defined}
+use Rattle.c_typing.specs.Options.{◌>?◌}
 use Rattle.checker_graphs.specs.Graphs.{AreApartPlaces, function_at, graph_at}
 use Rattle.checker_graphs.proofs.Numbers.{graph-at}
-use Rattle.checker_graphs.proofs.Units.{apart-texts}
+use Rattle.checker_graphs.proofs.Calls.{followed-number}
+use Rattle.checker_graphs.proofs.Units.{apart-texts, place-filed}
 use Rattle.call_graph.specs.Followed.{followed}
 use Rattle.checker_model.specs.Happenings.{Function, Happening}
 use Rattle.checker_programs.specs.Relevant.{Relevant}
-use Rattle.checker_programs.specs.Texts.{Text, functions_in, function_of, happening, table_of}
+use Rattle.checker_programs.specs.Roots.{followed_into}
+use Rattle.checker_programs.specs.Texts.{Text, functions_in, function_of, happening, site, table_of}
 use Rattle.flow_graph.specs.Seen.{graph_in}
 use Rattle.function_tables.specs.declared.table.BlockTable.{BlockTable}
 use Rattle.function_tables.specs.declared.table.FunctionTable.{FunctionTable}
@@ -90,6 +93,17 @@ no-table t n k e =
 
 pub no-objects : (t : Tables) (n : ℕ) → AreKnown t → slice_get (objects_in t) n ≡ None → function_at (texts_in t) n ≡ None
 no-objects t n k e = ap (option_map function_of) (missing-too (objects_in t) (functions_in (texts_in t)) n k.count e)
+
+-- the call at a block's end is followed into the function with the number that was found of it
+pub leads-into : (t : Tables) (n : ℕ) (d : Defined) (call : Node) (o : Option ℕ) → slice_get (functions_in (texts_in t)) n ≡ Some d
+    → o ≡ followed (checker_in t).machine (table_of (texts_in t) d.file) d.file (functions_in (texts_in t)) call
+    → followed_into (checker_in t).machine (site t.depth (texts_in t) (function_of d) call) ≡ option_map function_of (o >? slice_get (functions_in (texts_in t)))
+leads-into t n d call o at e =
+    let m = (checker_in t).machine in
+    let ts = texts_in t in
+    followed-number m t.depth ts (function_of d) call
+    ∙ ap (λ (file : ℕ). option_map function_of (followed m (table_of ts file) file (functions_in ts) call >? slice_get (functions_in ts))) (place-filed (map (λ (x : Text). x.trees) ts) n d at)
+    ∙ ap (λ (k : Option ℕ). option_map function_of (k >? slice_get (functions_in ts))) (sym e)
 
 -- the rules of events, one by one, are those that flows ask for
 pub of-events : (m : Machine) (depth : ℕ) (f : Function) (hs : List Happening) (rs : List EventRules) → tables_rules.AreOfEvents m depth f hs rs → AreOfEvents m depth f hs rs

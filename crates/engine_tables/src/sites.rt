@@ -28,7 +28,7 @@ impl<'u, 'a> Tables<'_, 'u, 'a> {
     }
 
     /// A call in the function with a number, with what it passes; none where there is no such function.
-    pub fn site(&self, function: u32, call: &'a Tree<'a>) -> Option<Site<'u, 'a>>
+    pub fn site<'s>(&'s self, function: u32, call: &'s Tree<'a>) -> Option<Site<'s, 'a>>
         ensures there { IfSome result (λ s. (d : Defined) → slice_get (functions_in (texts_in self.now)) function ≡ Some d → IsSite self.now.depth s (site self.now.depth (texts_in self.now) (function_of d) (node_of call.now))) }
         ensures missing { result ≡ None → slice_get (functions_in (texts_in self.now)) function ≡ None }
     {

@@ -1,0 +1,92 @@
+-- Ends of called frames.
+use Rattle.std.proofs.Common.{◌≡◌, ◌↔◌, ℕ, Bool, true, false, ◌||◌, not, true≢false, List, [], ◌∷◌, slice_get, Option, None, Some, refl, sym, ap, subst, ◌∙◌}
+use Rattle.std.specs.Option.{option_map}
+use Rattle.c_paths.specs.Building.{Graph}
+use Rattle.c_paths.specs.Events.{Event}
+use Rattle.c_paths.specs.Fragments.{Has}
+use Rattle.c_paths.specs.Graphs.{Block, Ending, ToAny, Calls, Stops}
+use Rattle.checker_graphs.specs.Graphs.{function_at, graph_at}
+use Rattle.checker_model.specs.Happenings.{Function}
+use Rattle.checker_model.specs.Reports.{Checker}
+use Rattle.checker_programs.specs.Texts.{Text, function_of}
+use Rattle.flow_graph.specs.Seen.{graph_in}
+use Rattle.path_edges.specs.declared.edges.Context.{Context}
+use Rattle.path_edges.specs.declared.edges.Edge.{Edge}
+use Rattle.path_edges.specs.Edges.{context_in, edge_in}
+use Rattle.path_edges.specs.Relations.{IsEndOf}
+use Rattle.engine_tables.specs.declared.frames.Frame.{Frame}
+use Rattle.engine_tables.specs.declared.tables.Tables.{Tables}
+use Rattle.engine_tables.specs.Known.{checker_in, texts_in, graphs_in, is_stop}
+use Rattle.edge_steps.specs.Steps.{IsLast}
+use Rattle.engine_tables.proofs.Places.{IsPlace, named}
+use Rattle.edge_steps.proofs.Views.{context-seen}
+
+ending-of : (o : Option Block) (end : Ending) → option_map (λ b. b.ending) o ≡ Some end → (es : List Event) × (o ≡ Some (record { events = es; ending = end }))
+ending-of None end e = cc
+ending-of (Some b) end e = let s : b.ending ≡ end = cc in (b.events, ap (λ (z : Ending). Some (record { events = b.events; ending = z })) s)
+
+-- a block that ends the function, by its ending
+pub last-there : (bs : List Block) (b : ℕ) → option_map (λ x. x.ending) (slice_get bs b) ≡ Some Stops → IsLast bs b
+last-there bs b e = ending-of (slice_get bs b) Stops e
+
+pub last-ending : (bs : List Block) (b : ℕ) → IsLast bs b → option_map (λ x. x.ending) (slice_get bs b) ≡ Some Stops
+last-ending bs b h = ap (option_map (λ x. x.ending)) h.1
+
+-- a block behind which the function ends
+stop-ending : (o : Option Ending) → is_stop o ≡ true → o ≡ Some Stops
+stop-ending None h = cc
+stop-ending (Some (ToAny bs)) h = cc
+stop-ending (Some (Calls n b)) h = cc
+stop-ending (Some Stops) h = refl
+
+pub stops-last : (bs : List Block) (b : ℕ) → is_stop (option_map (λ x. x.ending) (slice_get bs b)) ≡ true → IsLast bs b
+stops-last bs b h = last-there bs b (stop-ending _ h)
+
+pub last-stops : (bs : List Block) (b : ℕ) → IsLast bs b → is_stop (option_map (λ x. x.ending) (slice_get bs b)) ≡ true
+last-stops bs b h = ap is_stop (last-ending bs b h)
+
+-- by the test
+pub never-last : (bs : List Block) (b : ℕ) (r : Bool) → r ≡ is_stop (option_map (λ x. x.ending) (slice_get bs b)) → r ≡ false → IsLast bs b → ⊥
+never-last bs b r e n h = true≢false (sym (last-stops bs b h) ∙ sym e ∙ n)
+
+pub then-last : (bs : List Block) (b : ℕ) (r : Bool) → r ≡ is_stop (option_map (λ x. x.ending) (slice_get bs b)) → r ≡ true → IsLast bs b
+then-last bs b r e n = stops-last bs b (sym e ∙ n)
+
+one-function : (f g : Function) → Some f ≡ Some g → f ≡ g
+one-function f g e = cc
+
+nowhere : (f : Function) → None ≡ Some f → ⊥
+nowhere f h = cc
+
+some-context : (k l : Context) → Some k ≡ Some l → k ≡ l
+some-context k l e = cc
+
+no-context : (k : Context) → None ≡ Some k → ⊥
+no-context k e = cc
+
+-- no frame ends in a function that isn't there
+pub no-function : (c : Checker) (ts : List Text) (gs : List Graph) (e : Edge) → function_at ts e.context.function ≡ None → (k : Context) → (None ≡ Some k) ↔ IsEndOf c ts gs e k
+no-function c ts gs e none k = (λ h. absurd (no-context k h), λ h. absurd (nowhere h.fn (sym none ∙ h.named)))
+
+module _ (t : Tables) (e : Edge) (f : Frame) (p : IsPlace t e.context.function f) where
+  is-last : (k : Context) → IsEndOf (checker_in t) (texts_in t) (graphs_in t) e k → IsLast (graph_in f.table.now.graph).blocks e.block
+  is-last k h =
+      let same : h.fn ≡ function_of p.defined = one-function h.fn (function_of p.defined) (sym h.named ∙ named t e.context.function p.defined p.is) in
+      let there = subst (λ (z : Function). IsLast (graph_at (texts_in t) (graphs_in t) z).blocks e.block) same h.ends in
+      subst (λ (g : Graph). IsLast g.blocks e.block) p.graph there
+
+  -- it doesn't end here
+  pub not-here : (IsLast (graph_in f.table.now.graph).blocks e.block → e.is_root ≡ false → ⊥) → (k : Context) → (None ≡ Some k) ↔ IsEndOf (checker_in t) (texts_in t) (graphs_in t) e k
+  not-here never k = (λ h. absurd (no-context k h), λ h. absurd (never (is-last k h) h.called))
+
+  pub ends-here : IsLast (graph_in f.table.now.graph).blocks e.block → e.is_root ≡ false → (k : Context) → (Some e.context ≡ Some k) ↔ IsEndOf (checker_in t) (texts_in t) (graphs_in t) e k
+  ends-here last called k = (
+    λ h. record {
+      fn = function_of p.defined;
+      named = named t e.context.function p.defined p.is;
+      ends = subst (λ (g : Graph). IsLast g.blocks e.block) (sym p.graph) last;
+      called = called;
+      context = ap context_in (some-context e.context k h);
+    },
+    λ h. ap (λ (z : Context). Some z) (context-seen e.context k h.context),
+  )

@@ -1,0 +1,21 @@
+-- The edges with which a callee is entered, as lists.
+use Rattle.std.proofs.Common.{◌≡◌, ℕ, false, List, map, Contains, sym, subst}
+use Rattle.c_objects.specs.Objects.{Object}
+use Rattle.checker_model.specs.Happenings.{Function, Site}
+use Rattle.checker_model.specs.Reports.{Checker}
+use Rattle.edge_rules.specs.Entries.{IsEntry}
+use Rattle.edge_steps.proofs.Lists.{contains-map, map-contains}
+use Rattle.edge_steps.specs.Steps.{frame_edge}
+use Rattle.least_set.specs.Logs.{IsExactly}
+use Rattle.path_edges.specs.declared.edges.Edge.{Edge}
+use Rattle.state_tuples.specs.declared.tuple.Tuple.{Tuple}
+use Rattle.tuple_flows.specs.Passed.{IsEntered}
+
+-- one edge for each tuple with which it is entered
+pub entries-exactly : (c : Checker) (s : Site) (h : Function) (objects : List Object) (k b : ℕ) (t : Tuple) (entries : List Tuple) (list : List Edge)
+    → IsExactly entries (IsEntered c s h objects t) → list ≡ map (frame_edge false k b) entries → IsExactly list (IsEntry c s h objects k b t)
+entries-exactly c s h objects k b t entries list exact e =
+    subst (λ (l : List Edge). IsExactly l (IsEntry c s h objects k b t)) (sym e) (
+      λ d m. let x = map-contains (frame_edge false k b) entries d m in record { entry = x.0; entered = exact.0 x.0 x.1; is = x.2 },
+      λ d q. subst (λ (z : Edge). Contains (map (frame_edge false k b) entries) z) q.is (contains-map (frame_edge false k b) entries q.entry (exact.1 q.entry q.entered)),
+    )

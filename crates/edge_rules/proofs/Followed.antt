@@ -1,0 +1,152 @@
+-- What an edge leads to, by how its block ends.
+use Rattle.std.proofs.Common.{◌≡◌, ℕ, false, List, [], ◌∷◌, map, Contains, Option, None, Some, slice_get, refl, sym, ap, subst, ◌∙◌}
+use Rattle.std.specs.Prelude.{flat_map}
+use Rattle.std.specs.Option.{option_map}
+use Rattle.c_objects.specs.Objects.{Object}
+use Rattle.c_paths.specs.Building.{Graph}
+use Rattle.c_paths.specs.Events.{Event}
+use Rattle.c_paths.specs.Fragments.{Has}
+use Rattle.c_paths.specs.Graphs.{Block, Ending, ToAny, Calls, Stops}
+use Rattle.c_tree.specs.Node.{Node}
+use Rattle.checker_graphs.specs.Graphs.{flow_graphs, function_at, graph_at}
+use Rattle.checker_graphs.proofs.Numbers.{one-number}
+use Rattle.checker_model.specs.Checkers.{model, origins}
+use Rattle.checker_model.specs.Choices.{State}
+use Rattle.checker_model.specs.Happenings.{Function, Site}
+use Rattle.checker_model.specs.Reports.{Checker}
+use Rattle.checker_programs.specs.Relevant.{Relevant}
+use Rattle.checker_programs.specs.Roots.{followed_into}
+use Rattle.checker_programs.specs.Texts.{Text, function_of, site}
+use Rattle.edge_rules.specs.Entries.{IsEntry}
+use Rattle.edge_steps.specs.Steps.{StandsBehind, IsNext, Onward, Inward, edge_at, frame_edge}
+use Rattle.edge_steps.proofs.FollowedObjects.{call-over}
+use Rattle.edge_steps.proofs.Lists.{exactly-same, exactly-none}
+use Rattle.edge_steps.proofs.Nexts.{leads-next, next-leads, jump-next, passed-next, last-next}
+use Rattle.engine_tables.specs.declared.frames.Frame.{Frame}
+use Rattle.engine_tables.specs.declared.tables.Tables.{Tables}
+use Rattle.engine_tables.specs.Known.{checker_in, texts_in, graphs_in}
+use Rattle.engine_tables.proofs.Places.{IsPlace, named, apart-in, ending-there}
+use Rattle.flow_graph.specs.Seen.{graph_in}
+use Rattle.least_set.specs.Logs.{IsExactly, SomeGives}
+use Rattle.path_edges.specs.declared.edges.Edge.{Edge}
+use Rattle.path_edges.specs.Edges.{edge_in}
+use Rattle.path_edges.specs.Relations.{LeadsTo}
+use Rattle.path_theory.specs.Flows.{CallFlow}
+use Rattle.state_tuples.specs.declared.tuple.Tuple.{Tuple}
+use Rattle.tabulation_rules.specs.Rules as rules
+use Rattle.tuple_flows.specs.Facts.{fact_in, listed}
+
+one-function : (f g : Function) → Some f ≡ Some g → f ≡ g
+one-function f g e = cc
+
+nowhere : (f : Function) → None ≡ Some f → ⊥
+nowhere f h = cc
+
+one-call : (n m : Node) (next b : ℕ) → Calls n next ≡ Calls m b → n ≡ m
+one-call n m next b e = cc
+
+no-block : (o : Option Block) (b : Block) → option_map (λ (x : Block). x.ending) o ≡ None → o ≡ Some b → ⊥
+no-block None b e h = cc
+no-block (Some a) b e h = cc
+
+-- an edge in a function that isn't there leads to none
+pub no-function-leads : (c : Checker) (ts : List Text) (gs : List Graph) (a : Edge) → function_at ts a.context.function ≡ None → IsExactly [] (LeadsTo c ts gs a)
+no-function-leads c ts gs a none = exactly-none (LeadsTo c ts gs a) (λ d h. by (edge_in d) h)
+  where
+    by : (z : rules.PathEdge ℕ Object State ℕ) → rules.Goes (model c) (origins c) (Relevant c ts) (flow_graphs c ts gs) (function_at ts) (edge_in a) z → ⊥
+    by z (rules.GoesOn t f b h n) = nowhere f (sym none ∙ h.named)
+    by z (rules.GoesInto t f h s b k behind call there global flow) = nowhere f (sym none ∙ behind.named)
+
+module _ (t : Tables) (a : Edge) (f : Frame) (p : IsPlace t a.context.function f) where
+  abbrev c : Checker
+  c = checker_in t
+
+  abbrev ts : List Text
+  ts = texts_in t
+
+  abbrev gs : List Graph
+  gs = graphs_in t
+
+  abbrev fn : Function
+  fn = function_of p.defined
+
+  abbrev blocks : List Block
+  blocks = (graph_in f.table.now.graph).blocks
+
+  abbrev is-named : function_at ts a.context.function ≡ Some fn
+  is-named = named t a.context.function p.defined p.is
+
+  -- a block of the function stands in the graph of its table
+  has-here : (g : Function) (es : List Event) (end : Ending) → function_at ts a.context.function ≡ Some g → Has (graph_at ts gs g).blocks a.block es end → Has blocks a.block es end
+  has-here g es end e h =
+      let there = subst (λ (x : Function). Has (graph_at ts gs x).blocks a.block es end) (one-function g fn (sym e ∙ is-named)) h in
+      subst (λ (x : Graph). Has x.blocks a.block es end) p.graph there
+
+  -- from a block that isn't there nothing follows
+  pub no-block-leads : option_map (λ (b : Block). b.ending) (slice_get blocks a.block) ≡ None → IsExactly [] (LeadsTo c ts gs a)
+  no-block-leads none = exactly-none (LeadsTo c ts gs a) (λ d h. by (edge_in d) h)
+    where
+      by : (z : rules.PathEdge ℕ Object State ℕ) → rules.Goes (model c) (origins c) (Relevant c ts) (flow_graphs c ts gs) (function_at ts) (edge_in a) z → ⊥
+      by z (rules.GoesOn u g b h n) = no-block (slice_get blocks a.block) _ none (has-here g n.0 n.1 h.named n.2)
+      by z (rules.GoesInto u g h s b k behind call there global flow) = no-block (slice_get blocks a.block) _ none (has-here g call.0 (Calls call.1 b) behind.named call.2)
+
+  -- what is next by the end of the block is what follows
+  next-follows : (end : Ending) (list : List Edge) → option_map (λ (b : Block). b.ending) (slice_get blocks a.block) ≡ Some end → IsExactly list (IsNext c ts gs fn end a)
+      → IsExactly list (LeadsTo c ts gs a)
+  next-follows end list e x =
+      let block = ending-there blocks a.block end e in
+      let has = subst (λ (g : Graph). Has g.blocks a.block block.0 end) (sym p.graph) block.1 in
+      exactly-same (IsNext c ts gs fn end a) (LeadsTo c ts gs a) list x (next-leads c ts gs a fn is-named block.0 end has) (leads-next c ts gs a fn is-named block.0 end has)
+
+  -- where the function ends
+  pub exit-leads : option_map (λ (b : Block). b.ending) (slice_get blocks a.block) ≡ Some Stops → IsExactly [] (LeadsTo c ts gs a)
+  exit-leads e = next-follows Stops [] e (last-next c ts gs a fn)
+
+  module _ (ends : List Tuple) (behind : IsExactly ends (StandsBehind c ts gs a)) (list : List Edge) where
+    pub jump-leads : (bs : List ℕ) → option_map (λ (b : Block). b.ending) (slice_get blocks a.block) ≡ Some (ToAny bs) → list ≡ flat_map (λ b. map (edge_at a b) ends) bs
+        → IsExactly list (LeadsTo c ts gs a)
+    jump-leads bs e is = next-follows (ToAny bs) list e (subst (λ (l : List Edge). IsExactly l (IsNext c ts gs fn (ToAny bs) a)) (sym is) (jump-next c ts gs a fn ends behind bs))
+
+    -- at a call that isn't followed
+    pub passed-leads : (n : Node) (next : ℕ) → option_map (λ (b : Block). b.ending) (slice_get blocks a.block) ≡ Some (Calls n next) → followed_into c.machine (site c.depth ts fn n) ≡ None
+        → list ≡ flat_map (λ b. map (edge_at a b) ends) (next ∷ []) → IsExactly list (LeadsTo c ts gs a)
+    passed-leads n next e none is =
+        next-follows (Calls n next) list e (subst (λ (l : List Edge). IsExactly l (IsNext c ts gs fn (Calls n next) a)) (sym is) (passed-next c ts gs a fn ends behind n next none))
+
+    -- at a call that is followed into the function with a number
+    module _ (n : Node) (next k : ℕ) (g : Frame) (q : IsPlace t k g) (followed : followed_into c.machine (site c.depth ts fn n) ≡ function_at ts k) where
+      abbrev callee : Function
+      callee = function_of q.defined
+
+      abbrev first : ℕ
+      first = (graph_in g.table.now.graph).entry
+
+      abbrev Given : Tuple → Edge → Type 0
+      Given = IsEntry c (site c.depth ts fn n) callee g.objects.now k first
+
+      is-callee : function_at ts k ≡ Some callee
+      is-callee = named t k q.defined q.is
+
+      entry-next : (d : Edge) → SomeGives Given ends d → IsNext c ts gs fn (Calls n next) a d
+      entry-next d s =
+          let u = s.0 in
+          let v = s.2.entry in
+          let flow = call-over (model c) (origins c) (listed c g.objects.now) (Relevant c ts) (site c.depth ts fn n) callee (fact_in u) (fact_in v) (λ o i. q.followed.0 o i) s.2.entered.fact in
+          Inward n next k callee u v (behind.0 u s.1) refl (followed ∙ is-callee) is-callee s.2.entered.global flow
+          (ap (λ (z : Graph). frame_edge false k z.entry v) q.graph ∙ s.2.is)
+
+      next-entry : (d : Edge) → IsNext c ts gs fn (Calls n next) a d → SomeGives Given ends d
+      next-entry d (Onward b u s leads is) = absurd (nowhere callee (sym leads.0 ∙ followed ∙ is-callee))
+      next-entry d (Inward m b i h u v s e into there global flow is) =
+          let node : n ≡ m = one-call n m next b e in
+          let same : h ≡ callee = one-function h callee (sym into ∙ ap (λ (x : Node). followed_into c.machine (site c.depth ts fn x)) (sym node) ∙ followed ∙ is-callee) in
+          let number : i ≡ k = one-number ts (apart-in t) i k callee (there ∙ ap (λ (x : Function). Some x) same) is-callee in
+          let one = subst (λ (x : Node). CallFlow (model c) (origins c) (Relevant c ts) (site c.depth ts fn x) h (fact_in u) (fact_in v)) (sym node) flow in
+          let two = subst (λ (x : Function). CallFlow (model c) (origins c) (Relevant c ts) (site c.depth ts fn n) x (fact_in u) (fact_in v)) same one in
+          let fact = call-over (model c) (origins c) (Relevant c ts) (listed c g.objects.now) (site c.depth ts fn n) callee (fact_in u) (fact_in v) (λ o j. q.followed.1 o j) two in
+          let edge : frame_edge false k first v ≡ d =
+          ap (λ (x : ℕ). frame_edge false x first v) (sym number) ∙ ap (λ (z : Graph). frame_edge false i z.entry v) (sym q.graph) ∙ ap (λ (x : Function). frame_edge false i (graph_at ts gs x).entry v) (sym same) ∙ is in
+          (u, behind.1 u s, record { entry = v; entered = record { global = global; fact = fact }; is = edge })
+
+      pub followed-leads : option_map (λ (b : Block). b.ending) (slice_get blocks a.block) ≡ Some (Calls n next) → IsExactly list (SomeGives Given ends) → IsExactly list (LeadsTo c ts gs a)
+      followed-leads e x = next-follows (Calls n next) list e (exactly-same (SomeGives Given ends) (IsNext c ts gs fn (Calls n next) a) list x entry-next next-entry)

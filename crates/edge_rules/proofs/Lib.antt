@@ -1,0 +1,5 @@
+mod CrossedBlocks
+mod Endings
+mod Beginnings
+mod Entered
+mod Followed

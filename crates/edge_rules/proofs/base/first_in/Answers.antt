@@ -1,0 +1,12 @@
+use Rattle.std.proofs.Common.{◌∙◌, ap}
+use Rattle.edge_steps.specs.Steps.{first_edges}
+use Rattle.edge_rules.proofs.Beginnings.{first-exactly}
+use Rattle.engine_tables.proofs.Places.{if-ok, place}
+use Rattle.edge_rules.proofs.base.first_in.Goals as goal
+
+pub returns : goal.returns
+returns c =
+    let t = c.args.tables.now in
+    let n = c.args.function in
+    let f = c.args.frame.now in
+    if-ok _ _ c.first_edges.result (λ list x k h. first-exactly t n f (place t n f k h) list.items (x ∙ ap (λ b. first_edges n b f.objects.now) c.entry.ensures.number)) c.first_edges.ensures

@@ -1,0 +1,17 @@
+use Rattle.std.proofs.Common.{sym, subst}
+use Rattle.edge_steps.specs.Steps.{BeginsIn}
+use Rattle.least_set.specs.Logs.{IsExactly}
+use Rattle.engine_tables.specs.Known.{IsFrame, checker_in, texts_in, graphs_in}
+use Rattle.edge_rules.proofs.Beginnings.{nothing-begins}
+use Rattle.engine_tables.proofs.Places.{if-ok, if-some}
+use Rattle.edge_rules.proofs.base.root_edges.Goals as goal
+
+pub returns-in-Some : goal.returns-in-Some
+returns-in-Some c =
+    if-ok _ _ c.first_in.result (λ list x k. x k (if-some (IsFrame c.args.tables.now c.args.root.number) c.frame.result _ c.in-Some.is c.frame.ensures.there)) c.first_in.ensures
+
+pub returns-in-None : goal.returns-in-None
+returns-in-None c =
+    let t = c.args.tables.now in
+    λ k. subst (λ l. IsExactly l (BeginsIn (checker_in t) (texts_in t) (graphs_in t) c.args.root.number)) (sym c.new.ensures.items)
+    (nothing-begins (checker_in t) (texts_in t) (graphs_in t) c.args.root.number (c.frame.ensures.missing c.in-None.is k))

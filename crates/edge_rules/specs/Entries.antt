@@ -1,0 +1,16 @@
+-- How callees are entered.
+use Rattle.std.specs.Prelude.{◌≡◌, ℕ, List, false}
+use Rattle.c_objects.specs.Objects.{Object}
+use Rattle.checker_model.specs.Happenings.{Function, Site}
+use Rattle.checker_model.specs.Reports.{Checker}
+use Rattle.edge_steps.specs.Steps.{frame_edge}
+use Rattle.path_edges.specs.declared.edges.Edge.{Edge}
+use Rattle.state_tuples.specs.declared.tuple.Tuple.{Tuple}
+use Rattle.tuple_flows.specs.Passed.{IsEntered}
+
+-- AN EDGE AT THE ENTRY of a callee with this number, which begins with this block and in which these objects are followed, where this tuple
+-- stands before the call
+pub record IsEntry (c : Checker) (s : Site) (callee : Function) (objects : List Object) (number block : ℕ) (t : Tuple) (d : Edge) : Type 0 where
+  pub entry : Tuple
+  pub entered : IsEntered c s callee objects t entry
+  pub is : frame_edge false number block entry ≡ d

@@ -1,0 +1,56 @@
+//! How a callee is entered.
+
+ghost use Rattle.std.specs.Prelude.{◌≡◌, ◌≤◌, IfOk};
+ghost use Rattle.checker_model.specs.Happenings.{Function, Site as Form};
+ghost use Rattle.checker_model.specs.Reports.{Checker};
+ghost use Rattle.edge_rules.specs.Entries.{IsEntry};
+ghost use Rattle.flow_graph.specs.Seen.{graph_in};
+ghost use Rattle.least_set.specs.Logs.{IsExactly, SomeGives};
+ghost use Rattle.tuple_flows.specs.Passed.{IsSite};
+
+use crate::callees::Callee;
+use edge_steps::entered;
+use path_edges::Edge;
+use refine_restore::Site;
+use state_tuples::Tuple;
+use std::alloc::{AllocError, Global};
+use tuple_flows::into_call;
+
+// The first edges of a callee where this tuple stands before the call.
+fn entered_with(
+    alloc: Global,
+    site: &Site,
+    depth: u8,
+    callee: &Callee,
+    tuple: &Tuple,
+) -> Result<Vec<Edge>, AllocError>
+    requires { depth ≤ 8 }
+    ensures { IfOk result (λ list. (c : Checker) (s : Form) (h : Function) → c.depth ≡ depth → IsSite depth site.now s → IsExactly list.items (IsEntry c s h callee.now.frame.objects.now callee.now.number (graph_in callee.now.frame.table.now.graph).entry tuple.now)) }
+{
+    let entries = into_call(alloc, site, depth, tuple, callee.frame.objects)?;
+    entered(
+        alloc,
+        callee.number,
+        callee.frame.table.graph.entry(),
+        entries.as_slice(),
+    )
+}
+
+/// The first edges of a callee where these tuples stand before the call.
+pub(crate) fn entered_edges(
+    alloc: Global,
+    site: &Site,
+    depth: u8,
+    callee: &Callee,
+    tuples: &[Tuple],
+) -> Result<Vec<Edge>, AllocError>
+    requires { depth ≤ 8 }
+    ensures { IfOk result (λ list. (c : Checker) (s : Form) (h : Function) → c.depth ≡ depth → IsSite depth site.now s → IsExactly list.items (SomeGives (IsEntry c s h callee.now.frame.objects.now callee.now.number (graph_in callee.now.frame.table.now.graph).entry) tuples.now)) }
+{
+    let mut edges = Vec::new(alloc);
+    for tuple in tuples {
+        let mut found = entered_with(alloc, site, depth, callee, tuple)?;
+        edges.append(&mut found)?;
+    }
+    Ok(edges)
+}

@@ -1,0 +1,46 @@
+//! Ends of called frames.
+
+ghost use Rattle.std.specs.Prelude.{◌≡◌, ◌↔◌, Some, slice_get};
+ghost use Rattle.std.specs.Option.{option_map};
+ghost use Rattle.path_edges.specs.declared.edges.Context.{Context as Called};
+ghost use Rattle.flow_graph.specs.Seen.{graph_in};
+ghost use Rattle.flow_graph.specs.Values.{ending_of};
+ghost use Rattle.path_edges.specs.Relations.{IsEndOf};
+ghost use Rattle.engine_tables.specs.Known.{AreKnown, checker_in, texts_in, graphs_in, is_stop};
+
+use edge_steps::copy_context;
+use engine_tables::{Tables, end_at};
+use flow_graph::{End, Graph};
+use path_edges::{Context, Edge};
+
+// Whether a block ends the function.
+fn is_exit(end: &End) -> bool
+    ensures { result ≡ is_stop (Some (ending_of end.now)) }
+{
+    match end {
+        End::Goto(_) => false,
+        End::Call { .. } => false,
+        End::Exit => true,
+    }
+}
+
+// Whether a function ends behind a block.
+fn is_last(graph: &Graph, block: u32) -> bool
+    ensures { result ≡ is_stop (option_map (λ b. b.ending) (slice_get (graph_in graph.now).blocks block)) }
+{
+    match end_at(graph, block) {
+        None => false,
+        Some(end) => is_exit(end),
+    }
+}
+
+/// The context of a called frame that ends behind an edge's block. A root's own frame has none that waits for its end.
+pub fn end_of(tables: &Tables, edge: &Edge) -> Option<Context>
+    ensures { AreKnown tables.now → (k : Called) → (result ≡ Some k) ↔ IsEndOf (checker_in tables.now) (texts_in tables.now) (graphs_in tables.now) edge.now k }
+{
+    let frame = tables.frame(edge.context.function)?;
+    if edge.is_root || !is_last(&frame.table.graph, edge.block) {
+        return None;
+    }
+    Some(copy_context(&edge.context))
+}
