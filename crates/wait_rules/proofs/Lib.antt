@@ -1,0 +1,5 @@
+pub mod Callers
+pub mod WhoWaits
+pub mod WhoIsWoken
+pub mod OneTuple
+pub mod FoundCalls

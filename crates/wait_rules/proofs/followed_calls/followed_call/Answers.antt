@@ -1,0 +1,72 @@
+use Rattle.std.proofs.Common.{None, Some, refl, ap}
+use Rattle.std.specs.Option.{option_map}
+use Rattle.c_tree.specs.Views.{node_of}
+use Rattle.checker_programs.specs.Texts.{function_of, site}
+use Rattle.engine_tables.specs.Known.{checker_in, texts_in, graphs_in}
+use Rattle.engine_tables.proofs.Places.{named, place}
+use Rattle.flow_graph.specs.Seen.{graph_in}
+use Rattle.wait_rules.proofs.FoundCalls.{block-there, is-call, no-end, no-function, not-followed}
+use Rattle.wait_rules.proofs.followed_calls.followed_call.Goals as goal
+
+pub returns-in_err-frame-clause-missing : goal.returns-in_err-frame-clause-missing
+returns-in_err-frame-clause-missing c e k =
+    let t = c.args.tables.now in
+    no-function (checker_in t) (texts_in t) (graphs_in t) c.args.function c.args.block (c.in_err-frame.ensures.missing refl k)
+
+pub returns-in_err-end-clause-missing : goal.returns-in_err-end-clause-missing
+returns-in_err-end-clause-missing c e k =
+    let t = c.args.tables.now in
+    let n = c.args.function in
+    let f = c.in_ok-frame.frame in
+    no-end t n c.args.block f (place t n f k c.in_ok-frame.ensures.there) c.in_err-end.ensures
+
+pub returns-in_err-callee-clause-missing : goal.returns-in_err-callee-clause-missing
+returns-in_err-callee-clause-missing c e k =
+    let t = c.args.tables.now in
+    let n = c.args.function in
+    let b = c.args.block in
+    let f = c.in_ok-frame.frame in
+    let p = place t n f k c.in_ok-frame.ensures.there in
+    let call = node_of c.in_ok-end.end.call.now in
+    let next = c.in_ok-end.end.behind in
+    let has = block-there (graph_in f.table.now.graph).blocks b call next c.in_ok-end.ensures in
+    let to = c.in_err-callee.ensures (checker_in t).machine t.depth (texts_in t) p.defined has.0 call next p.blocks has.1 in
+    not-followed t n b f p has.0 call next has.1 None to refl
+
+pub returns-in_err-entered-clause-missing : goal.returns-in_err-entered-clause-missing
+returns-in_err-entered-clause-missing c e k =
+    let t = c.args.tables.now in
+    let n = c.args.function in
+    let b = c.args.block in
+    let f = c.in_ok-frame.frame in
+    let p = place t n f k c.in_ok-frame.ensures.there in
+    let call = node_of c.in_ok-end.end.call.now in
+    let next = c.in_ok-end.end.behind in
+    let has = block-there (graph_in f.table.now.graph).blocks b call next c.in_ok-end.ensures in
+    let to = c.in_ok-callee.ensures (checker_in t).machine t.depth (texts_in t) p.defined has.0 call next p.blocks has.1 in
+    not-followed t n b f p has.0 call next has.1 (Some c.in_ok-callee.callee) to (c.in_err-entered.ensures.missing refl k)
+
+pub returns-in_err-site-clause-missing : goal.returns-in_err-site-clause-missing
+returns-in_err-site-clause-missing c e k =
+    let t = c.args.tables.now in
+    no-function (checker_in t) (texts_in t) (graphs_in t) c.args.function c.args.block (ap (option_map function_of) (c.in_err-site.ensures.missing refl))
+
+pub returns-clause-there : goal.returns-clause-there
+returns-clause-there c k =
+    let t = c.args.tables.now in
+    let n = c.args.function in
+    let b = c.args.block in
+    let f = c.in_ok-frame.frame in
+    let p = place t n f k c.in_ok-frame.ensures.there in
+    let call = node_of c.in_ok-end.end.call.now in
+    let next = c.in_ok-end.end.behind in
+    let has = block-there (graph_in f.table.now.graph).blocks b call next c.in_ok-end.ensures in
+    let callee = c.in_ok-callee.callee in
+    let to = c.in_ok-callee.ensures (checker_in t).machine t.depth (texts_in t) p.defined has.0 call next p.blocks has.1 in
+    let q = place t callee c.in_ok-entered.entered k c.in_ok-entered.ensures.there in
+    record {
+      site = site t.depth (texts_in t) (function_of p.defined) call;
+      passes = c.in_ok-site.ensures.there p.defined p.is;
+      call = is-call t n b f p has.0 call next has.1 (Some callee) to callee (function_of q.defined) refl (named t callee q.defined q.is);
+      objects = q.followed;
+    }

@@ -1,0 +1,5 @@
+pub mod CallEnds
+pub mod FollowedCalls
+pub mod FoundCalls
+pub mod Handing
+pub mod Waiters
