@@ -1,9 +1,11 @@
 -- From the reports on the way over a block's events to those that an edge shows, and back.
-use Rattle.std.proofs.Common.{◌≡◌, ℕ, List, [], map, Option, None, Some, slice_get, Bor, sym, ap, subst, ◌∙◌}
+use Rattle.std.proofs.Common.{◌≡◌, ℕ, List, [], map, Option, None, Some, slice_get, Bor, refl, sym, ap, subst, ◌∙◌}
+use Rattle.block_flows.specs.Events.{AreOfEvents}
 use Rattle.c_paths.specs.BlockGraphs.{events_at}
 use Rattle.c_paths.specs.Building.{Graph}
 use Rattle.c_paths.specs.Events.{Event}
 use Rattle.c_typing.specs.Functions.{Defined}
+use Rattle.c_typing.specs.Options.{if_there}
 use Rattle.checker_graphs.specs.Graphs.{flow_graphs, function_at}
 use Rattle.checker_model.specs.Checkers.{model, origins}
 use Rattle.checker_model.specs.Happenings.{Function, Happening}
@@ -16,9 +18,10 @@ use Rattle.edge_reports.specs.Said.{happening_at}
 use Rattle.engine_tables.specs.Known.{checker_in, texts_in, graphs_in}
 use Rattle.engine_tables.specs.declared.frames.Frame.{Frame}
 use Rattle.engine_tables.specs.declared.tables.Tables.{Tables}
-use Rattle.engine_tables.proofs.Places.{IsPlace, named}
+use Rattle.engine_tables.proofs.Places.{IsPlace, named, rules-there, rules-none}
 use Rattle.event_walks.proofs.SameObjects.{shows}
 use Rattle.flow_graph.specs.Seen.{graph_in}
+use Rattle.function_tables.specs.declared.table.BlockTable.{BlockTable}
 use Rattle.least_set.specs.Logs.{IsExactly}
 use Rattle.least_set.proofs.Growing.{nothing}
 use Rattle.path_edges.specs.declared.edges.Edge.{Edge}
@@ -66,6 +69,15 @@ module _ (t : Tables) (e : Edge) (f : Frame) (p : IsPlace t e.context.function f
       let same : s.fn ≡ fn = one-function s.fn fn (sym s.named ∙ named t e.context.function p.defined p.is) in
       let there = subst (λ (z : Function). Shows (model c) (origins c) (Relevant c (texts_in t)) z e.is_root r ((flow_graphs c (texts_in t) (graphs_in t)).events z e.block) (edge_in e).tuple.global (edge_in e).tuple.fact) same s.shows in
       subst (λ hs. Here hs r) (sym events-are) (shows (model c) (origins c) (Relevant c (texts_in t)) (listed c f.objects.now) fn (λ o i. p.followed.1 o i) there)
+
+  -- the rules of the block
+  pub rules-are : AreOfEvents c.machine t.depth fn (map (happening_at u.now) (events_of f e)) (if_there (slice_get f.table.now.blocks.items e.block) [] (λ b. b.rules.items))
+  rules-are = subst (λ hs. AreOfEvents c.machine t.depth fn hs (if_there (slice_get f.table.now.blocks.items e.block) [] (λ b. b.rules.items))) events-in (by (slice_get f.table.now.blocks.items e.block) refl)
+    where
+      by : (o : Option BlockTable) → slice_get f.table.now.blocks.items e.block ≡ o
+          → AreOfEvents c.machine t.depth fn (map (happening (texts_in t) fn) (events_of f e)) (if_there o [] (λ b. b.rules.items))
+      by None q = rules-none c.machine t.depth (texts_in t) p.defined (graph_in f.table.now.graph).blocks f.table.now.blocks.items e.block p.blocks q
+      by (Some b) q = rules-there c.machine t.depth (texts_in t) p.defined (graph_in f.table.now.graph).blocks f.table.now.blocks.items e.block b p.blocks q
 
   pub edge-shows : (list : List Report) → IsExactly list (Here (map (happening_at u.now) (events_of f e))) → IsExactly list (ShowsAt c (texts_in t) (graphs_in t) e)
   edge-shows list x = exactly-same (Here (map (happening_at u.now) (events_of f e))) (ShowsAt c (texts_in t) (graphs_in t) e) list x here-shown shown-here
