@@ -1,6 +1,7 @@
 -- The reports on the way of a tuple over a block's events are what the rules say that are taken there.
-use Rattle.std.proofs.Common.{◌≡◌, ℕ, Bool, List, map, Option, Some, slice_get, Contains, ap, sym, subst, ◌∙◌}
+use Rattle.std.proofs.Common.{◌≡◌, ℕ, Bool, List, [], ◌∷◌, map, Option, Some, slice_get, Contains, ap, sym, subst, ◌∙◌}
 use Rattle.std.specs.List.{filter_map}
+use Rattle.block_flows.specs.Events.{AreOfEvents}
 use Rattle.block_flows.specs.Firings.{Fire, fire_in, TakenAt}
 use Rattle.block_flows.specs.declared.taken_rules.Firing.{Firing}
 use Rattle.block_flows.proofs.Fires.{gives-some, some-gives}
@@ -13,6 +14,7 @@ use Rattle.checker_model.specs.Happenings.{Function, Happening}
 use Rattle.checker_model.specs.Reports.{Checker, report_of}
 use Rattle.edge_reports.specs.Said.{said, said_by}
 use Rattle.least_set.specs.Logs.{IsExactly}
+use Rattle.least_set.proofs.Growing.{nothing}
 use Rattle.path_theory.specs.BlockEdges.{Shows}
 use Rattle.report_model.specs.declared.report.Report.{Report}
 use Rattle.state_tuples.specs.declared.tuple.Tuple.{Tuple}
@@ -52,3 +54,11 @@ module _ (c : Checker) (f : Function) (k : Bool) (followed : List Object) (hs : 
         let m = map-contains fire_in fires s.0 (is.1 s.0 s.1) in
         some-gives (said_by c f hs) fires m.0 r m.1 (ap (said c f hs) m.2 ∙ s.2),
   )
+
+  -- where there are no events
+  pub nothing-here : AreOfEvents c.machine c.depth f hs [] → IsExactly [] ShowsHere
+  nothing-here a = (λ r m. absurd (nothing r m), λ r w. absurd (by hs a r w))
+    where
+      by : (es : List Happening) → AreOfEvents c.machine c.depth f es [] → (r : Report) → Shows (model c) (origins c) (listed c followed) f k r es t.global (fact_in t) → ⊥
+      by [] a r w = elim w [ ]
+      by (e ∷ es) a r w = a

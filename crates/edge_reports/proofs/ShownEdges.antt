@@ -1,19 +1,17 @@
 -- From the reports on the way over a block's events to those that an edge shows, and back.
-use Rattle.std.proofs.Common.{◌≡◌, ℕ, List, [], map, Option, None, Some, slice_get, Bor, refl, sym, ap, subst, ◌∙◌}
+use Rattle.std.proofs.Common.{◌≡◌, ℕ, List, [], map, Option, None, Some, slice_get, Bor, sym, ap, subst, ◌∙◌}
 use Rattle.block_flows.specs.Events.{AreOfEvents}
 use Rattle.c_paths.specs.BlockGraphs.{events_at}
 use Rattle.c_paths.specs.Building.{Graph}
 use Rattle.c_paths.specs.Events.{Event}
-use Rattle.c_typing.specs.Functions.{Defined}
-use Rattle.c_typing.specs.Options.{if_there}
 use Rattle.checker_graphs.specs.Graphs.{flow_graphs, function_at}
 use Rattle.checker_model.specs.Checkers.{model, origins}
 use Rattle.checker_model.specs.Happenings.{Function, Happening}
 use Rattle.checker_model.specs.Reports.{Checker}
 use Rattle.checker_programs.specs.Relevant.{Relevant}
-use Rattle.checker_programs.specs.Texts.{Text, functions_in, function_of, happening}
+use Rattle.checker_programs.specs.Texts.{Text, function_of, happening}
 use Rattle.edge_reports.proofs.AtEvents.{of-unit}
-use Rattle.edge_reports.proofs.CrossedReports.{ShowsHere}
+use Rattle.edge_reports.proofs.CrossedReports.{ShowsHere, nothing-here}
 use Rattle.edge_reports.specs.Said.{happening_at}
 use Rattle.engine_tables.specs.Known.{checker_in, texts_in, graphs_in}
 use Rattle.engine_tables.specs.declared.frames.Frame.{Frame}
@@ -71,16 +69,20 @@ module _ (t : Tables) (e : Edge) (f : Frame) (p : IsPlace t e.context.function f
       subst (λ hs. Here hs r) (sym events-are) (shows (model c) (origins c) (Relevant c (texts_in t)) (listed c f.objects.now) fn (λ o i. p.followed.1 o i) there)
 
   -- the rules of the block
-  pub rules-are : AreOfEvents c.machine t.depth fn (map (happening_at u.now) (events_of f e)) (if_there (slice_get f.table.now.blocks.items e.block) [] (λ b. b.rules.items))
-  rules-are = subst (λ hs. AreOfEvents c.machine t.depth fn hs (if_there (slice_get f.table.now.blocks.items e.block) [] (λ b. b.rules.items))) events-in (by (slice_get f.table.now.blocks.items e.block) refl)
-    where
-      by : (o : Option BlockTable) → slice_get f.table.now.blocks.items e.block ≡ o
-          → AreOfEvents c.machine t.depth fn (map (happening (texts_in t) fn) (events_of f e)) (if_there o [] (λ b. b.rules.items))
-      by None q = rules-none c.machine t.depth (texts_in t) p.defined (graph_in f.table.now.graph).blocks f.table.now.blocks.items e.block p.blocks q
-      by (Some b) q = rules-there c.machine t.depth (texts_in t) p.defined (graph_in f.table.now.graph).blocks f.table.now.blocks.items e.block b p.blocks q
+  pub rules-are : (b : BlockTable) → slice_get f.table.now.blocks.items e.block ≡ Some b → AreOfEvents c.machine t.depth fn (map (happening_at u.now) (events_of f e)) b.rules.items
+  rules-are b q =
+      subst (λ hs. AreOfEvents c.machine t.depth fn hs b.rules.items) events-in
+      (rules-there c.machine t.depth (texts_in t) p.defined (graph_in f.table.now.graph).blocks f.table.now.blocks.items e.block b p.blocks q)
 
   pub edge-shows : (list : List Report) → IsExactly list (Here (map (happening_at u.now) (events_of f e))) → IsExactly list (ShowsAt c (texts_in t) (graphs_in t) e)
   edge-shows list x = exactly-same (Here (map (happening_at u.now) (events_of f e))) (ShowsAt c (texts_in t) (graphs_in t) e) list x here-shown shown-here
+
+  -- nothing where there is no such block
+  pub nothing-there : slice_get f.table.now.blocks.items e.block ≡ None → IsExactly [] (ShowsAt c (texts_in t) (graphs_in t) e)
+  nothing-there q =
+      let none = rules-none c.machine t.depth (texts_in t) p.defined (graph_in f.table.now.graph).blocks f.table.now.blocks.items e.block p.blocks q in
+      edge-shows [] (nothing-here c fn e.is_root f.objects.now (map (happening_at u.now) (events_of f e)) e.tuple
+      (subst (λ hs. AreOfEvents c.machine t.depth fn hs []) events-in none))
 
 -- an edge in a function that isn't there shows nothing
 pub nothing-shown : (c : Checker) (ts : List Text) (gs : List Graph) (e : Edge) → function_at ts e.context.function ≡ None → IsExactly [] (ShowsAt c ts gs e)
@@ -88,10 +90,3 @@ nothing-shown c ts gs e none = (λ r m. absurd (nothing r m), λ r s. absurd (no
   where
     nowhere : (f : Function) → None ≡ Some f → ⊥
     nowhere f h = cc
-
--- the function of a frame is there
-pub is-there : (t : Tables) (n : ℕ) (f : Frame) (p : IsPlace t n f) → slice_get (functions_in (texts_in t)) n ≡ None → ⊥
-is-there t n f p none = by p.defined (sym none ∙ p.is)
-  where
-    by : (d : Defined) → None ≡ Some d → ⊥
-    by d h = cc

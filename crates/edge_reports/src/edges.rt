@@ -5,10 +5,10 @@ ghost use Rattle.engine_tables.specs.Known.{AreKnown, IsFrame, checker_in, texts
 ghost use Rattle.least_set.specs.Logs.{IsExactly, SomeGives};
 ghost use Rattle.path_edges.specs.Relations.{ShowsAt};
 
-use crate::edge_blocks::{rules_at, unit_of};
+use crate::function_units::unit_of;
 use crate::taken_reports::said_by_all;
 use block_flows::firings;
-use engine_tables::{Frame, Tables};
+use engine_tables::{Frame, Tables, item};
 use path_edges::Edge;
 use report_model::Report;
 use std::alloc::{AllocError, Global};
@@ -26,7 +26,10 @@ fn shown_in(
     let Some(unit) = unit_of(tables.program, edge.context.function) else {
         return Ok(Vec::new(alloc));
     };
-    let rules = rules_at(frame.table.blocks.as_slice(), edge.block);
+    let Some(block) = item(frame.table.blocks.as_slice(), edge.block) else {
+        return Ok(Vec::new(alloc));
+    };
+    let rules = block.rules.as_slice();
     let taken = firings(alloc, rules, edge.is_root, &edge.tuple, frame.objects)?;
     let checker = Checker {
         machine: tables.machine,

@@ -1,6 +1,6 @@
 use Rattle.std.proofs.Common.{◌≤◌, subst}
-use Rattle.edge_reports.proofs.FunctionUnits.{unit-there, no-function}
-use Rattle.edge_reports.proofs.edge_blocks.unit_of.Goals as goal
+use Rattle.edge_reports.proofs.UnitsOfFunctions.{unit-there, no-function}
+use Rattle.edge_reports.proofs.function_units.unit_of.Goals as goal
 
 pub returns-then-number-count-clause-missing : goal.returns-then-number-count-clause-missing
 returns-then-number-count-clause-missing c none =

@@ -1,14 +1,10 @@
-//! The units of functions, and the rules of blocks.
+//! The units of functions.
 
-ghost use Rattle.std.specs.Prelude.{◌≡◌, [], None, Some, IfSome, slice_get};
+ghost use Rattle.std.specs.Prelude.{◌≡◌, None, Some, IfSome, slice_get};
 ghost use Rattle.c_typing.specs.Functions.{Defined};
-ghost use Rattle.c_typing.specs.Options.{if_there};
 ghost use Rattle.checker_programs.specs.Texts.{functions_in};
 ghost use Rattle.checker_programs.specs.Units.{texts_of};
 
-use applied_rules::EventRules;
-use engine_tables::item;
-use function_tables::BlockTable;
 use programs::{FnId, Program};
 use typed_unit::TypedUnit;
 
@@ -22,17 +18,4 @@ pub(crate) fn unit_of<'u, 'a>(program: &Program<'u, 'a>, number: u32) -> Option<
     }
     let function = program.function(FnId { number });
     Some(program.unit(function.file))
-}
-
-/// The rules of the events of a block; none where there is no such block.
-pub(crate) fn rules_at<'r, 'u, 'a>(
-    blocks: &'r [BlockTable<'u, 'a>],
-    number: u32,
-) -> &'r [EventRules<'u, 'a>]
-    ensures { result.now ≡ if_there (slice_get blocks.now number) [] (λ b. b.rules.items) }
-{
-    let Some(block) = item(blocks, number) else {
-        return &[];
-    };
-    block.rules.as_slice()
 }
