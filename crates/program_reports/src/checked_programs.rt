@@ -8,11 +8,17 @@ ghost use Rattle.path_theory.specs.Paths.{Reported};
 ghost use Rattle.program_reports.specs.Reporting.{checker_of};
 ghost use Rattle.report_model.specs.declared.report.Report.{Report as Said};
 
+use engine_tables::Tables;
+use function_tables::build_tables;
 use metal_tree::Machine;
 use mx_base::Names;
 use programs::Program;
+use relevant_lists::followed_objects;
 use report_model::Report;
+use root_functions::roots;
+use saturation::{Engine, reported};
 use std::alloc::{AllocError, Global};
+use std::marker::PhantomData;
 
 /// The reports of a checker over a program: exactly those that some path of the program takes, in no order, and one may be there more than
 /// once. The number is the checker's place among those of the command, from 0 on, the names have the texts of all names, and objects have at
@@ -28,5 +34,22 @@ pub fn reports_of<'u, 'a>(
     requires { depth ≤ 8 }
     ensures { IfOk result (λ list. ∥ ((r : Said) → Contains list.items r ↔ Reported (model (checker_of number machine.now names.now depth)) (paths (checker_of number machine.now names.now depth) (texts_of program.now.units.items)) r) ∥₁) }
 {
-    Err(AllocError)
+    let functions = build_tables(alloc, program, machine, depth)?;
+    let objects = followed_objects(alloc, program, functions.as_slice(), depth)?;
+    let roots = roots(alloc, program, machine)?;
+    let tables = Tables {
+        program,
+        machine,
+        number,
+        names,
+        depth,
+        functions: functions.as_slice(),
+        objects: objects.as_slice(),
+        roots: roots.as_slice(),
+    };
+    let engine = Engine {
+        tables,
+        units: PhantomData,
+    };
+    reported(alloc, &engine)
 }

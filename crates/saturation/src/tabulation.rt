@@ -1,0 +1,51 @@
+//! The rules of tabulation for path edges (Reps, Horwitz and Sagiv: Precise interprocedural dataflow analysis via graph reachability, POPL
+//! 1995): what follows from one edge alone, and from a caller's edge at a call with one at an end of its callee.
+
+use crate::engine::Engine;
+use edge_rules::{begin, behind, end_of, next_edges};
+use least_set::{Entered, Rules};
+use path_edges::{Context, Edge, Waiter};
+use std::alloc::{AllocError, Global};
+use wait_rules::{waits, wake};
+
+impl Rules for Engine<'_, '_, '_> {
+    ghost use Rattle.engine_tables.specs.Known.{checker_in, texts_in, graphs_in};
+    ghost use Rattle.path_edges.specs.Relations.{Begins, LeadsTo, WaitsAt, IsEndOf, IsWoken};
+
+    type Member = Edge;
+
+    type Context = Context;
+
+    type Waiter = Waiter;
+
+    ghost base = { λ e d. ∥ Begins (checker_in e.tables) (texts_in e.tables) (graphs_in e.tables) d ∥₁ };
+
+    ghost goes = { λ e a d. ∥ LeadsTo (checker_in e.tables) (texts_in e.tables) (graphs_in e.tables) a d ∥₁ };
+
+    ghost waits = { λ e a k w. ∥ WaitsAt (checker_in e.tables) (texts_in e.tables) (graphs_in e.tables) a k w ∥₁ };
+
+    ghost ends = { λ e a k. ∥ IsEndOf (checker_in e.tables) (texts_in e.tables) (graphs_in e.tables) a k ∥₁ };
+
+    ghost wakes = { λ e w a d. ∥ IsWoken (checker_in e.tables) (texts_in e.tables) (graphs_in e.tables) w a d ∥₁ };
+
+    fn begin(&self, alloc: Global) -> Result<Vec<Edge>, AllocError> {
+        begin(alloc, &self.tables)
+    }
+
+    fn enter(
+        &self,
+        alloc: Global,
+        member: &Edge,
+    ) -> Result<Entered<Edge, Context, Waiter>, AllocError> {
+        let tuples = behind(alloc, &self.tables, member)?;
+        let next = next_edges(alloc, &self.tables, member, tuples.as_slice())?;
+        let waits = waits(alloc, &self.tables, member, tuples.as_slice())?;
+        let end = end_of(&self.tables, member);
+        Ok(Entered { next, waits, end })
+    }
+
+    fn wake(&self, alloc: Global, waiter: &Waiter, end: &Edge) -> Result<Vec<Edge>, AllocError> {
+        let tuples = behind(alloc, &self.tables, end)?;
+        wake(alloc, &self.tables, waiter, end, tuples.as_slice())
+    }
+}
