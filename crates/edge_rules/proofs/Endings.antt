@@ -1,5 +1,5 @@
 -- Ends of called frames.
-use Rattle.std.proofs.Common.{◌≡◌, ◌↔◌, ℕ, Bool, true, false, true≢false, List, slice_get, Option, None, Some, refl, sym, ap, subst, ◌∙◌}
+use Rattle.std.proofs.Common.{◌≡◌, ◌↔◌, ℕ, Bool, true, false, ◌&&◌, not, true≢false, List, slice_get, Option, None, Some, refl, sym, ap, subst, ◌∙◌}
 use Rattle.std.specs.Option.{option_map}
 use Rattle.c_paths.specs.Building.{Graph}
 use Rattle.c_paths.specs.Events.{Event}
@@ -44,12 +44,14 @@ stops-last bs b h = last-there bs b (stop-ending _ h)
 pub last-stops : (bs : List Block) (b : ℕ) → IsLast bs b → is_stop (option_map (λ x. x.ending) (slice_get bs b)) ≡ true
 last-stops bs b h = ap is_stop (last-ending bs b h)
 
--- by the test
-pub never-last : (bs : List Block) (b : ℕ) (r : Bool) → r ≡ is_stop (option_map (λ x. x.ending) (slice_get bs b)) → r ≡ false → IsLast bs b → ⊥
-never-last bs b r e n h = true≢false (sym (last-stops bs b h) ∙ sym e ∙ n)
+-- a called frame that ends behind a block
+pub ends-called : (root : Bool) (bs : List Block) (b : ℕ) (r : Bool) → r ≡ (not root && is_stop (option_map (λ x. x.ending) (slice_get bs b))) → r ≡ true → (root ≡ false) × IsLast bs b
+ends-called true bs b r e h = absurd (true≢false (sym h ∙ e))
+ends-called false bs b r e h = (refl, stops-last bs b (sym e ∙ h))
 
-pub then-last : (bs : List Block) (b : ℕ) (r : Bool) → r ≡ is_stop (option_map (λ x. x.ending) (slice_get bs b)) → r ≡ true → IsLast bs b
-then-last bs b r e n = stops-last bs b (sym e ∙ n)
+pub never-called : (root : Bool) (bs : List Block) (b : ℕ) (r : Bool) → r ≡ (not root && is_stop (option_map (λ x. x.ending) (slice_get bs b))) → r ≡ false → IsLast bs b → root ≡ false → ⊥
+never-called true bs b r e n last called = true≢false called
+never-called false bs b r e n last called = true≢false (sym (last-stops bs b last) ∙ sym e ∙ n)
 
 one-function : (f g : Function) → Some f ≡ Some g → f ≡ g
 one-function f g e = cc
