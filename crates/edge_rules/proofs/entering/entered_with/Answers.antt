@@ -1,7 +1,5 @@
-use Rattle.std.proofs.Common.{◌∙◌, ap, map}
 use Rattle.edge_rules.proofs.Entered.{entries-exactly, of-entries}
 use Rattle.edge_rules.proofs.entering.entered_with.Goals as goal
-use Rattle.edge_steps.specs.Steps.{frame_edge}
 use Rattle.engine_tables.proofs.Places.{if-ok}
 
 pub returns : goal.returns

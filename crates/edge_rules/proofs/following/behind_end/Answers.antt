@@ -1,4 +1,4 @@
-use Rattle.std.proofs.Common.{◌∙◌, ap, sym, subst, List, ◌++◌, map}
+use Rattle.std.proofs.Common.{◌∙◌, ap, sym, subst, map}
 use Rattle.std.specs.Prelude.{flat_map}
 use Rattle.edge_steps.specs.Steps.{edge_at}
 use Rattle.edge_rules.proofs.Followed.{exit-leads, jump-leads}
@@ -7,7 +7,6 @@ use Rattle.engine_tables.proofs.Places.{if-ok, place}
 use Rattle.engine_tables.specs.Known.{checker_in, texts_in, graphs_in}
 use Rattle.flow_graph.specs.declared.graph.End.{End}
 use Rattle.flow_graph.specs.Values.{ending_of}
-use Rattle.c_paths.specs.Graphs.{Ending}
 use Rattle.least_set.specs.Logs.{IsExactly}
 use Rattle.path_edges.specs.Relations.{LeadsTo}
 use Rattle.std.proofs.Common.{Some}
