@@ -1,9 +1,8 @@
 -- Ends of called frames.
-use Rattle.std.proofs.Common.{◌≡◌, ◌↔◌, ℕ, Bool, true, false, ◌||◌, not, true≢false, List, [], ◌∷◌, slice_get, Option, None, Some, refl, sym, ap, subst, ◌∙◌}
+use Rattle.std.proofs.Common.{◌≡◌, ◌↔◌, ℕ, Bool, true, false, true≢false, List, slice_get, Option, None, Some, refl, sym, ap, subst, ◌∙◌}
 use Rattle.std.specs.Option.{option_map}
 use Rattle.c_paths.specs.Building.{Graph}
 use Rattle.c_paths.specs.Events.{Event}
-use Rattle.c_paths.specs.Fragments.{Has}
 use Rattle.c_paths.specs.Graphs.{Block, Ending, ToAny, Calls, Stops}
 use Rattle.checker_graphs.specs.Graphs.{function_at, graph_at}
 use Rattle.checker_model.specs.Happenings.{Function}
@@ -12,7 +11,7 @@ use Rattle.checker_programs.specs.Texts.{Text, function_of}
 use Rattle.flow_graph.specs.Seen.{graph_in}
 use Rattle.path_edges.specs.declared.edges.Context.{Context}
 use Rattle.path_edges.specs.declared.edges.Edge.{Edge}
-use Rattle.path_edges.specs.Edges.{context_in, edge_in}
+use Rattle.path_edges.specs.Edges.{context_in}
 use Rattle.path_edges.specs.Relations.{IsEndOf}
 use Rattle.engine_tables.specs.declared.frames.Frame.{Frame}
 use Rattle.engine_tables.specs.declared.tables.Tables.{Tables}
