@@ -7,7 +7,8 @@ use Rattle.std.proofs.lemmas.Option.{same_Some}
 use Rattle.c_objects.specs.Objects.{Object}
 use Rattle.least_set.specs.Logs.{IsExactly}
 use Rattle.least_set.proofs.Growing.{nothing}
-use Rattle.relevant_lists.specs.Filed.{Member, with_member, AreFiled}
+use Rattle.relevant_lists.specs.Filed.{with_member, AreFiled}
+use Rattle.relevant_steps.specs.Steps.{Member}
 
 -- ---- one list more, and one object more in a list
 

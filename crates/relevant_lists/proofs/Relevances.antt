@@ -11,8 +11,9 @@ use Rattle.checker_model.specs.Happenings.{Function}
 use Rattle.checker_model.specs.Reports.{Checker}
 use Rattle.checker_programs.specs.Relevant.{Relevant}
 use Rattle.checker_programs.specs.Texts.{Text, functions_in, function_of}
-use Rattle.relevant_lists.specs.Filed.{Member, AreFiled}
+use Rattle.relevant_lists.specs.Filed.{AreFiled}
 use Rattle.relevant_lists.specs.Lists.{AreLists}
+use Rattle.relevant_steps.specs.Steps.{Member}
 
 module _ (c : Checker) (ts : List Text) (found : List Member) (lists : List (List Object)) where
   pub are-lists : ((f : Function) (o : Object) → Relevant c ts f o → IsObject c.depth o)

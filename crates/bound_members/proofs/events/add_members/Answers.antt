@@ -1,12 +1,9 @@
-use Rattle.std.proofs.Common.{◌≡◌, ◌∷◌, [], ◌++◌, List, length, refl, sym, ap, subst, ◌∙◌, append_assoc, append-nil, arith}
+use Rattle.std.proofs.Common.{◌≡◌, ◌∷◌, [], ◌++◌, length, sym, ap, subst, ◌∙◌, append_assoc, append-nil, arith}
+use Rattle.std.proofs.lemmas.List.{nil_from_length}
 use Rattle.std.specs.Vec.Iter.{into_iter_items}
 use Rattle.relevant_objects.specs.Links.{members}
 use Rattle.relevant_objects.proofs.Adding.{pushed-member}
 use Rattle.bound_members.proofs.events.add_members.Goals as goal
-
-nothing_left : {X : Type 0} (l : List X) → length l ≡ 0 → l ≡ []
-nothing_left [] h = refl
-nothing_left (x ∷ xs) h = absurd (omega arith)
 
 pub loop-object-preserved : goal.loop-object-preserved
 loop-object-preserved c =
@@ -25,6 +22,6 @@ pub returns : goal.returns
 returns c =
     let at = c.loop-object in
     let none = c.in-None.ensures.steps in
-    let empty : into_iter_items at.object-iterator ≡ [] = nothing_left _ (sym at.invariant.len ∙ none.0) in
+    let empty : into_iter_items at.object-iterator ≡ [] = nil_from_length _ (sym at.invariant.len ∙ none.0) in
     let all = sym (append-nil at.yielded) ∙ rw empty at at.invariant.split ∙ c.into_iter-object-iterator.ensures.into_iter_gives.0 in
     subst (λ l. at.found.items ≡ c.args.found.now.items ++ members c.args.number l) all at.invariant.items
