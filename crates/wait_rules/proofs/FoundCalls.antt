@@ -11,11 +11,12 @@ use Rattle.c_tree.specs.Node.{Node}
 use Rattle.c_typing.specs.Functions.{Defined}
 use Rattle.c_typing.specs.Options.{◌>?◌}
 use Rattle.call_graph.specs.Followed.{followed}
-use Rattle.checker_graphs.specs.Graphs.{flow_graphs, function_at, graph_at}
+use Rattle.checker_graphs.specs.Graphs.{function_at, graph_at}
 use Rattle.checker_graphs.proofs.Calls.{followed-number}
 use Rattle.checker_graphs.proofs.Units.{functions-are, place-filed}
 use Rattle.checker_model.specs.Happenings.{Function, Site}
 use Rattle.checker_model.specs.Reports.{Checker}
+use Rattle.checker_programs.specs.Relevant.{Relevant}
 use Rattle.checker_programs.specs.Roots.{followed_into}
 use Rattle.checker_programs.specs.Texts.{Text, functions_in, function_of, site, table_of}
 use Rattle.engine_tables.specs.declared.frames.Frame.{Frame}
@@ -23,10 +24,16 @@ use Rattle.engine_tables.specs.declared.tables.Tables.{Tables}
 use Rattle.engine_tables.specs.Known.{checker_in, texts_in, graphs_in}
 use Rattle.engine_tables.proofs.Places.{IsPlace, named, ending-there}
 use Rattle.flow_graph.specs.Seen.{graph_in}
+use Rattle.function_tables.specs.Tables.{AreBlockTables}
+use Rattle.least_set.specs.Logs.{IsExactly}
+use Rattle.metal_machines.specs.Machine.{Machine}
 use Rattle.path_edges.specs.Edges.{call_in, call_at, no_site, site_at}
 use Rattle.programs.specs.Definitions.{definitions, trees_in}
+use Rattle.tuple_flows.specs.Passed.{IsSite}
 use Rattle.wait_rules.specs.CallEnds.{if_call, ending_at}
-use Rattle.wait_rules.specs.FollowedCalls.{IsCall, HasNoCall}
+use Rattle.wait_rules.specs.declared.followed_calls.FollowedCall.{FollowedCall}
+use Rattle.wait_rules.specs.FollowedCalls.{HasNoCall}
+use Rattle.wait_rules.specs.FoundCalls.{IsFound}
 use Rattle.wait_rules.proofs.Callers.{CallAt, nowhere, one-function, same-ending, site-by-call}
 
 no-ending : (e : Ending) → None ≡ Some e → ⊥
@@ -104,40 +111,49 @@ module _ (t : Tables) (n b : ℕ) (f : Frame) (p : IsPlace t n f) where
       let y = ends-in caller called s behind there x in
       no-ending (Calls y.call behind) (none ∙ ap (λ o. o >? if_call) (ap (option_map (λ (k : Block). k.ending)) y.ends))
 
-  module _ (es : List Event) (call : Node) (next : ℕ) (has : Has g.blocks b es (Calls call next)) (callee : Option ℕ)
-      (is : callee ≡ followed c.machine (table_of ts p.defined.file) p.defined.file (functions_in ts) call) where
+  -- the call at its end, and what the table of the block says of it
+  module _ (call : Node) (next : ℕ) (ends : Some (Calls call next) ≡ (ending_at g.blocks b >? if_call)) (callee : Option ℕ)
+      (says : (m : Machine) (depth : ℕ) (ts : List Text) (d : Defined) (es : List Event) (n : Node) (k : ℕ) → AreBlockTables m depth ts d g.blocks f.table.now.blocks.items → Has g.blocks b es (Calls n k)
+      → callee ≡ followed m (table_of ts d.file) d.file (functions_in ts) n) where
+    has : (es : List Event) × Has g.blocks b es (Calls call next)
+    has = block-there g.blocks b call next ends
+
     -- the function of a unit stands in its file
     filed : p.defined.place.file ≡ p.defined.file
     filed = place-filed (trees_in t.program.now.units.items) n p.defined (subst (λ fs. slice_get fs n ≡ Some p.defined) (functions-are t.program.now.units.items) p.is)
 
-    pub into : followed_into c.machine (site t.depth ts fn call) ≡ option_map function_of (callee >? slice_get (functions_in ts))
+    into : followed_into c.machine (site t.depth ts fn call) ≡ option_map function_of (callee >? slice_get (functions_in ts))
     into =
         followed-number c.machine t.depth ts fn call
         ∙ ap (λ (k : ℕ). option_map function_of (followed c.machine (table_of ts k) k (functions_in ts) call >? slice_get (functions_in ts))) filed
-        ∙ ap (λ o. option_map function_of (o >? slice_get (functions_in ts))) (sym is)
+        ∙ ap (λ o. option_map function_of (o >? slice_get (functions_in ts))) (sym (says c.machine t.depth ts p.defined has.0 call next p.blocks has.1))
 
     -- the call isn't followed
     pub not-followed : option_map function_of (callee >? slice_get (functions_in ts)) ≡ None → HasNoCall c ts (graphs_in t) n b
     not-followed none caller called s behind there x =
         let y = ends-in caller called s behind there x in
-        let same = same-ending g.blocks b y.events es y.call call behind next y.ends has in
-        nowhere called (sym none ∙ sym into ∙ ap (λ (z : Node). followed_into c.machine (site t.depth ts fn z)) (sym same.0) ∙ ap (followed_into c.machine) (sym y.site) ∙ y.followed)
+        let same = same-ending g.blocks b y.events has.0 y.call call behind next y.ends has.1 in
+        nowhere called
+        (sym none ∙ sym into ∙ ap (λ (z : Node). followed_into c.machine (site t.depth ts fn z)) (sym same.0) ∙ ap (followed_into c.machine) (sym y.site) ∙ y.followed)
 
-    -- it is, into this function
-    pub is-call : (k : ℕ) (h : Function) → callee ≡ Some k → function_at ts k ≡ Some h → IsCall c ts (graphs_in t) n b k next (site t.depth ts fn call)
-    is-call k h to there = record {
-      caller = fn;
-      named = named t n p.defined p.is;
-      called = h;
-      numbered = there;
-      ends = (
-        es,
-        call,
-        subst (λ (z : Graph). Has z.blocks b es (Calls call next)) (sym p.graph) has,
-        refl,
-        into ∙ ap (λ o. option_map function_of (o >? slice_get (functions_in ts))) to ∙ there,
-      );
-    }
+    -- it is, and this is what is known of it
+    pub found : (k : FollowedCall) (h : Frame) (q : IsPlace t k.callee h) → callee ≡ Some k.callee → next ≡ k.behind → h.objects.now ≡ k.objects.now
+        → IsSite t.depth k.site (site t.depth ts fn call) → IsFound t n b k
+    found k h q to behind objects passes =
+        let callees = into ∙ ap (λ o. option_map function_of (o >? slice_get (functions_in ts))) to ∙ named t k.callee q.defined q.is in
+        let block = subst (λ (z : Graph). Has z.blocks b has.0 (Calls call next)) (sym p.graph) has.1 in
+        record {
+          site = site t.depth ts fn call;
+          passes = passes;
+          call = record {
+            caller = fn;
+            named = named t n p.defined p.is;
+            called = function_of q.defined;
+            numbered = named t k.callee q.defined q.is;
+            ends = (has.0, call, subst (λ (m : ℕ). Has (graph_at ts (graphs_in t) fn).blocks b has.0 (Calls call m)) behind block, refl, callees);
+          };
+          objects = subst (λ os. IsExactly os (Relevant c ts (function_of q.defined))) objects q.followed;
+        }
 
 -- the site of a waiter at the block, by the call in which it ends
 module _ (t : Tables) (n b : ℕ) (f : Frame) (p : IsPlace t n f) where

@@ -1,10 +1,10 @@
 -- Who waits, and where he goes on, because of one tuple.
-use Rattle.std.proofs.Common.{◌≡◌, inl, inr, ℕ, ◌++◌, List, [], ◌∷◌, map, Option, None, Some, sym, ap, subst, ◌∙◌, Contains}
+use Rattle.std.proofs.Common.{◌≡◌, inl, inr, ℕ, ◌++◌, List, [], ◌∷◌, map, Option, None, Some, sym, ap, subst, ◌∙◌, Contains, Bool, true, false, not, true≢false, refl}
 use Rattle.std.proofs.lemmas.List.Elements.{Contains-append_left, Contains-push, Contains-push_cases}
 use Rattle.c_objects.specs.Objects.{Object, is_static}
 use Rattle.c_typing.specs.Options.{or_else}
-use Rattle.std.specs.Prelude.{cond}
-use Rattle.checker_model.specs.Calls.{out, reached}
+use Rattle.std.specs.Prelude.{cond, is_some}
+use Rattle.checker_model.specs.Calls.{reached}
 use Rattle.checker_model.specs.Choices.{State}
 use Rattle.checker_model.specs.Happenings.{Function, Site}
 use Rattle.checker_model.specs.Reports.{Checker}
@@ -43,8 +43,16 @@ without-formals depth s r f g o = ap (λ xs. or_else (reached depth xs s.actuals
 one-object : (o p : Object) → Some o ≡ Some p → o ≡ p
 one-object o p e = cc
 
-pub saved-alike : (depth : ℕ) (s r : Site) (t : Tuple) (o : Object) → HandBackAlike depth s r → IsSaved depth s t o → IsSaved depth r t o
+saved-alike : (depth : ℕ) (s r : Site) (t : Tuple) (o : Object) → HandBackAlike depth s r → IsSaved depth s t o → IsSaved depth r t o
 saved-alike depth s r t o same x = record { has = x.has; kept = sym (same o) ∙ x.kept }
+
+-- an object is saved by what the call passes, and at the site that it is
+module _ (c : Checker) (depth : ℕ) (site : code.Site) (s : Site) (t : Tuple) (o : Object) (deep : c.depth ≡ depth) (is : IsSite depth site s) where
+  pub saved-at : IsSaved depth (site_of depth site) t o → IsSaved c.depth s t o
+  saved-at x = subst (λ n. IsSaved n s t o) (sym deep) (saved-alike depth (site_of depth site) s t o (alike depth site s is) x)
+
+  pub saved-of : IsSaved c.depth s t o → IsSaved depth (site_of depth site) t o
+  saved-of x = saved-alike depth s (site_of depth site) t o (λ p. sym (alike depth site s is p)) (subst (λ n. IsSaved n s t o) deep x)
 
 module _ (c : Checker) (s : Site) (callee : Function) (objects : List Object) (number behind : ℕ) (e : Edge) (t : Tuple) (out : List (Wait Context Waiter)) where
   abbrev Entered : Wait Context Waiter → Type 0
@@ -114,3 +122,11 @@ module _ (c : Checker) (s : Site) (caller : Function) (objects : List Object) (w
       by t d (WithPutBack p z other empty is) =
           let same = one-saved (o, x) (p, z) (sym saved ∙ other) in
           (empty, ap (λ (a : Object × Option State). woken_edge w (put_back t a.0 a.1)) same ∙ is)
+
+-- a test for what is missing
+pub empty : {A : Type 0} (q : Option A) (b : Bool) → is_some q ≡ not b → b ≡ true → q ≡ None
+empty None b e h = refl
+empty (Some x) b e h = absurd (true≢false (e ∙ ap not h))
+
+pub not-empty : {A : Type 0} (q : Option A) (b : Bool) → is_some q ≡ not b → b ≡ false → q ≡ None → ⊥
+not-empty q b e h n = true≢false (sym (ap not h) ∙ sym e ∙ ap is_some n)

@@ -1,5 +1,5 @@
 -- Where a waiter goes on at the end of its callee, by the tuples that stand there.
-use Rattle.std.proofs.Common.{◌≡◌, ℕ, List, [], Option, None, Some, refl, sym, ap, subst, ◌∙◌, Contains}
+use Rattle.std.proofs.Common.{◌≡◌, ℕ, List, [], Option, None, Some, refl, sym, ap, subst, ◌∙◌}
 use Rattle.c_objects.specs.Objects.{Object}
 use Rattle.c_paths.specs.Building.{Graph}
 use Rattle.checker_graphs.specs.Graphs.{flow_graphs, function_at}
@@ -17,16 +17,15 @@ use Rattle.edge_steps.proofs.Views.{edge-seen, tuple_with, tuple-there}
 use Rattle.least_set.specs.Logs.{IsExactly, SomeGives}
 use Rattle.path_edges.specs.declared.edges.Edge.{Edge}
 use Rattle.path_edges.specs.declared.edges.Waiter.{Waiter}
-use Rattle.path_edges.specs.Edges.{context_in, edge_in, tuple_in, waiter_in, site_at}
+use Rattle.path_edges.specs.Edges.{tuple_in, waiter_in, site_at}
 use Rattle.path_edges.specs.Relations.{IsWoken}
-use Rattle.path_theory.specs.Facts.{FactOf, NoObject, HasObject, Objects}
+use Rattle.path_theory.specs.Facts.{FactOf, NoObject, Objects}
 use Rattle.path_theory.specs.Flows.{ReturnFlow, ReturnNone, ReturnObject}
 use Rattle.state_tuples.specs.declared.tuple.Tuple.{Tuple}
 use Rattle.tabulation_rules.specs.Rules as rules
 use Rattle.tuple_flows.specs.Facts.{fact_in, fact_of, listed}
-use Rattle.tuple_flows.specs.Passed.{IsReturned}
 use Rattle.wait_rules.specs.Waiters.{GoesOn, WithHanded, WithPutBack, put_back}
-use Rattle.wait_rules.proofs.Callers.{nowhere, one-function, stands, stands-in}
+use Rattle.wait_rules.proofs.Callers.{nowhere, one-function, stands}
 
 -- a return hands back by which object of the callee each of the caller has its state from
 returned-by : (c : Checker) (A : Objects (model c)) (s r : Site) (f : Function) (x y : FactOf Object State) → ((o : Object) → out c.depth s o ≡ out c.depth r o)

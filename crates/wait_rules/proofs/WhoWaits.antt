@@ -1,5 +1,5 @@
 -- Who waits at the end of an edge's block, by the tuples that stand there.
-use Rattle.std.proofs.Common.{◌≡◌, ℕ, Bool, List, [], Option, None, Some, refl, sym, ap, subst, ◌∙◌, Contains}
+use Rattle.std.proofs.Common.{◌≡◌, ℕ, List, [], None, Some, refl, sym, ap, subst, ◌∙◌}
 use Rattle.c_objects.specs.Objects.{Object}
 use Rattle.c_paths.specs.Building.{Graph}
 use Rattle.checker_graphs.specs.Graphs.{AreApartPlaces, flow_graphs, function_at}
@@ -22,12 +22,11 @@ use Rattle.path_edges.specs.declared.edges.Edge.{Edge}
 use Rattle.path_edges.specs.declared.edges.Waiter.{Waiter}
 use Rattle.path_edges.specs.Edges.{context_in, edge_in, tuple_in, waiter_in, site_at}
 use Rattle.path_edges.specs.Relations.{WaitsAt}
-use Rattle.path_theory.specs.Facts.{FactOf, NoObject, HasObject}
+use Rattle.path_theory.specs.Facts.{FactOf, HasObject}
 use Rattle.path_theory.specs.Flows.{CallFlow}
 use Rattle.state_tuples.specs.declared.tuple.Tuple.{Tuple}
 use Rattle.tabulation_rules.specs.Rules as rules
 use Rattle.tuple_flows.specs.Facts.{fact_in, fact_of, listed, without_object}
-use Rattle.tuple_flows.specs.Passed.{IsEntered}
 use Rattle.wait_rules.specs.FollowedCalls.{IsCall, HasNoCall}
 use Rattle.wait_rules.specs.Waiters.{IsWaiting, ForEntered, WithSaved, wait_with}
 use Rattle.wait_rules.proofs.Callers.{AreSame, CallAt, one-call, one-function, site-of-call, stands, stands-in}
@@ -48,7 +47,7 @@ module _ (c : Checker) (ts : List Text) (gs : List Graph) where
   Here e w = WaitsAt c ts gs e w.on w.waiter
 
   -- nobody waits where the block ends in no followed call
-  pub nobody-waits : (e : Edge) → HasNoCall c ts gs e.context.function e.block → IsExactly [] (λ w. WaitsAt c ts gs e w.on w.waiter)
+  pub nobody-waits : (e : Edge) → HasNoCall c ts gs e.context.function e.block → IsExactly [] (λ (w : Wait Context Waiter). WaitsAt c ts gs e w.on w.waiter)
   nobody-waits e none = exactly-none (Here e) (λ w h. by w h.waits)
     where
       by : (w : Wait Context Waiter) → Waits e w.on w.waiter → ⊥

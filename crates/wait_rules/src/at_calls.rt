@@ -1,6 +1,6 @@
 //! Who waits at a call.
 
-ghost use Rattle.std.specs.Prelude.{◌≡◌, ◌≤◌, IfOk, None, Some};
+ghost use Rattle.std.specs.Prelude.{◌≡◌, ◌≤◌, IfOk, IfSome, None, Some};
 ghost use Rattle.c_objects.specs.Objects.{Object as Form};
 ghost use Rattle.checker_model.specs.Calls.{out};
 ghost use Rattle.checker_model.specs.Happenings.{Function, Site as Call};
@@ -11,6 +11,7 @@ ghost use Rattle.least_set.specs.Logs.{IsExactly, SomeGives};
 ghost use Rattle.path_edges.specs.Relations.{WaitsAt};
 ghost use Rattle.refine_restore.specs.Sites.{site_of};
 ghost use Rattle.state_tuples.specs.declared.tuple.Tuple.{Tuple as Entry};
+ghost use Rattle.tuple_flows.specs.Facts.{without_object};
 ghost use Rattle.tuple_flows.specs.Passed.{IsSite, IsEntered};
 ghost use Rattle.wait_rules.specs.Waiters.{IsSaved, IsWaiting, wait_with};
 
@@ -53,6 +54,17 @@ fn saved_object<'p>(site: &Site, depth: u8, tuple: &'p Tuple) -> Option<&'p Obje
     Some(object)
 }
 
+// No object, in the global state of a tuple.
+fn without_object(tuple: &Tuple) -> Tuple
+    ensures { result ≡ without_object tuple.now }
+{
+    Tuple {
+        global: tuple.global,
+        object: None,
+        state: None,
+    }
+}
+
 // Who waits with an object that is saved over the call.
 fn wait_with(
     call: &FollowedCall,
@@ -65,11 +77,7 @@ fn wait_with(
     Wait {
         on: Context {
             function: call.callee,
-            entry: Tuple {
-                global: tuple.global,
-                object: None,
-                state: None,
-            },
+            entry: without_object(tuple),
         },
         waiter: Waiter {
             context: copy_context(&edge.context),

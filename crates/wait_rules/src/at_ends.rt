@@ -60,7 +60,18 @@ fn with_all_handed(
     Ok(edges)
 }
 
-// Where a waiter goes on with the object that was saved, in a global state.
+// A saved object with its state, in the global state of a tuple.
+fn put_back(tuple: &Tuple, object: &Object, state: Option<(u8, u16)>) -> Tuple
+    ensures { result ≡ put_back tuple.now object.now state }
+{
+    Tuple {
+        global: tuple.global,
+        object: Some(copy(object)),
+        state,
+    }
+}
+
+// Where a waiter goes on with the object that was saved, at an end of its callee with a tuple.
 fn put_back_edge(waiter: &Waiter, object: &Object, state: Option<(u8, u16)>, tuple: &Tuple) -> Edge
     ensures { result ≡ woken_edge waiter.now (put_back tuple.now object.now state) }
 {
@@ -68,11 +79,7 @@ fn put_back_edge(waiter: &Waiter, object: &Object, state: Option<(u8, u16)>, tup
         context: copy_context(&waiter.context),
         is_root: waiter.is_root,
         block: waiter.behind,
-        tuple: Tuple {
-            global: tuple.global,
-            object: Some(copy(object)),
-            state,
-        },
+        tuple: put_back(tuple, object, state),
     }
 }
 
@@ -96,10 +103,10 @@ fn with_put_back(
 }
 
 // Where a waiter in this function goes on that has nothing saved.
-fn goes_on_handed(
+fn goes_on_handed<'a>(
     alloc: Global,
-    tables: &Tables,
-    frame: &Frame,
+    tables: &Tables<'_, '_, 'a>,
+    frame: &Frame<'_, '_, 'a>,
     waiter: &Waiter,
     tuples: &[Tuple],
 ) -> Result<Vec<Edge>, AllocError>
@@ -112,10 +119,10 @@ fn goes_on_handed(
 }
 
 // Where a waiter in this function goes on.
-fn goes_on(
+fn goes_on<'a>(
     alloc: Global,
-    tables: &Tables,
-    frame: &Frame,
+    tables: &Tables<'_, '_, 'a>,
+    frame: &Frame<'_, '_, 'a>,
     waiter: &Waiter,
     tuples: &[Tuple],
 ) -> Result<Vec<Edge>, AllocError>

@@ -1,8 +1,9 @@
 use Rattle.std.proofs.Common.{sym, subst, refl}
 use Rattle.engine_tables.specs.Known.{AreKnown, checker_in, texts_in, graphs_in}
-use Rattle.engine_tables.proofs.Places.{if-ok, if-some, apart-in}
+use Rattle.engine_tables.proofs.Places.{if-some, apart-in}
 use Rattle.least_set.specs.Logs.{IsExactly}
 use Rattle.path_edges.specs.Relations.{WaitsAt}
+use Rattle.tuple_flows.proofs.Lists.{if-ok}
 use Rattle.wait_rules.specs.FoundCalls.{IsFound}
 use Rattle.wait_rules.proofs.WhoWaits.{exactly-waits, nobody-waits}
 use Rattle.wait_rules.proofs.at_calls.waits.Goals as goal

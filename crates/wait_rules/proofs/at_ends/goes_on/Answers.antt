@@ -1,8 +1,9 @@
 use Rattle.std.proofs.Common.{refl}
 use Rattle.checker_programs.specs.Texts.{function_of}
 use Rattle.engine_tables.specs.Known.{checker_in, texts_in, graphs_in}
-use Rattle.engine_tables.proofs.Places.{if-ok, named, place}
+use Rattle.engine_tables.proofs.Places.{named, place}
 use Rattle.path_edges.specs.Edges.{site_at}
+use Rattle.tuple_flows.proofs.Lists.{if-ok}
 use Rattle.wait_rules.proofs.OneTuple.{only-put-back}
 use Rattle.wait_rules.proofs.WhoIsWoken.{exactly-woken}
 use Rattle.wait_rules.proofs.at_ends.goes_on.Goals as goal
@@ -18,7 +19,7 @@ returns-in-Some c =
     (λ list x k h e all.
     let p = place t n f k h in
     exactly-woken (checker_in t) (texts_in t) (graphs_in t) w e (function_of p.defined) (named t n p.defined p.is) f.objects.now p.followed s (λ o. refl) c.args.tuples.now all list.items
-    (only-put-back (checker_in t) s (function_of p.defined) f.objects.now w c.args.tuples.now list.items c.in-Some.object.now c.in-Some.state.now c.in-Some.is x))
+    (only-put-back (checker_in t) s (function_of p.defined) f.objects.now w c.args.tuples.now list.items c.in-Some.object c.in-Some.state c.in-Some.is x))
     c.with_put_back.ensures
 
 pub returns-in-None : goal.returns-in-None

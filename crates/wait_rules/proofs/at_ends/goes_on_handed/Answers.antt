@@ -1,11 +1,12 @@
 use Rattle.std.proofs.Common.{sym, subst, refl}
 use Rattle.checker_programs.specs.Texts.{function_of}
 use Rattle.engine_tables.specs.Known.{AreKnown, IsFrame, checker_in, texts_in, graphs_in}
-use Rattle.engine_tables.proofs.Places.{if-ok, if-some, named, place}
+use Rattle.engine_tables.proofs.Places.{if-some, named, place}
 use Rattle.least_set.specs.Logs.{IsExactly}
 use Rattle.path_edges.specs.Edges.{site_at}
 use Rattle.path_edges.specs.Relations.{IsWoken}
 use Rattle.refine_restore.specs.Sites.{site_of}
+use Rattle.tuple_flows.proofs.Lists.{if-ok}
 use Rattle.wait_rules.specs.Handing.{HandBackAlike}
 use Rattle.wait_rules.proofs.OneTuple.{only-handed}
 use Rattle.wait_rules.proofs.WhoIsWoken.{exactly-woken, nobody-goes-on}

@@ -1,8 +1,9 @@
 use Rattle.std.proofs.Common.{sym, subst}
 use Rattle.engine_tables.specs.Known.{IsFrame, checker_in, texts_in, graphs_in}
-use Rattle.engine_tables.proofs.Places.{if-ok, if-some}
+use Rattle.engine_tables.proofs.Places.{if-some}
 use Rattle.least_set.specs.Logs.{IsExactly}
 use Rattle.path_edges.specs.Relations.{IsWoken}
+use Rattle.tuple_flows.proofs.Lists.{if-ok}
 use Rattle.wait_rules.proofs.WhoIsWoken.{nobody-goes-on}
 use Rattle.wait_rules.proofs.at_ends.wake.Goals as goal
 

@@ -1,9 +1,9 @@
 use Rattle.std.proofs.Common.{◌≡◌, ◌∙◌, sym, ap, subst, map}
 use Rattle.edge_steps.specs.Steps.{woken_edge}
-use Rattle.engine_tables.proofs.Places.{if-ok}
 use Rattle.least_set.specs.Logs.{IsExactly}
 use Rattle.state_tuples.specs.declared.tuple.Tuple.{Tuple}
 use Rattle.tuple_flows.specs.Passed.{IsReturned}
+use Rattle.tuple_flows.proofs.Lists.{if-ok}
 use Rattle.wait_rules.proofs.OneTuple.{exactly-mapped}
 use Rattle.wait_rules.proofs.at_ends.with_handed.Goals as goal
 

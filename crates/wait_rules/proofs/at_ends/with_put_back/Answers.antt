@@ -1,10 +1,11 @@
-use Rattle.std.proofs.Common.{◌≡◌, None, refl}
+use Rattle.std.proofs.Common.{◌≡◌, None}
 use Rattle.edge_steps.specs.Steps.{woken_edge}
 use Rattle.least_set.specs.Logs.{IsExactly, SomeGives}
 use Rattle.least_set.proofs.Growing.{all_of}
 use Rattle.state_tuples.specs.declared.tuple.Tuple.{Tuple}
-use Rattle.tuple_flows.proofs.Lists.{given-next, given-past, none-found, some-found}
+use Rattle.tuple_flows.proofs.Lists.{given-next, given-past}
 use Rattle.wait_rules.specs.Waiters.{put_back}
+use Rattle.wait_rules.proofs.OneTuple.{empty, not-empty}
 use Rattle.wait_rules.proofs.at_ends.with_put_back.Goals.{then-is_none+in_ok-push, else-is_none}
 use Rattle.wait_rules.proofs.at_ends.with_put_back.Goals as goal
 
@@ -17,8 +18,8 @@ loop-tuple-preserved c =
     let x = c.tuple-item.result in
     elim c.if-is_none.branch [
       | then-is_none+in_ok-push w ↦ rw w.edges-is (rw w.in_ok-push.ensures.items
-          (given-next P F xs at.tuple-index x at.edges.items c.loop-tuple-test.true c.tuple-item.is at.invariant w.put_back_edge.result (none-found x.object c.is_none.result c.is_none.ensures w.if-is_none.true) w.put_back_edge.ensures))
-      | else-is_none w ↦ rw w.edges-is (given-past P F xs at.tuple-index x at.edges.items c.loop-tuple-test.true c.tuple-item.is at.invariant (some-found x.object c.is_none.result c.is_none.ensures w.if-is_none.false))
+          (given-next P F xs at.tuple-index x at.edges.items c.loop-tuple-test.true c.tuple-item.is at.invariant w.put_back_edge.result (empty x.object c.is_none.result c.is_none.ensures w.if-is_none.true) w.put_back_edge.ensures))
+      | else-is_none w ↦ rw w.edges-is (given-past P F xs at.tuple-index x at.edges.items c.loop-tuple-test.true c.tuple-item.is at.invariant (not-empty x.object c.is_none.result c.is_none.ensures w.if-is_none.false))
     ]
 
 pub returns : goal.returns

@@ -1,11 +1,10 @@
 use Rattle.std.proofs.Common.{None, Some, refl, ap}
 use Rattle.std.specs.Option.{option_map}
 use Rattle.c_tree.specs.Views.{node_of}
-use Rattle.checker_programs.specs.Texts.{function_of, site}
+use Rattle.checker_programs.specs.Texts.{function_of}
 use Rattle.engine_tables.specs.Known.{checker_in, texts_in, graphs_in}
-use Rattle.engine_tables.proofs.Places.{named, place}
-use Rattle.flow_graph.specs.Seen.{graph_in}
-use Rattle.wait_rules.proofs.FoundCalls.{block-there, is-call, no-end, no-function, not-followed}
+use Rattle.engine_tables.proofs.Places.{place}
+use Rattle.wait_rules.proofs.FoundCalls.{found, no-end, no-function, not-followed}
 use Rattle.wait_rules.proofs.followed_calls.followed_call.Goals as goal
 
 pub returns-in_err-frame-clause-missing : goal.returns-in_err-frame-clause-missing
@@ -24,27 +23,18 @@ pub returns-in_err-callee-clause-missing : goal.returns-in_err-callee-clause-mis
 returns-in_err-callee-clause-missing c e k =
     let t = c.args.tables.now in
     let n = c.args.function in
-    let b = c.args.block in
     let f = c.in_ok-frame.frame in
-    let p = place t n f k c.in_ok-frame.ensures.there in
-    let call = node_of c.in_ok-end.end.call.now in
-    let next = c.in_ok-end.end.behind in
-    let has = block-there (graph_in f.table.now.graph).blocks b call next c.in_ok-end.ensures in
-    let to = c.in_err-callee.ensures (checker_in t).machine t.depth (texts_in t) p.defined has.0 call next p.blocks has.1 in
-    not-followed t n b f p has.0 call next has.1 None to refl
+    let end = c.in_ok-end.end in
+    not-followed t n c.args.block f (place t n f k c.in_ok-frame.ensures.there) (node_of end.call.now) end.behind c.in_ok-end.ensures None c.in_err-callee.ensures refl
 
 pub returns-in_err-entered-clause-missing : goal.returns-in_err-entered-clause-missing
 returns-in_err-entered-clause-missing c e k =
     let t = c.args.tables.now in
     let n = c.args.function in
-    let b = c.args.block in
     let f = c.in_ok-frame.frame in
-    let p = place t n f k c.in_ok-frame.ensures.there in
-    let call = node_of c.in_ok-end.end.call.now in
-    let next = c.in_ok-end.end.behind in
-    let has = block-there (graph_in f.table.now.graph).blocks b call next c.in_ok-end.ensures in
-    let to = c.in_ok-callee.ensures (checker_in t).machine t.depth (texts_in t) p.defined has.0 call next p.blocks has.1 in
-    not-followed t n b f p has.0 call next has.1 (Some c.in_ok-callee.callee) to (c.in_err-entered.ensures.missing refl k)
+    let end = c.in_ok-end.end in
+    not-followed t n c.args.block f (place t n f k c.in_ok-frame.ensures.there) (node_of end.call.now) end.behind c.in_ok-end.ensures (Some c.in_ok-callee.callee) c.in_ok-callee.ensures
+    (c.in_err-entered.ensures.missing refl k)
 
 pub returns-in_err-site-clause-missing : goal.returns-in_err-site-clause-missing
 returns-in_err-site-clause-missing c e k =
@@ -55,18 +45,9 @@ pub returns-clause-there : goal.returns-clause-there
 returns-clause-there c k =
     let t = c.args.tables.now in
     let n = c.args.function in
-    let b = c.args.block in
     let f = c.in_ok-frame.frame in
-    let p = place t n f k c.in_ok-frame.ensures.there in
-    let call = node_of c.in_ok-end.end.call.now in
-    let next = c.in_ok-end.end.behind in
-    let has = block-there (graph_in f.table.now.graph).blocks b call next c.in_ok-end.ensures in
+    let end = c.in_ok-end.end in
     let callee = c.in_ok-callee.callee in
-    let to = c.in_ok-callee.ensures (checker_in t).machine t.depth (texts_in t) p.defined has.0 call next p.blocks has.1 in
+    let p = place t n f k c.in_ok-frame.ensures.there in
     let q = place t callee c.in_ok-entered.entered k c.in_ok-entered.ensures.there in
-    record {
-      site = site t.depth (texts_in t) (function_of p.defined) call;
-      passes = c.in_ok-site.ensures.there p.defined p.is;
-      call = is-call t n b f p has.0 call next has.1 (Some callee) to callee (function_of q.defined) refl (named t callee q.defined q.is);
-      objects = q.followed;
-    }
+    found t n c.args.block f p (node_of end.call.now) end.behind c.in_ok-end.ensures (Some callee) c.in_ok-callee.ensures _ c.in_ok-entered.entered q refl refl refl (c.in_ok-site.ensures.there p.defined p.is)

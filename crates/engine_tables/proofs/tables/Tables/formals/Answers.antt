@@ -1,7 +1,7 @@
 use Rattle.std.proofs.Common.{◌∙◌, sym, ap}
 use Rattle.std.specs.Option.{option_map}
 use Rattle.c_tree.specs.Views.{node_of}
-use Rattle.engine_tables.proofs.Sites.{formals-found, formals-missing}
+use Rattle.engine_tables.proofs.CallSites.{formals-found, formals-missing}
 use Rattle.engine_tables.proofs.tables.Tables.formals.Goals as goal
 use Rattle.programs.specs.declared.functions.FnId.{FnId}
 

@@ -1,7 +1,7 @@
 -- Calls with what they pass: two proofs that a call is that of a site are equal, so it is enough to know it somehow.
-use Rattle.std.proofs.Common.{◌≡◌, ℕ, List, [], Option, None, Some, slice_get, Bor, refl, sym, ap, subst, ◌∙◌}
+use Rattle.std.proofs.Common.{◌≡◌, ℕ, ◌≤◌, List, [], length, Option, None, Some, slice_get, Bor, sym, ap, subst, ◌∙◌}
 use Rattle.std.proofs.Math.Logic.{∥∥₁_elim}
-use Rattle.std.proofs.lemmas.Option.{same_Some}
+use Rattle.std.proofs.lemmas.Option.{same_Some, slice_get_past}
 use Rattle.std.specs.Coded.{Coded, Coded-set, codes, coded_list, coded_option}
 use Rattle.c_objects.specs.Facts.{Facts}
 use Rattle.c_objects.specs.Objects.{Object, Selector}
@@ -14,7 +14,7 @@ use Rattle.c_unit.specs.declared.vars.Var.{Var}
 use Rattle.checker_graphs.proofs.Units.{callee-is, functions-are, objects-are, place-filed}
 use Rattle.checker_model.specs.Calls.{actuals_of}
 use Rattle.checker_model.specs.Happenings.{Site}
-use Rattle.checker_programs.specs.Texts.{Text, callee_of, function_of, functions_in, site}
+use Rattle.checker_programs.specs.Texts.{callee_of, function_of, functions_in, site}
 use Rattle.checker_programs.specs.Units.{texts_of}
 use Rattle.programs.specs.Calls.{body_called, table_in}
 use Rattle.programs.specs.Definitions.{definitions, trees_in}
@@ -61,6 +61,10 @@ module _ (units : List (Bor TypedUnit)) where
   there-once : (n : ℕ) (d : Defined) (f : TypedFunction) → slice_get (functions_in (texts_of units)) n ≡ Some d → slice_get (definitions (trees_in units)) n ≡ Some (typed.function_of f)
       → d ≡ typed.function_of f
   there-once n d f e i = same_Some d (typed.function_of f) (sym e ∙ ap (λ (ds : List Defined). slice_get ds n) (functions-are units) ∙ i)
+
+  -- past all functions there is none
+  pub none-past : (n count : ℕ) → count ≡ length (definitions (trees_in units)) → count ≤ n → slice_get (functions_in (texts_of units)) n ≡ None
+  none-past n count e past = ap (λ (ds : List Defined). slice_get ds n) (functions-are units) ∙ slice_get_past (definitions (trees_in units)) n (subst (λ k. k ≤ n) e past)
 
   -- a call in a function passes what the site of it does
   pub site-there : (depth n : ℕ) (d : Defined) (f : TypedFunction) (s : code.Site) → slice_get (functions_in (texts_of units)) n ≡ Some d
