@@ -1,5 +1,5 @@
 -- The reports on the way of a tuple over a block's events are what the rules say that are taken there.
-use Rattle.std.proofs.Common.{◌≡◌, ℕ, Bool, List, [], ◌∷◌, map, Option, Some, slice_get, Contains, ap, sym, subst, ◌∙◌}
+use Rattle.std.proofs.Common.{◌≡◌, Bool, List, [], ◌∷◌, map, Some, slice_get, ap, sym, subst, ◌∙◌}
 use Rattle.std.specs.List.{filter_map}
 use Rattle.block_flows.specs.Events.{AreOfEvents}
 use Rattle.block_flows.specs.Firings.{Fire, fire_in, TakenAt}

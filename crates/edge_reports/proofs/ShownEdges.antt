@@ -1,5 +1,5 @@
 -- From the reports on the way over a block's events to those that an edge shows, and back.
-use Rattle.std.proofs.Common.{◌≡◌, ℕ, List, [], map, Option, None, Some, slice_get, Bor, sym, ap, subst, ◌∙◌}
+use Rattle.std.proofs.Common.{◌≡◌, List, [], map, None, Some, slice_get, Bor, sym, ap, subst, ◌∙◌}
 use Rattle.block_flows.specs.Events.{AreOfEvents}
 use Rattle.c_paths.specs.BlockGraphs.{events_at}
 use Rattle.c_paths.specs.Building.{Graph}

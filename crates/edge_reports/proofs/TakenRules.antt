@@ -1,5 +1,5 @@
 -- A rule with an action that is taken on the way over events is a rule of the machine.
-use Rattle.std.proofs.Common.{◌≡◌, ℕ, Bool, List, [], ◌∷◌, Option, None, Some, refl, sym, ap, ◌∙◌}
+use Rattle.std.proofs.Common.{◌≡◌, ℕ, Bool, List, [], ◌∷◌, Option, Some, refl, sym, ap, ◌∙◌}
 use Rattle.std.specs.Prelude.{is_some, nat_eq, not, ◌||◌}
 use Rattle.block_flows.specs.Firings.{if_acting, acting, ObjectActs, GlobalActs, TakenAt, fire_in}
 use Rattle.block_flows.specs.declared.taken_rules.Firing.{Firing}

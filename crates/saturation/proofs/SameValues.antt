@@ -11,7 +11,7 @@ use Rattle.objects.specs.Equality.{same_object, same_object-true, same_object-re
 use Rattle.path_edges.specs.declared.edges.Context.{Context}
 use Rattle.path_edges.specs.declared.edges.Edge.{Edge}
 use Rattle.path_edges.specs.declared.edges.Waiter.{Waiter}
-use Rattle.path_edges.specs.Equality.{same_state, tuples_agree, contexts_agree, same_context, same_edge}
+use Rattle.path_edges.specs.Equality.{same_context}
 use Rattle.state_tuples.specs.declared.tuple.Tuple.{Tuple}
 
 number-itself : (n : ℕ) → nat_eq n n ≡ true
@@ -33,6 +33,16 @@ two a b p q = λ i. p i && q i
 option-itself : {A : Type 0} (eq : A → A → Bool) → ((x : A) → eq x x ≡ true) → (o : Option A) → option_eq eq o o ≡ true
 option-itself eq itself None = refl
 option-itself eq itself (Some x) = itself x
+
+-- states, tuples and contexts
+abbrev same_state : State → State → Bool
+same_state a b = nat_eq a.0 b.0 && nat_eq a.1 b.1
+
+abbrev tuples_agree : Tuple → Tuple → Bool
+tuples_agree x y = nat_eq x.global y.global && (option_eq same_object x.object y.object && option_eq same_state x.state y.state)
+
+abbrev pub contexts_agree : Context → Context → Bool
+contexts_agree x y = nat_eq x.function y.function && tuples_agree x.entry y.entry
 
 state-itself : (x : State) → same_state x x ≡ true
 state-itself x = two (nat_eq x.0 x.0) (nat_eq x.1 x.1) (number-itself x.0) (number-itself x.1)

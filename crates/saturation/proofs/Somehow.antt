@@ -5,11 +5,11 @@ use Rattle.std.proofs.Math.Logic.{∥∥₁_map, ∥∥₁_elim}
 use Rattle.std.proofs.lemmas.Option.{same_Some}
 use Rattle.least_set.specs.Logs.{IsExactly}
 use Rattle.least_set.specs.declared.two_premises.Wait.{Wait}
-use Rattle.path_edges.specs.Equality.{contexts_agree, same_context, same_edge}
+use Rattle.path_edges.specs.Equality.{same_context, same_edge}
 use Rattle.path_edges.specs.declared.edges.Context.{Context}
 use Rattle.path_edges.specs.declared.edges.Edge.{Edge}
 use Rattle.path_edges.specs.declared.edges.Waiter.{Waiter}
-use Rattle.saturation.proofs.SameValues.{context-itself, edges_agree, edge-itself, waits_agree, same-wait, wait-itself}
+use Rattle.saturation.proofs.SameValues.{contexts_agree, context-itself, edges_agree, edge-itself, waits_agree, same-wait, wait-itself}
 use Rattle.tabulation_rules.proofs.Stable.{exactly}
 
 -- of edges, and of those that wait
@@ -32,7 +32,3 @@ end-somehow end P h f k = (
   λ e. ∥∥₁_map h (λ x. (f x k).0 e),
   λ p. end-is end k (∥∥₁_elim h squash₁ (λ x. ∥∥₁_map p (λ q. (f x k).1 q))),
 )
-
--- with what is known, and with tuples that are exactly those at a block's end
-pub both-known : {K T P : Type 0} → ∥ K ∥₁ → (K → T) → (K → T → ∥ P ∥₁) → ∥ P ∥₁
-both-known known tuples f = ∥∥₁_elim known squash₁ (λ k. f k (tuples k))

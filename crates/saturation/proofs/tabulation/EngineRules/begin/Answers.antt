@@ -8,4 +8,4 @@ pub returns : goal.returns
 returns c =
     let e = c.args.self.now in
     let t = e.tables in
-    if-ok _ _ c.begin.result (λ list x. edges-somehow list.items (Begins (checker_in t) (texts_in t) (graphs_in t)) e.known x) c.begin.ensures
+    record { exact = if-ok _ _ c.begin.result (λ list x. edges-somehow list.items (Begins (checker_in t) (texts_in t) (graphs_in t)) e.known x) c.begin.ensures }

@@ -1,9 +1,10 @@
-use Rattle.std.proofs.Common.{sym, subst}
+use Rattle.std.proofs.Common.{List, sym, subst}
 use Rattle.edge_steps.specs.Steps.{StandsBehind}
 use Rattle.engine_tables.specs.Known.{checker_in, texts_in, graphs_in}
 use Rattle.least_set.specs.Logs.{IsExactly}
 use Rattle.path_edges.specs.Relations.{LeadsTo, WaitsAt, IsEndOf}
-use Rattle.saturation.proofs.Somehow.{edges-somehow, waits-somehow, end-somehow, both-known}
+use Rattle.saturation.proofs.Somehow.{edges-somehow, waits-somehow, end-somehow}
+use Rattle.state_tuples.specs.declared.tuple.Tuple.{Tuple}
 use Rattle.saturation.proofs.tabulation.EngineRules.enter.Goals as goal
 
 pub returns-clause-goes : goal.returns-clause-goes
@@ -11,18 +12,18 @@ returns-clause-goes c =
     let e = c.args.self.now in
     let t = e.tables in
     let a = c.args.member.now in
-    let stand = λ l. IsExactly l (StandsBehind (checker_in t) (texts_in t) (graphs_in t) a) in
+    let stand = λ (l : List Tuple). IsExactly l (StandsBehind (checker_in t) (texts_in t) (graphs_in t) a) in
     edges-somehow c.in_ok-next.next.items (LeadsTo (checker_in t) (texts_in t) (graphs_in t) a)
-    (both-known e.known c.in_ok-tuples.ensures (λ k x. c.in_ok-next.ensures k (subst stand (sym c.as_slice-next.ensures.value) x))) (λ x. x)
+    e.known (λ k. c.in_ok-next.ensures k (subst stand (sym c.as_slice.ensures.value) (c.in_ok-tuples.ensures k)))
 
 pub returns-clause-waits : goal.returns-clause-waits
 returns-clause-waits c =
     let e = c.args.self.now in
     let t = e.tables in
     let a = c.args.member.now in
-    let stand = λ l. IsExactly l (StandsBehind (checker_in t) (texts_in t) (graphs_in t) a) in
+    let stand = λ (l : List Tuple). IsExactly l (StandsBehind (checker_in t) (texts_in t) (graphs_in t) a) in
     waits-somehow c.in_ok-waits.waits.items (λ w. WaitsAt (checker_in t) (texts_in t) (graphs_in t) a w.on w.waiter)
-    (both-known e.known c.in_ok-tuples.ensures (λ k x. c.in_ok-waits.ensures k (subst stand (sym c.as_slice-waits.ensures.value) x))) (λ x. x)
+    e.known (λ k. c.in_ok-waits.ensures k (subst stand (sym c.as_slice-2.ensures.value) (c.in_ok-tuples.ensures k)))
 
 pub returns-clause-ends : goal.returns-clause-ends
 returns-clause-ends c =
