@@ -12,8 +12,9 @@ import subprocess
 import sys
 import tempfile
 
-ROOT = os.path.dirname(os.path.dirname(os.path.realpath(__file__)))
-PROGRAM = os.environ.get("METALCHECK") or os.path.join(ROOT, "metalcheck")
+from program import ROOT, built
+
+PROGRAM = built()
 
 
 def manual():
@@ -81,8 +82,6 @@ def page_of(page):
 
 
 def main():
-    # builds the program first, where it has to be
-    subprocess.run([PROGRAM], capture_output=True)
     passed = failed = skipped = 0
     for page in sys.argv[1:] or manual():
         tried, left_out = page_of(page)
