@@ -1,8 +1,8 @@
 """Runs the commands of the manual. checks/examples calls it.
 
 In README.md, docs/ and examples/ a command is a line of an indented block that begins with '$ '. The lines behind it in its block, up to
-the next command, are all that it writes (both outputs). '$ cat FILE' shows a file of the repository. A command with gcc is left out
-where there is none. A row of a table that ends in a refusal of a.c says what becomes of a file of its two lines.
+the next command, are all that it writes (both outputs). '$ cat FILE' shows a file of the repository. /tmp is a folder that goes away behind
+the page. A command with gcc, or on a file there, is left out where there is no gcc. A row of a table that ends in a refusal of a.c says what becomes of a file of its two lines.
 Usage: checks/examples [FILE ..]
 """
 import os
@@ -12,8 +12,9 @@ import subprocess
 import sys
 import tempfile
 
-ROOT = os.path.dirname(os.path.dirname(os.path.realpath(__file__)))
-PROGRAM = os.environ.get("METALCHECK") or os.path.join(ROOT, "metalcheck")
+from program import ROOT, built
+
+PROGRAM = built()
 
 
 def manual():
@@ -58,26 +59,33 @@ def refusal(text):
     return done.stdout.decode().splitlines()
 
 
-def run(command):
-    line = re.sub(r"(?<![\w/.])\./metalcheck\b", lambda _: '"$METALCHECK"', command)
+def run(command, folder):
+    line = re.sub(r"(?<![\w/.])\./metalcheck\b", lambda _: '"$METALCHECK"', command).replace("/tmp/", folder + "/")
     done = subprocess.run(["bash", "-c", line], cwd=ROOT, stdout=subprocess.PIPE, stderr=subprocess.STDOUT, timeout=300,
                           env={**os.environ, "METALCHECK": PROGRAM})
     return done.stdout.decode("utf-8", "replace").rstrip("\n").split("\n") if done.stdout.strip() else []
 
 
-def main():
-    # builds the program first, where it has to be
-    subprocess.run([PROGRAM], capture_output=True)
-    passed = failed = skipped = 0
-    for page in sys.argv[1:] or manual():
-        with open(os.path.join(ROOT, page), encoding="utf-8") as file:
-            text = file.read()
-        tried = [(number, file, refusal(file), [printed]) for number, file, printed in rows(text)]
+def page_of(page):
+    """What was tried of a page (line number, text, what was written, what had to be), and how many commands were left out."""
+    with open(os.path.join(ROOT, page), encoding="utf-8") as file:
+        text = file.read()
+    tried = [(number, lines, refusal(lines), [printed]) for number, lines, printed in rows(text)]
+    skipped = 0
+    with tempfile.TemporaryDirectory() as folder:
         for number, command, wanted in commands(text):
-            if re.search(r"\bgcc\b", command) and not shutil.which("gcc"):
+            if re.search(r"\bgcc\b|/tmp/", command) and not shutil.which("gcc"):
                 skipped += 1
             else:
-                tried.append((number, "$ " + command, run(command), wanted))
+                tried.append((number, "$ " + command, run(command, folder), wanted))
+    return tried, skipped
+
+
+def main():
+    passed = failed = skipped = 0
+    for page in sys.argv[1:] or manual():
+        tried, left_out = page_of(page)
+        skipped += left_out
         for number, what, seen, wanted in tried:
             if [line.rstrip() for line in seen] == [line.rstrip() for line in wanted]:
                 passed += 1

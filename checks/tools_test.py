@@ -8,8 +8,9 @@ import sys
 import tempfile
 import unittest
 
-ROOT = os.path.dirname(os.path.dirname(os.path.realpath(__file__)))
-PROGRAM = os.environ.get("METALCHECK") or os.path.join(ROOT, "metalcheck")
+from program import ROOT, built
+
+PROGRAM = os.environ["METALCHECK"] = built()
 FREE = os.path.join(ROOT, "examples", "free.metal")
 LINE = '{"file":"src/a.c","line":%d,"col":28,"checker":"free_checker","rule":2,"object":"p","message":"using p after free!"}\n'
 GLOBAL = '{"file":"src/\\u00c3\\u00a9 b.c","line":7,"col":3,"checker":"irq","rule":4,"object":null,"message":"left \\"off\\""}\n'
@@ -174,7 +175,5 @@ class Matchers(unittest.TestCase):
 
 
 if __name__ == "__main__":
-    # builds the program first, where it has to be
-    subprocess.run([PROGRAM], capture_output=True)
     sys.argv[1:] = sys.argv[1:] or ["-q"]
     unittest.main()
