@@ -7,17 +7,7 @@ use Rattle.std.proofs.lemmas.List.Elements.{Contains-append_left, Contains-appen
 use Rattle.std.proofs.lemmas.Option.{slice_get-get_or, same_Some}
 use Rattle.c_paths.specs.Membership.{Among}
 use Rattle.least_set.proofs.Growing.{nothing}
-
--- among a list, and at a position of it
-among-contains : {A : Type 0} (xs : List A) (x : A) → Among x xs → Contains xs x
-among-contains [] x h = absurd h
-among-contains (y ∷ xs) x (inl e) = (0, omega arith, sym e)
-among-contains (y ∷ xs) x (inr h) = let k = among-contains xs x h in let within = k.1 in (suc k.0, omega (arith, within), k.2)
-
-contains-among : {A : Type 0} (xs : List A) (x : A) → Contains xs x → Among x xs
-contains-among [] x h = let within = h.1 in absurd (omega (arith, within))
-contains-among (y ∷ xs) x (zero, l, e) = inl (sym e)
-contains-among (y ∷ xs) x (suc k, l, e) = inr (contains-among xs x (k, omega (arith, l), e))
+use Rattle.linked_objects.proofs.Listed.{among-contains, contains-among}
 
 -- of lists that are mapped
 module _ {A B : Type 0} (f : A → B) where
