@@ -1,0 +1,71 @@
+//! Objects that rules bind in functions.
+
+ghost use Rattle.std.specs.Prelude.{ℕ, List, IfOk, map};
+ghost use Rattle.bound_members.specs.Bound.{BoundOf, BoundWith};
+ghost use Rattle.c_typing.specs.Functions.{Defined};
+ghost use Rattle.checker_model.specs.Reports.{Checker};
+ghost use Rattle.checker_programs.specs.Texts.{Text};
+ghost use Rattle.checker_programs.specs.Units.{texts_of};
+ghost use Rattle.flow_graph.specs.Seen.{graph_in};
+ghost use Rattle.function_tables.specs.Tables.{AreBlockTables, AreTables};
+ghost use Rattle.least_set.specs.Logs.{Adds, IsExactly};
+ghost use Rattle.metal_machines.specs.Machine.{Machine};
+ghost use Rattle.relevant_steps.specs.Steps.{Base};
+
+use crate::blocks::add_in_blocks;
+use crate::items::item;
+use function_tables::FunctionTable;
+use objects::Object;
+use programs::Program;
+use reached_blocks::reached;
+use std::alloc::{AllocError, Global};
+
+// Puts last what rules bind in the blocks of a function that control reaches.
+fn add_in_function(
+    alloc: Global,
+    found: &mut Vec<(u32, Object)>,
+    table: &FunctionTable,
+    number: u32,
+) -> Result<(), AllocError>
+    ensures { IfOk result (λ _. (m : Machine) (depth : ℕ) (ts : List Text) (d : Defined) → AreBlockTables m depth ts d (graph_in table.now.graph).blocks table.now.blocks.items → Adds (BoundOf m depth number ts d (graph_in table.now.graph)) found.old.items found.new.items) }
+{
+    let blocks = reached(alloc, &table.graph)?;
+    add_in_blocks(
+        alloc,
+        found,
+        table.blocks.as_slice(),
+        blocks.as_slice(),
+        number,
+    )
+}
+
+// Puts last what rules bind in the function with this number.
+fn add_with_number(
+    alloc: Global,
+    found: &mut Vec<(u32, Object)>,
+    tables: &[FunctionTable],
+    number: u32,
+) -> Result<(), AllocError>
+    ensures { IfOk result (λ _. (c : Checker) (ts : List Text) → AreTables c.machine c.depth ts tables.now → Adds (BoundWith c ts (map (λ t. graph_in t.graph) tables.now) number) found.old.items found.new.items) }
+{
+    match item(tables, number) {
+        Some(table) => add_in_function(alloc, found, table, number),
+        None => Ok(()),
+    }
+}
+
+/// The objects that the rules of a checker bind in the functions of a program, each with the number of its function: at each event of a
+/// block that control reaches, whatever the state. One may stand there more than once. The only fault is want of memory.
+pub fn bound(
+    alloc: Global,
+    program: &Program,
+    tables: &[FunctionTable],
+) -> Result<Vec<(u32, Object)>, AllocError>
+    ensures { IfOk result (λ list. (c : Checker) → AreTables c.machine c.depth (texts_of program.now.units.items) tables.now → IsExactly list.items (Base c (texts_of program.now.units.items) (map (λ t. graph_in t.graph) tables.now))) }
+{
+    let mut found = Vec::new(alloc);
+    for number in 0..program.count() {
+        add_with_number(alloc, &mut found, tables, number)?;
+    }
+    Ok(found)
+}
