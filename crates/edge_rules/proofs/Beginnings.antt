@@ -1,5 +1,5 @@
 -- Roots and the edges with which they begin.
-use Rattle.std.proofs.Common.{◌≡◌, ◌↔◌, ◌⊎◌, inl, inr, ℕ, ◌<◌, ◌+◌, ◌++◌, take, get_or, Bool, true, List, [], ◌∷◌, map, length, slice_get, Contains, Option, None, Some, refl, sym, ap, subst, ◌∙◌}
+use Rattle.std.proofs.Common.{◌≡◌, inl, inr, ℕ, ◌<◌, ◌+◌, ◌++◌, take, get_or, true, List, [], map, length, slice_get, Contains, Option, None, Some, refl, sym, ap, subst, ◌∙◌}
 use Rattle.std.proofs.lemmas.Option.{slice_get_within, slice_get-get_or, get_or_from_slice_get}
 use Rattle.std.specs.Option.{option_map}
 use Rattle.c_objects.specs.Objects.{Object}
@@ -15,9 +15,9 @@ use Rattle.checker_programs.specs.Texts.{Text, function_of, functions_in}
 use Rattle.flow_graph.specs.Seen.{graph_in}
 use Rattle.least_set.specs.Logs.{IsExactly, SomeGives}
 use Rattle.path_edges.specs.declared.edges.Edge.{Edge}
-use Rattle.path_edges.specs.Edges.{edge_in, tuple_in}
+use Rattle.path_edges.specs.Edges.{tuple_in}
 use Rattle.path_edges.specs.Relations.{Begins}
-use Rattle.path_theory.specs.Facts.{FactOf, NoObject, HasObject}
+use Rattle.path_theory.specs.Facts.{FactOf}
 use Rattle.path_theory.specs.Flows.{Starts, StartsNone, StartsUnknown}
 use Rattle.programs.specs.declared.functions.FnId.{FnId}
 use Rattle.engine_tables.specs.declared.frames.Frame.{Frame}

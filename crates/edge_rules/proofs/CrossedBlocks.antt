@@ -1,10 +1,9 @@
 -- From the tuples that flow over a block's events to those that stand behind an edge, and back.
-use Rattle.std.proofs.Common.{◌≡◌, ℕ, Bool, List, [], ◌∷◌, map, slice_get, Option, None, Some, refl, sym, ap, subst, ◌∙◌, Contains}
+use Rattle.std.proofs.Common.{◌≡◌, List, [], map, slice_get, None, Some, sym, ap, subst, ◌∙◌}
 use Rattle.block_flows.specs.Ends.{IsEnd}
-use Rattle.c_objects.specs.Objects.{Object}
 use Rattle.c_paths.specs.BlockGraphs.{events_at}
 use Rattle.c_paths.specs.Building.{Graph}
-use Rattle.checker_graphs.specs.Graphs.{flow_graphs, function_at, graph_at}
+use Rattle.checker_graphs.specs.Graphs.{flow_graphs, function_at}
 use Rattle.checker_model.specs.Checkers.{model, origins}
 use Rattle.checker_model.specs.Happenings.{Function, Happening}
 use Rattle.checker_model.specs.Reports.{Checker}
@@ -18,12 +17,11 @@ use Rattle.path_edges.specs.Edges.{edge_in, tuple_in}
 use Rattle.path_theory.specs.BlockEdges.{Crosses}
 use Rattle.engine_tables.specs.declared.frames.Frame.{Frame}
 use Rattle.engine_tables.specs.declared.tables.Tables.{Tables}
-use Rattle.engine_tables.specs.Known.{AreKnown, IsFrame, checker_in, texts_in, graphs_in}
+use Rattle.engine_tables.specs.Known.{checker_in, texts_in, graphs_in}
 use Rattle.edge_steps.specs.Steps.{StandsBehind}
 use Rattle.edge_steps.proofs.Lists.{exactly-same, exactly-none}
 use Rattle.engine_tables.proofs.Places.{IsPlace, named}
 use Rattle.state_tuples.specs.declared.tuple.Tuple.{Tuple}
-use Rattle.tabulation_rules.specs.Rules.{Behind}
 use Rattle.tuple_flows.specs.Facts.{listed}
 
 one-function : (f g : Function) → Some f ≡ Some g → f ≡ g

@@ -1,9 +1,8 @@
 -- Ends of called frames.
-use Rattle.std.proofs.Common.{◌≡◌, ◌↔◌, ℕ, Bool, true, false, ◌||◌, not, true≢false, List, [], ◌∷◌, slice_get, Option, None, Some, refl, sym, ap, subst, ◌∙◌}
+use Rattle.std.proofs.Common.{◌≡◌, ◌↔◌, ℕ, Bool, true, false, ◌&&◌, not, true≢false, List, slice_get, Option, None, Some, refl, sym, ap, subst, ◌∙◌}
 use Rattle.std.specs.Option.{option_map}
 use Rattle.c_paths.specs.Building.{Graph}
 use Rattle.c_paths.specs.Events.{Event}
-use Rattle.c_paths.specs.Fragments.{Has}
 use Rattle.c_paths.specs.Graphs.{Block, Ending, ToAny, Calls, Stops}
 use Rattle.checker_graphs.specs.Graphs.{function_at, graph_at}
 use Rattle.checker_model.specs.Happenings.{Function}
@@ -12,7 +11,7 @@ use Rattle.checker_programs.specs.Texts.{Text, function_of}
 use Rattle.flow_graph.specs.Seen.{graph_in}
 use Rattle.path_edges.specs.declared.edges.Context.{Context}
 use Rattle.path_edges.specs.declared.edges.Edge.{Edge}
-use Rattle.path_edges.specs.Edges.{context_in, edge_in}
+use Rattle.path_edges.specs.Edges.{context_in}
 use Rattle.path_edges.specs.Relations.{IsEndOf}
 use Rattle.engine_tables.specs.declared.frames.Frame.{Frame}
 use Rattle.engine_tables.specs.declared.tables.Tables.{Tables}
@@ -45,12 +44,14 @@ stops-last bs b h = last-there bs b (stop-ending _ h)
 pub last-stops : (bs : List Block) (b : ℕ) → IsLast bs b → is_stop (option_map (λ x. x.ending) (slice_get bs b)) ≡ true
 last-stops bs b h = ap is_stop (last-ending bs b h)
 
--- by the test
-pub never-last : (bs : List Block) (b : ℕ) (r : Bool) → r ≡ is_stop (option_map (λ x. x.ending) (slice_get bs b)) → r ≡ false → IsLast bs b → ⊥
-never-last bs b r e n h = true≢false (sym (last-stops bs b h) ∙ sym e ∙ n)
+-- a called frame that ends behind a block
+pub ends-called : (root : Bool) (bs : List Block) (b : ℕ) (r : Bool) → r ≡ (not root && is_stop (option_map (λ x. x.ending) (slice_get bs b))) → r ≡ true → (root ≡ false) × IsLast bs b
+ends-called true bs b r e h = absurd (true≢false (sym h ∙ e))
+ends-called false bs b r e h = (refl, stops-last bs b (sym e ∙ h))
 
-pub then-last : (bs : List Block) (b : ℕ) (r : Bool) → r ≡ is_stop (option_map (λ x. x.ending) (slice_get bs b)) → r ≡ true → IsLast bs b
-then-last bs b r e n = stops-last bs b (sym e ∙ n)
+pub never-called : (root : Bool) (bs : List Block) (b : ℕ) (r : Bool) → r ≡ (not root && is_stop (option_map (λ x. x.ending) (slice_get bs b))) → r ≡ false → IsLast bs b → root ≡ false → ⊥
+never-called true bs b r e n last called = true≢false called
+never-called false bs b r e n last called = true≢false (sym (last-stops bs b last) ∙ sym e ∙ n)
 
 one-function : (f g : Function) → Some f ≡ Some g → f ≡ g
 one-function f g e = cc

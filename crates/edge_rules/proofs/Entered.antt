@@ -1,5 +1,5 @@
 -- The edges with which a callee is entered, as lists.
-use Rattle.std.proofs.Common.{◌≡◌, ℕ, false, List, map, Contains, sym, subst}
+use Rattle.std.proofs.Common.{◌≡◌, ℕ, false, List, map, Contains, sym, ap, subst, ◌∙◌}
 use Rattle.c_objects.specs.Objects.{Object}
 use Rattle.checker_model.specs.Happenings.{Function, Site}
 use Rattle.checker_model.specs.Reports.{Checker}
@@ -19,3 +19,7 @@ entries-exactly c s h objects k b t entries list exact e =
       λ d m. let x = map-contains (frame_edge false k b) entries d m in record { entry = x.0; entered = exact.0 x.0 x.1; is = x.2 },
       λ d q. subst (λ (z : Edge). Contains (map (frame_edge false k b) entries) z) q.is (contains-map (frame_edge false k b) entries q.entry (exact.1 q.entry q.entered)),
     )
+
+-- the same numbers and entries
+pub of-entries : (k b first : ℕ) (entries seen : List Tuple) (list : List Edge) → b ≡ first → seen ≡ entries → list ≡ map (frame_edge false k b) seen → list ≡ map (frame_edge false k first) entries
+of-entries k b first entries seen list e s is = is ∙ ap (λ (n : ℕ). map (frame_edge false k n) seen) e ∙ ap (map (frame_edge false k first)) s

@@ -1,5 +1,5 @@
 -- What an edge leads to, by how its block ends.
-use Rattle.std.proofs.Common.{◌≡◌, ℕ, false, List, [], ◌∷◌, map, Contains, Option, None, Some, slice_get, refl, sym, ap, subst, ◌∙◌}
+use Rattle.std.proofs.Common.{◌≡◌, ℕ, false, List, [], ◌∷◌, map, Option, None, Some, slice_get, refl, sym, ap, subst, ◌∙◌}
 use Rattle.std.specs.Prelude.{flat_map}
 use Rattle.std.specs.Option.{option_map}
 use Rattle.c_objects.specs.Objects.{Object}
@@ -8,11 +8,12 @@ use Rattle.c_paths.specs.Events.{Event}
 use Rattle.c_paths.specs.Fragments.{Has}
 use Rattle.c_paths.specs.Graphs.{Block, Ending, ToAny, Calls, Stops}
 use Rattle.c_tree.specs.Node.{Node}
+use Rattle.c_typing.specs.Options.{◌>?◌}
 use Rattle.checker_graphs.specs.Graphs.{flow_graphs, function_at, graph_at}
 use Rattle.checker_graphs.proofs.Numbers.{one-number}
 use Rattle.checker_model.specs.Checkers.{model, origins}
 use Rattle.checker_model.specs.Choices.{State}
-use Rattle.checker_model.specs.Happenings.{Function, Site}
+use Rattle.checker_model.specs.Happenings.{Function}
 use Rattle.checker_model.specs.Reports.{Checker}
 use Rattle.checker_programs.specs.Relevant.{Relevant}
 use Rattle.checker_programs.specs.Roots.{followed_into}
@@ -48,6 +49,9 @@ one-call n m next b e = cc
 no-block : (o : Option Block) (b : Block) → option_map (λ (x : Block). x.ending) o ≡ None → o ≡ Some b → ⊥
 no-block None b e h = cc
 no-block (Some a) b e h = cc
+
+pub none-into : {A : Type 0} (g : A → Option Function) (o : Option A) → o ≡ None → None ≡ (o >? g)
+none-into g o e = sym (ap (λ x. x >? g) e)
 
 -- an edge in a function that isn't there leads to none
 pub no-function-leads : (c : Checker) (ts : List Text) (gs : List Graph) (a : Edge) → function_at ts a.context.function ≡ None → IsExactly [] (LeadsTo c ts gs a)

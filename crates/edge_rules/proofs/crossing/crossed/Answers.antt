@@ -1,4 +1,4 @@
-use Rattle.std.proofs.Common.{◌∙◌, sym, subst, ap, List, slice_get}
+use Rattle.std.proofs.Common.{◌∙◌, sym, subst, ap, slice_get}
 use Rattle.std.specs.Option.{option_copied}
 use Rattle.block_flows.specs.Events.{AreOfEvents}
 use Rattle.checker_programs.specs.Texts.{function_of}

@@ -1,9 +1,10 @@
-use Rattle.std.proofs.Common.{◌∙◌, ap, map}
-use Rattle.edge_rules.proofs.Entered.{entries-exactly}
+use Rattle.edge_rules.proofs.Entered.{entries-exactly, of-entries}
 use Rattle.edge_rules.proofs.entering.entered_with.Goals as goal
-use Rattle.edge_steps.specs.Steps.{frame_edge}
 use Rattle.engine_tables.proofs.Places.{if-ok}
-use Rattle.flow_graph.specs.Seen.{graph_in}
 
 pub returns : goal.returns
-returns c = ?
+returns c =
+    let f = c.args.callee.now in
+    if-ok _ _ c.entered.result
+    (λ list x k s h e i. entries-exactly k s h f.frame.objects.now f.number _ c.args.tuple.now c.in_ok-entries.entries.items list.items (c.in_ok-entries.ensures k s h e i) (of-entries f.number _ _ _ _ list.items c.entry.ensures.number c.as_slice.ensures.value x))
+    c.entered.ensures
