@@ -1,8 +1,7 @@
 //! Who waits at a call.
 
-ghost use Rattle.std.specs.Prelude.{◌≡◌, ◌≤◌, IfOk, IfSome, None, Some};
+ghost use Rattle.std.specs.Prelude.{◌≡◌, ◌≤◌, IfOk, IfSome, None};
 ghost use Rattle.c_objects.specs.Objects.{Object as Form};
-ghost use Rattle.checker_model.specs.Calls.{out};
 ghost use Rattle.checker_model.specs.Happenings.{Function, Site as Call};
 ghost use Rattle.checker_model.specs.Reports.{Checker};
 ghost use Rattle.edge_steps.specs.Steps.{StandsBehind, wait_for};

@@ -1,7 +1,6 @@
 //! How an end of a callee wakes who waits for it.
 
-ghost use Rattle.std.specs.Prelude.{◌≡◌, ◌≤◌, IfOk, None, Some};
-ghost use Rattle.checker_graphs.specs.Graphs.{function_at};
+ghost use Rattle.std.specs.Prelude.{◌≡◌, ◌≤◌, IfOk, None};
 ghost use Rattle.checker_model.specs.Happenings.{Function, Site as Call};
 ghost use Rattle.checker_model.specs.Reports.{Checker};
 ghost use Rattle.edge_steps.specs.Steps.{StandsBehind, woken_edge};
@@ -9,7 +8,6 @@ ghost use Rattle.engine_tables.specs.Known.{AreKnown, IsFrame, checker_in, texts
 ghost use Rattle.least_set.specs.Logs.{IsExactly, SomeGives};
 ghost use Rattle.path_edges.specs.declared.edges.Edge.{Edge as End};
 ghost use Rattle.path_edges.specs.Relations.{IsWoken};
-ghost use Rattle.refine_restore.specs.Sites.{site_of};
 ghost use Rattle.state_tuples.specs.declared.tuple.Tuple.{Tuple as Ended};
 ghost use Rattle.tuple_flows.specs.Passed.{IsReturned, IsSite};
 ghost use Rattle.wait_rules.specs.Waiters.{put_back};

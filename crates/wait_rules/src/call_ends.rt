@@ -1,6 +1,6 @@
 //! Blocks that end in calls.
 
-ghost use Rattle.std.specs.Prelude.{◌≡◌, slice_get};
+ghost use Rattle.std.specs.Prelude.{◌≡◌};
 ghost use Rattle.std.specs.Option.{option_map};
 ghost use Rattle.c_paths.specs.Graphs.{Calls};
 ghost use Rattle.c_tree.specs.Views.{node_of};

@@ -1,8 +1,8 @@
 //! The calls at which waiters stand, as far as they hand states back.
 
-ghost use Rattle.std.specs.Prelude.{◌≡◌, ◌<◌, [], None, IfSome, length, slice_get};
+ghost use Rattle.std.specs.Prelude.{◌≡◌, [], None, IfSome};
 ghost use Rattle.checker_graphs.specs.Graphs.{function_at};
-ghost use Rattle.engine_tables.specs.Known.{AreKnown, IsFrame, checker_in, texts_in, graphs_in};
+ghost use Rattle.engine_tables.specs.Known.{AreKnown, IsFrame, texts_in, graphs_in};
 ghost use Rattle.path_edges.specs.Edges.{site_at};
 ghost use Rattle.refine_restore.specs.Sites.{site_of};
 ghost use Rattle.wait_rules.specs.Handing.{HandBackAlike};
