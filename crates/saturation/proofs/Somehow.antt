@@ -1,5 +1,5 @@
 -- What follows as far as the tables are known follows somehow.
-use Rattle.std.proofs.Common.{◌≡◌, ◌↔◌, Bool, true, List, Option, None, Some, Result, Ok, Err, IfOk, ap, ◌∙◌}
+use Rattle.std.proofs.Common.{◌≡◌, ◌↔◌, List, Option, None, Some, ap, ◌∙◌}
 use Rattle.std.proofs.Math.Bool.{Bool-set}
 use Rattle.std.proofs.Math.Logic.{∥∥₁_map, ∥∥₁_elim}
 use Rattle.std.proofs.lemmas.Option.{same_Some}

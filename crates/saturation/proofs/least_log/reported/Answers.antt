@@ -1,4 +1,4 @@
-use Rattle.std.proofs.Common.{List, sym, subst}
+use Rattle.std.proofs.Common.{subst}
 use Rattle.engine_tables.specs.Known.{AreKnown, checker_in, texts_in, graphs_in}
 use Rattle.least_set.specs.Logs.{IsExactly, SomeGives}
 use Rattle.path_edges.specs.Relations.{ShowsAt}
