@@ -1,5 +1,5 @@
 -- The files of a request that were read and have no fault of their own: they can be linked, or have the fault of linking.
-use Rattle.std.proofs.Common.{◌≡◌, ◌⊎◌, inr, ℕ, suc, ◌+◌, List, [], ◌∷◌, ◌++◌, length, Option, None, refl, ap, arith, length-append}
+use Rattle.std.proofs.Common.{◌≡◌, inr, ℕ, suc, ◌+◌, List, [], ◌∷◌, ◌++◌, length, Option, None, refl, ap, arith, length-append}
 use Rattle.mx_base.specs.Names.{HasNoRepeats}
 use Rattle.checker_programs.specs.Reported.{AreReports}
 use Rattle.checker_programs.specs.Texts.{Text, functions_in}

@@ -1,12 +1,7 @@
-use Rattle.std.proofs.Common.{length, map, ap, sym, ◌∙◌, subst, arith}
+use Rattle.std.proofs.Common.{length, ap, arith}
 use Rattle.std.proofs.lemmas.List.{length-map}
-use Rattle.checker_programs.specs.Reported.{AreReports}
-use Rattle.checker_programs.specs.Texts.{functions_in}
-use Rattle.checker_reports.specs.Checkers.{checkers_in}
-use Rattle.judged_files.specs.FirstFault.{AnswersUnlinked}
-use Rattle.judged_files.specs.Linking.{HaveToken}
 use Rattle.metal_tree.specs.Whole.{machine_view}
-use Rattle.request_files.specs.Views.{machines_of, text_of, texts_of, words_of}
+use Rattle.request_files.specs.Views.{machines_of, text_of, texts_of}
 use Rattle.judged_files.proofs.Accepting.{accepted, as_many_machines, as_many_texts, unlinked}
 use Rattle.judged_files.proofs.Texts.{few_in_all, have_token}
 use Rattle.judged_files.proofs.judging.judge_files.Goals as goal

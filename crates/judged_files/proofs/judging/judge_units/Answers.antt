@@ -1,4 +1,4 @@
-use Rattle.std.proofs.Common.{length, map, ap, sym, ◌∙◌, subst, arith}
+use Rattle.std.proofs.Common.{length, ap, ◌∙◌, subst, arith}
 use Rattle.checker_programs.specs.Reported.{AreReports}
 use Rattle.checker_programs.specs.Texts.{functions_in}
 use Rattle.checker_programs.specs.Units as units
