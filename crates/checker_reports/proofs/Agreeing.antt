@@ -1,5 +1,5 @@
 -- Reports of the checkers of a request that compare `Equal` are the same.
-use Rattle.std.proofs.Common.{◌≡◌, ◌⊎◌, inl, inr, ◌<◌, ◌≤◌, ℕ, suc, List, [], ◌∷◌, Option, Some, refl, sym, ap, subst, ◌∙◌, arith}
+use Rattle.std.proofs.Common.{◌≡◌, inl, inr, ◌≤◌, ℕ, suc, List, [], ◌∷◌, Some, sym, ap, subst, ◌∙◌, arith}
 use Rattle.c_objects.specs.Text.{text_of}
 use Rattle.c_paths.specs.Membership.{Among}
 use Rattle.c_tree.specs.declared.token.Token.{Token}

@@ -5,7 +5,6 @@ use Rattle.std.specs.Cmp.Lexicographic.{slice_cmp}
 use Rattle.std.specs.Ordering.{MatchOrdering, nat_cmp, ordering_then}
 use Rattle.std.specs.declared.cmp.Ordering.{Ordering}
 use Rattle.std.specs.declared.cmp.Ordering.TheVariants.{Less, Equal, Greater}
-use Rattle.c_tree.specs.declared.place.Place.{Place}
 use Rattle.report_model.specs.Order.{object_cmp, report_cmp, text_cmp}
 use Rattle.report_model.specs.declared.report.Report.{Report}
 

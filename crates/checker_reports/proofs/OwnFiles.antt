@@ -1,7 +1,6 @@
 -- The tokens of a program's units stand in the files of these.
 use Rattle.std.proofs.Common.{◌≡◌, ◌+◌, ℕ, zero, suc, List, [], ◌∷◌, Some, slice_get, Bor, refl, subst, arith}
 use Rattle.std.proofs.Math.Logic.{∥∥₁_map, ∥∥₁_map₂}
-use Rattle.std.specs.Prelude.{⊤}
 use Rattle.c_tree.specs.TokenPlaces.{AreOfFile}
 use Rattle.checker_programs.specs.Texts.{Text, tokens_of}
 use Rattle.checker_programs.specs.Units.{texts_of}

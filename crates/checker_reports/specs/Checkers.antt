@@ -8,6 +8,6 @@ abbrev pub numbered_from : ℕ → List Machine → ℕ → List (List ℕ) → 
 numbered_from number [] depth names = []
 numbered_from number (m ∷ ms) depth names = record { number = number; machine = m; depth = depth; names = names } ∷ numbered_from (suc number) ms depth names
 
--- THE CHECKERS of these machines, numbered from 0 on in their order; their objects have at most so many steps, and names have these texts
+-- THE CHECKERS of these machines, numbered from 0 on in their order; their objects have at most so many selectors, and names have these texts
 abbrev pub checkers_in : List Machine → ℕ → List (List ℕ) → List Checker
 checkers_in machines depth names = numbered_from 0 machines depth names

@@ -36,7 +36,7 @@ fn gathered<'u, 'a>(
 }
 
 /// The reports of checkers over a program, in the order in which they are printed, each once. The checkers are numbered from 0 on in
-/// the order of their machines, and their objects have at most `depth` steps. The only fault is want of memory.
+/// the order of their machines, and their objects have at most `depth` selectors. The only fault is want of memory.
 pub fn all_reports<'u, 'a>(
     alloc: Global,
     program: &Program<'u, 'a>,

@@ -1,6 +1,6 @@
-//! The reports of a checker over a program.
+//! The reports of one checker over a program.
 #![tactic(auto)]
 
-mod saturated;
+mod checked_programs;
 
-pub use saturated::reports_of;
+pub use checked_programs::reports_of;

@@ -1,0 +1,32 @@
+//! A program under a checker, from its trees to its reports.
+
+ghost use Rattle.std.specs.Prelude.{◌≤◌, ◌↔◌, Contains, IfOk};
+ghost use Rattle.checker_model.specs.Checkers.{model};
+ghost use Rattle.checker_programs.specs.Paths.{program as paths};
+ghost use Rattle.checker_programs.specs.Units.{texts_of};
+ghost use Rattle.path_theory.specs.Paths.{Reported};
+ghost use Rattle.program_reports.specs.Reporting.{checker_of};
+ghost use Rattle.report_model.specs.declared.report.Report.{Report as Said};
+
+use metal_tree::Machine;
+use mx_base::Names;
+use programs::Program;
+use report_model::Report;
+use std::alloc::{AllocError, Global};
+
+/// The reports of a checker over a program: exactly those that some path of the program takes, in no order, and one may be there more than
+/// once. The number is the checker's place among those of the command, from 0 on, the names have the texts of all names, and objects have at
+/// most `depth` selectors. The only fault is want of memory.
+pub fn reports_of<'u, 'a>(
+    alloc: Global,
+    program: &Program<'u, 'a>,
+    machine: &Machine<'u>,
+    number: u16,
+    names: &Names,
+    depth: u8,
+) -> Result<Vec<Report>, AllocError>
+    requires { depth ≤ 8 }
+    ensures { IfOk result (λ list. ∥ ((r : Said) → Contains list.items r ↔ Reported (model (checker_of number machine.now names.now depth)) (paths (checker_of number machine.now names.now depth) (texts_of program.now.units.items)) r) ∥₁) }
+{
+    Err(AllocError)
+}
