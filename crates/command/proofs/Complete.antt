@@ -10,11 +10,11 @@ use Rattle.command.specs.declared.status.Status.{Status}
 use Rattle.command.specs.declared.status.Status.TheVariants.{Clean, Reports, Usage, Refused, ReadFault, WriteFault, NoMemory}
 use Rattle.command.proofs.GivenCommands.{one_command}
 use Rattle.command.proofs.Turns.{all_turns}
-use Rattle.judged_files.specs.FirstFault.{IsFirstFault, HaveLinkFaultAt}
+use Rattle.judged_files.specs.FirstFault.{IsFirstFault}
 use Rattle.judged_files.specs.Judged.{AreAccepted, AreAllSound, AreJudged, AreLinked}
 use Rattle.judged_files.specs.Linking.{HaveLinkFault}
 use Rattle.request_files.specs.Faults.{Located, total_limit}
-use Rattle.request_files.specs.Reading.{Agree, AreFrom, AreSound, FaultyAt, IsFaultless, IsSound, UnsoundAt, left_after}
+use Rattle.request_files.specs.Reading.{Agree, AreFrom, FaultyAt, IsFaultless, IsSound, UnsoundAt, left_after}
 use Rattle.request_files.specs.Turns.{Turn}
 
 -- what agrees with told contents is what is told

@@ -1,9 +1,8 @@
 -- What words give: one command at most, of objects with at most 8 steps and of at most 80 files.
 use Rattle.std.proofs.Common.{◌≡◌, ℕ, ◌+◌, ◌-◌, ◌≤◌, Bool, true, false, ◌&&◌, not, cond, nat_le, List, [], ◌∷◌, length, Option, None, Some, ap, refl, sym, ◌∙◌, subst, true≢false, arith}
-use Rattle.std.specs.List.{list_all, position}
-use Rattle.std.specs.Str.{bytes_eq}
+use Rattle.std.specs.List.{list_all}
 use Rattle.std.proofs.lemmas.Bool.{leb-true}
-use Rattle.command_words.specs.Words.{Setting, DepthApart, DepthJoined, FormatApart, FormatJoined, Stats, is_setting, is_depth_digit, is_checker_word, is_source_word, starts_with_minus, are_few, counted, depths, IsOnly, depth_or_usual, Request, IsRequest}
+use Rattle.command_words.specs.Words.{Setting, DepthApart, DepthJoined, FormatApart, FormatJoined, Stats, is_setting, is_depth_digit, is_checker_word, is_source_word, starts_with_minus, counted, depths, IsOnly, depth_or_usual, Request, IsRequest}
 use Rattle.command_words.proofs.Sound.{one_request}
 use Rattle.command.specs.Commands.{Command, IsCommand, IsPlace}
 

@@ -5,7 +5,7 @@ use Rattle.report_model.specs.declared.report.Report.{Report}
 use Rattle.command.specs.declared.status.Status.{Status}
 use Rattle.command.specs.declared.status.Status.TheVariants.{Clean, Reports, Usage, Refused, ReadFault, WriteFault, NoMemory}
 use Rattle.command.specs.Commands.{Command, IsCommand, GiveNone}
-use Rattle.command.specs.Due.{IsDue, IsDueFor, IsMisused, HasTask, IsReported, IsRefused, IsLacking}
+use Rattle.command.specs.Due.{IsDue, IsDueFor, HasTask, IsReported, IsRefused, IsLacking}
 use Rattle.command.specs.Ran.{Ran, IsEmptied, Leaves, ReporterStep, Prints, Misuses, Refuses, Misses}
 use Rattle.command.specs.Written.{SinkStep, Written, Took, IsStill}
 

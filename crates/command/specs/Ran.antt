@@ -1,8 +1,8 @@
 -- What a run does: it stops for want of memory before the first write, or carries out what it is due.
-use Rattle.std.specs.Prelude.{◌≡◌, ◌≢◌, ℕ, ◌⊎◌, List, [], ◌∷◌, slice_get, Option, Some, IfSome}
+use Rattle.std.specs.Prelude.{◌≡◌, ◌≢◌, ℕ, ◌⊎◌, List, [], ◌∷◌, Option, Some}
 use Rattle.mx_io.specs.Causes.{Rose}
 use Rattle.report_model.specs.declared.report.Report.{Report}
-use Rattle.command.specs.Commands.{Command, IsCommand, GiveNone, checkers_of, sources_of}
+use Rattle.command.specs.Commands.{Command, IsCommand, checkers_of, sources_of}
 use Rattle.command.specs.Due.{IsDue, IsMisused, IsReported, IsRefused, IsLacking, FailedInTurn, usage_line}
 use Rattle.command.specs.Rendered.{IsText}
 use Rattle.command.specs.declared.status.Status.{Status}

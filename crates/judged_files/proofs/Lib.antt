@@ -1,3 +1,4 @@
+mod Accepting
 mod Defining
 mod Linked
 mod Located

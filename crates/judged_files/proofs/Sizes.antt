@@ -1,5 +1,5 @@
 -- There are no more tokens than bytes.
-use Rattle.std.proofs.Common.{◌≡◌, ◌≢◌, ℕ, zero, suc, ◌+◌, ◌≤◌, Bool, true, false, List, [], ◌∷◌, ◌++◌, length, Option, None, Some, option_to_list, option_map, refl, sym, ap, ◌∙◌, subst, arith, length-append}
+use Rattle.std.proofs.Common.{◌≡◌, ℕ, zero, suc, ◌≤◌, Bool, false, List, [], ◌∷◌, length, Option, None, Some, option_to_list, option_map, refl, sym, ap, ◌∙◌, arith, length-append}
 use Rattle.std.proofs.lemmas.Bool.{false≢true}
 use Rattle.c_tree.specs.declared.token.Token.{Token}
 use Rattle.c_tree.specs.declared.token.TokenKind.{TokenKind}
@@ -7,7 +7,7 @@ use Rattle.c_reading.specs.declared.mode.Mode.{Mode}
 use Rattle.c_reading.specs.declared.mode.Mode.TheVariants.{C}
 use Rattle.c_reading.specs.Punctuators.{punctuator_of, punctuators}
 use Rattle.c_reading.specs.Pieces.{Piece, Space, Comment, LineComment, MarkerLine, Spelling, bytes_of, Here, behind}
-use Rattle.c_reading.specs.Reading.{Cuts, IsNext, Lexeme, lexeme_at, lexeme_of, lexemes}
+use Rattle.c_reading.specs.Reading.{Cuts, IsNext, lexeme_at, lexeme_of, lexemes}
 use Rattle.c_reading.specs.Spellings.{is_spelling, is_word, is_number, is_literal, kind_of}
 use Rattle.c_reading.specs.Strip.{stripped, stripped_behind, if_dropped, dropped_with, kept}
 

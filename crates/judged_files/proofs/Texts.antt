@@ -1,5 +1,5 @@
 -- The texts of C files: there are few functions in them, and the name of each is a token whose presumed file is a name.
-use Rattle.std.proofs.Common.{◌≡◌, ℕ, zero, suc, ◌+◌, ◌-◌, ◌≤◌, ◌<◌, ◌⊎◌, inl, inr, List, [], ◌∷◌, ◌++◌, length, min, Contains, Option, None, Some, slice_get, refl, sym, ap, ◌∙◌, subst, arith, length-append}
+use Rattle.std.proofs.Common.{◌≡◌, ℕ, zero, suc, ◌+◌, ◌-◌, ◌≤◌, ◌<◌, ◌⊎◌, inl, inr, List, [], ◌∷◌, ◌++◌, length, Contains, Option, Some, slice_get, refl, sym, ap, ◌∙◌, subst, arith, length-append}
 use Rattle.std.proofs.lemmas.List.Elements.{Contains-append_cases}
 use Rattle.c_places.specs.Lines.{row_line}
 use Rattle.c_places.specs.Stands.{Stands}
@@ -7,10 +7,8 @@ use Rattle.c_tree.specs.declared.token.Token.{Token}
 use Rattle.c_reading.specs.Pieces.{beginning}
 use Rattle.c_reading.specs.Reading.{lexemes}
 use Rattle.c_reading.specs.declared.mode.Mode.TheVariants.{C}
-use Rattle.c_reading.specs.Strip.{stripped}
 use Rattle.c_typing.specs.Functions.{Defined, functions_of}
 use Rattle.checker_programs.specs.Texts.{Text, functions_in}
-use Rattle.judged_files.specs.Judged.{HaveMeanings, AreAllSound}
 use Rattle.judged_files.specs.Linking.{HaveToken}
 use Rattle.judged_files.proofs.Defining.{Each, each-also, IsNamedAt, AreNamedAt, few_functions, functions_named}
 use Rattle.judged_files.proofs.Sizes.{few_lexemes, few_stripped}

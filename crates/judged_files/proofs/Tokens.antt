@@ -1,11 +1,10 @@
 -- The tokens of a file: they are of this file, and their presumed files are names.
-use Rattle.std.proofs.Common.{◌≡◌, ℕ, zero, suc, ◌+◌, ◌≤◌, List, [], ◌∷◌, ◌++◌, length, Contains, Option, None, Some, slice_get, refl, ap, subst, arith}
-use Rattle.std.specs.Prelude.{⊤}
+use Rattle.std.proofs.Common.{◌≡◌, ℕ, zero, suc, ◌+◌, List, [], ◌∷◌, length, Contains, Option, None, Some, slice_get, refl, ap}
 use Rattle.c_tree.specs.declared.token.Token.{Token}
 use Rattle.c_reading.specs.Reading.{Lexeme}
 use Rattle.c_reading.specs.Strip.{stripped, stripped_behind, if_dropped, dropped_with, kept}
 use Rattle.c_lexer.specs.Tokens.{AreTokens}
-use Rattle.judged_files.proofs.Defining.{Each, each-also, each-among}
+use Rattle.judged_files.proofs.Defining.{Each, each-among}
 
 -- of the file with this number, presumed in a file that names have
 abbrev pub IsOf : ℕ → List (List ℕ) → Token → Type 0

@@ -1,5 +1,5 @@
 -- THE FAULT OF LINKING: a function is defined a second time, in its file or with external linkage in both (ISO 9899:1990, 6.7).
-use Rattle.std.specs.Prelude.{◌≡◌, ℕ, List, Contains, Option, None, Some, slice_get}
+use Rattle.std.specs.Prelude.{◌≡◌, ℕ, List, Contains, Some, slice_get}
 use Rattle.c_tree.specs.declared.place.Place.{Place}
 use Rattle.c_tree.specs.declared.token.Token.{Token}
 use Rattle.checker_programs.specs.Texts.{Text, functions_in}

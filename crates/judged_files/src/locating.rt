@@ -1,6 +1,6 @@
 //! Where a function is defined again.
 
-ghost use Rattle.std.specs.Prelude.{◌≡◌, ◌<◌, Contains, IfOk, get_or, length};
+ghost use Rattle.std.specs.Prelude.{◌≡◌, Contains, IfOk};
 ghost use Rattle.c_tree.specs.declared.token.Token.{Token as TokenValue};
 ghost use Rattle.judged_files.specs.Linking.{HaveToken, IsWhere};
 ghost use Rattle.request_files.specs.Views.{texts_of};
@@ -11,17 +11,17 @@ use request_files::{Fault, LocatedFault};
 use std::alloc::{AllocError, Global};
 use typed_unit::TypedUnit;
 
-/// The position of the token at a place.
-fn position_at(tokens: &[Token], place: Place) -> usize
+/// The token at a place.
+fn token_at(tokens: &[Token], place: Place) -> Token
     requires { (t : TokenValue) × Contains tokens.now t × (t.place ≡ place) }
-    ensures within { result < length tokens.now }
-    ensures there { (d : TokenValue) → (get_or tokens.now result d).place ≡ place }
+    ensures among { Contains tokens.now result }
+    ensures there { result.place ≡ place }
 {
     let mut position = 0;
     while tokens[position].place != place {
         position += 1;
     }
-    position
+    tokens[position]
 }
 
 /// The presumed file and line of the function that is defined again at a place.
@@ -35,8 +35,7 @@ pub(crate) fn defined_again(
     ensures fault { IfOk result (λ l. l.fault ≡ Fault.DuplicateFunction) }
     ensures there { IfOk result (λ l. IsWhere names.now (texts_of units.now) place l.file.items l.line) }
 {
-    let tokens = units[place.file as usize].unit.tokens;
-    let token = tokens[position_at(tokens, place)];
+    let token = token_at(units[place.file as usize].unit.tokens, place);
     let file = Vec::from_slice(alloc, names.text_of(token.source))?;
     Ok(LocatedFault {
         fault: Fault::DuplicateFunction,

@@ -1,7 +1,7 @@
 use Rattle.std.proofs.Common.{Global, map, string_bytes, refl, inl}
 use Rattle.reporters.proofs.Appending.{on_err}
 use Rattle.command.specs.Tasks.{command_of}
-use Rattle.command.proofs.Plans.{due_for_words, failed_for_words, leaves_for_words}
+use Rattle.command.proofs.Plans.{failed_for_words, leaves_for_words}
 use Rattle.command.proofs.plan.decide.Goals as goal
 
 pub returns-in_default-clause-due : goal.returns-in_default-clause-due

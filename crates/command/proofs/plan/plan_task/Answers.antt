@@ -1,4 +1,4 @@
-use Rattle.std.proofs.Common.{Global, length, map, string_bytes, sym, ap, ◌+◌, ◌∙◌}
+use Rattle.std.proofs.Common.{length, map, string_bytes, sym, ap, ◌+◌, ◌∙◌}
 use Rattle.std.proofs.lemmas.Result.{IfOk-weaker}
 use Rattle.reporters.proofs.Appending.{on_err}
 use Rattle.command_words.specs.Words.{is_checker_word, is_source_word}

@@ -1,9 +1,9 @@
-use Rattle.std.proofs.Common.{Global, map, string_bytes, sym, ap, subst, arith}
+use Rattle.std.proofs.Common.{Global, map, string_bytes, sym, subst, arith}
 use Rattle.std.proofs.lemmas.List.{length-map}
-use Rattle.command.specs.Commands.{Command, IsCommand}
+use Rattle.command.specs.Commands.{IsCommand}
 use Rattle.command.specs.Requests.{words_at}
 use Rattle.command.specs.Tasks.{command_of}
-use Rattle.command.proofs.Positions.{by_positions, command_few, files_fewer}
+use Rattle.command.proofs.Positions.{by_positions, command_few}
 use Rattle.command.proofs.request.read_words.Goals as goal
 
 pub returns-in_default-clause-usage : goal.returns-in_default-clause-usage

@@ -1,4 +1,4 @@
-use Rattle.std.proofs.Common.{Global, map, string_bytes, sym, ap, ◌∙◌}
+use Rattle.std.proofs.Common.{Global, map, string_bytes, sym, ◌∙◌}
 use Rattle.command.proofs.GivenWords.{nothing_given, with_statistics, without_reporter, asked_deep, asked_few, only_without, only_with}
 use Rattle.command.proofs.words.task_of.Goals as goal
 

@@ -1,7 +1,7 @@
 -- the token stands among those that are left
 use Rattle.std.proofs.Common.{◌≡◌, ◌-◌, Contains, drop, length}
 use Rattle.c_tree.specs.declared.token.Token.{Token}
-use Rattle.judged_files.proofs.locating.position_at.Given as goal
+use Rattle.judged_files.proofs.locating.token_at.Given as goal
 
 abbrev pub invariant-loop-place : goal.invariant-loop-place
 invariant-loop-place l = (t : Token) × Contains (drop l.position l.tokens) t × (t.place ≡ l.place)
