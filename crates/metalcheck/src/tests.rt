@@ -1,7 +1,7 @@
 //! Whole runs over files and sinks in memory.
 
 use c_tree::Place;
-use command::{Status, run};
+use command::{Request, Status, read_words, run};
 use mx_base::Text;
 use mx_io::{MemFiles, MemSink};
 use report_model::Report;
@@ -316,5 +316,26 @@ fn failed_calls_end_the_run(rt: HostRuntime) -> Result<(), Fail> {
         )?;
         expect_lengths(&rt, &it, *status, *out, *errs);
     }
+    Ok(())
+}
+
+/// The request that words stand for, where a table and lines of JSON are handed in.
+fn request_of(alloc: Global, words: &[&str]) -> Result<Request, AllocError> {
+    let words = words_of(alloc, words)?;
+    let mut reporters: Vec<Box<dyn Reporter>> = Vec::new(alloc);
+    reporters.push(Box::new(alloc, Table::new(alloc))?)?;
+    reporters.push(Box::new(alloc, JsonLines::new(alloc))?)?;
+    match read_words(alloc, &words, &reporters) {
+        Ok(request) => Ok(request),
+        Err(_) => Err(AllocError),
+    }
+}
+
+#[test]
+fn words_are_read_by_positions(rt: HostRuntime) -> Result<(), Fail> {
+    let words = ["--depth", "2", "--format=json", "free.metal", "a.c"];
+    let request = request_of(rt.alloc(), &words)?;
+    assert!(rt; request.depth == 2 && request.format == Some(1));
+    assert!(rt; !request.stats && request.files.as_slice() == [3, 4]);
     Ok(())
 }
