@@ -336,6 +336,6 @@ fn words_are_read_by_positions(rt: HostRuntime) -> Result<(), Fail> {
     let words = ["--depth", "2", "--format=json", "free.metal", "a.c"];
     let request = request_of(rt.alloc(), &words)?;
     assert!(rt; request.depth == 2 && request.format == Some(1));
-    assert!(rt; !request.stats && request.files.as_slice() == [3, 4]);
+    assert!(rt; !request.stats && request.files.as_slice() == [3, 4].as_slice());
     Ok(())
 }
