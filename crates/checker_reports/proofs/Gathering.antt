@@ -1,34 +1,18 @@
 -- Reports of one checker after the other.
-use Rattle.std.proofs.Common.{◌≡◌, inl, inr, ◌+◌, ◌<◌, ◌≤◌, ◌↔◌, ℕ, suc, List, [], ◌∷◌, ◌++◌, length, get_or, take, map, Result, Ok, Err, IfOk, Contains, refl, sym, ap, subst, ◌∙◌, arith}
+use Rattle.std.proofs.Common.{◌≡◌, inl, inr, ◌+◌, ◌<◌, ◌≤◌, ℕ, suc, List, [], ◌∷◌, ◌++◌, length, get_or, take, map, Contains, sym, ap, subst, ◌∙◌, arith}
 use Rattle.std.proofs.Math.Logic.{∥∥₁_map₂}
 use Rattle.std.proofs.lemmas.List.{length-map, length-take-le, map_more}
 use Rattle.std.proofs.lemmas.List.Elements.{Contains-append_left, Contains-append_right, Contains-append_cases}
-use Rattle.std.specs.Prelude.{AllPairs}
-use Rattle.std.specs.declared.cmp.Ordering.TheVariants.{Less}
 use Rattle.c_paths.proofs.Listed.{among_front, among_back, among_either}
-use Rattle.checker_model.specs.Checkers.{model}
 use Rattle.checker_model.specs.Reports.{Checker}
-use Rattle.checker_programs.specs.Paths.{program}
 use Rattle.checker_programs.specs.Reported.{AreReports, IsReported}
 use Rattle.checker_programs.specs.Texts.{Text}
 use Rattle.checker_reports.specs.Checkers.{numbered_from, checkers_in}
-use Rattle.checker_reports.proofs.Agreeing.{agree}
-use Rattle.checker_reports.proofs.OwnFiles.{StandInOwnFiles}
 use Rattle.metal_machines.specs.Machine.{Machine}
 use Rattle.metal_tree.specs.Whole.{machine_view}
 use Rattle.metal_tree.specs.declared.machine.Machine as code
-use Rattle.path_theory.specs.Paths.{Reported}
-use Rattle.report_lists.specs.Repeats.{AgreeWhereEqual}
-use Rattle.report_model.specs.Order.{report_cmp}
 use Rattle.report_model.specs.declared.report.Report.{Report}
-
--- a list has the reports of these checkers, in some order
-abbrev pub HasReports : List Checker → List Text → List Report → Type 0
-HasReports cs ts all = (r : Report) → Contains all r ↔ IsReported cs ts r
-
--- those of one checker
-abbrev pub HasReportsOf : Checker → List Text → List Report → Type 0
-HasReportsOf c ts all = (r : Report) → Contains all r ↔ Reported (model c) (program c ts) r
+use Rattle.saturation.proofs.InOrder.{HasReports}
 
 module _ (ts : List Text) where
   nothing-has : (all : List Report) → all ≡ [] → HasReports [] ts all
@@ -37,21 +21,20 @@ module _ (ts : List Text) where
     λ h. absurd h.among,
   )
 
-  -- one checker more
-  one-more : (cs : List Checker) (c : Checker) (all more : List Report) → HasReports cs ts all → HasReportsOf c ts more → HasReports (cs ++ c ∷ []) ts (all ++ more)
-  one-more cs c all more old new r = (there, back)
+  -- the reports of these checkers behind those of others
+  together : (cs ds : List Checker) (all more : List Report) → HasReports cs ts all → HasReports ds ts more → HasReports (cs ++ ds) ts (all ++ more)
+  together cs ds all more old new r = (there, back)
     where
-      there : Contains (all ++ more) r → IsReported (cs ++ c ∷ []) ts r
+      there : Contains (all ++ more) r → IsReported (cs ++ ds) ts r
       there h = elim (Contains-append_cases all more r h) [
-        | inl a ↦ let x = (old r).0 a in record { checker = x.checker; among = among_front x.checker cs (c ∷ []) x.among; taken = x.taken }
-        | inr b ↦ record { checker = c; among = among_back c cs (c ∷ []) (inl refl); taken = (new r).0 b }
+        | inl a ↦ let x = (old r).0 a in record { checker = x.checker; among = among_front x.checker cs ds x.among; taken = x.taken }
+        | inr b ↦ let x = (new r).0 b in record { checker = x.checker; among = among_back x.checker cs ds x.among; taken = x.taken }
       ]
 
-      back : IsReported (cs ++ c ∷ []) ts r → Contains (all ++ more) r
-      back x = elim (among_either x.checker cs (c ∷ []) x.among) [
+      back : IsReported (cs ++ ds) ts r → Contains (all ++ more) r
+      back x = elim (among_either x.checker cs ds x.among) [
         | inl a ↦ Contains-append_left all more r ((old r).1 (record { checker = x.checker; among = a; taken = x.taken }))
-        | inr (inl e) ↦ Contains-append_right all more r ((new r).1 (subst (λ d. Reported (model d) (program d ts) r) e x.taken))
-        | inr (inr none) ↦ absurd none
+        | inr b ↦ Contains-append_right all more r ((new r).1 (record { checker = x.checker; among = b; taken = x.taken }))
       ]
 
 module _ (ts : List Text) (depth : ℕ) (names : List (List ℕ)) where
@@ -64,12 +47,12 @@ module _ (ts : List Text) (depth : ℕ) (names : List (List ℕ)) where
       let e : suc n + length xs ≡ n + suc (length xs) = omega arith in
       ap (λ cs. checker_at n x ∷ cs) (numbered-push (suc n) xs m ∙ ap (λ k. numbered_from (suc n) xs depth names ++ checker_at k m ∷ []) e)
 
-  machine-more : (ms : List Machine) (m : Machine) (all more : List Report) → HasReports (checkers_in ms depth names) ts all → HasReportsOf (checker_at (length ms) m) ts more
+  machine-more : (ms : List Machine) (m : Machine) (all more : List Report) → HasReports (checkers_in ms depth names) ts all → HasReports (checker_at (length ms) m ∷ []) ts more
       → HasReports (checkers_in (ms ++ m ∷ []) depth names) ts (all ++ more)
   machine-more ms m all more old new =
       let e : length ms ≡ 0 + length ms = omega arith in
       subst (λ cs. HasReports cs ts (all ++ more)) (sym (numbered-push 0 ms m))
-      (one-more ts (checkers_in ms depth names) (checker_at (0 + length ms) m) all more old (subst (λ k. HasReportsOf (checker_at k m) ts more) e new))
+      (together ts (checkers_in ms depth names) (checker_at (0 + length ms) m ∷ []) all more old (subst (λ k. HasReports (checker_at k m ∷ []) ts more) e new))
 
   -- NO MACHINE YET
   pub gathered-none : (all : List Report) → all ≡ [] → ∥ HasReports (checkers_in [] depth names) ts all ∥₁
@@ -77,7 +60,7 @@ module _ (ts : List Text) (depth : ℕ) (names : List (List ℕ)) where
 
   -- THE NEXT MACHINE of a list of which the first i were gone through
   pub gathered-next : (xs : List code.Machine) (i : ℕ) (x : code.Machine) (all more joined : List Report) → i < length xs → x ≡ get_or xs i x → joined ≡ all ++ more
-      → ∥ HasReports (checkers_in (map machine_view (take i xs)) depth names) ts all ∥₁ → ∥ HasReportsOf (checker_at i (machine_view x)) ts more ∥₁
+      → ∥ HasReports (checkers_in (map machine_view (take i xs)) depth names) ts all ∥₁ → ∥ AreReports (checker_at i (machine_view x) ∷ []) ts more ∥₁
       → ∥ HasReports (checkers_in (map machine_view (take (i + 1) xs)) depth names) ts joined ∥₁
   gathered-next xs i x all more joined within is e old new = ∥∥₁_map₂ old new by
     where
@@ -90,22 +73,9 @@ module _ (ts : List Text) (depth : ℕ) (names : List (List ℕ)) where
       longer : map machine_view (take (i + 1) xs) ≡ map machine_view (take i xs) ++ machine_view x ∷ []
       longer = map_more machine_view xs i x within ∙ ap (λ z. map machine_view (take i xs) ++ machine_view z ∷ []) (sym is)
 
-      by : HasReports (checkers_in (map machine_view (take i xs)) depth names) ts all → HasReportsOf (checker_at i (machine_view x)) ts more → HasReports (checkers_in (map machine_view (take (i + 1) xs)) depth names) ts joined
+      by : HasReports (checkers_in (map machine_view (take i xs)) depth names) ts all → AreReports (checker_at i (machine_view x) ∷ []) ts more → HasReports (checkers_in (map machine_view (take (i + 1) xs)) depth names) ts joined
       by o n =
           subst (λ l. HasReports (checkers_in (map machine_view (take (i + 1) xs)) depth names) ts l) (sym e)
           (subst (λ l. HasReports (checkers_in l depth names) ts (all ++ more)) (sym longer)
-          (machine-more (map machine_view (take i xs)) (machine_view x) all more o (subst (λ k. HasReportsOf (checker_at k (machine_view x)) ts more) (sym size) n)))
-
-  -- ALL of them in order
-  pub in-order : {V E : Type 0} (made : Result V E) (items : V → List Report) (ms : List Machine) (all : List Report)
-      → ∥ HasReports (checkers_in ms depth names) ts all ∥₁ → ∥ StandInOwnFiles ts ∥₁
-      → IfOk made (λ list. AllPairs (λ a b. report_cmp a b ≡ Less) (items list)) → IfOk made (λ list. (r : Report) → Contains (items list) r → Contains all r)
-      → (AgreeWhereEqual report_cmp all → IfOk made (λ list. (r : Report) → Contains all r → Contains (items list) r))
-      → IfOk made (λ list. ∥ AreReports (checkers_in ms depth names) ts (items list) ∥₁)
-  in-order (Err fault) items ms all has own ascending real same = tt
-  in-order (Ok list) items ms all has own ascending real same =
-      ∥∥₁_map₂ has own (λ h o. record {
-        ascending = ascending;
-        real = λ r k. (h r).0 (real r k);
-        whole = λ r k. same (agree ts o depth names ms all (λ s. (h s).0)) r ((h r).1 k);
-      })
+          (machine-more (map machine_view (take i xs)) (machine_view x) all more o
+          (subst (λ k. HasReports (checker_at k (machine_view x) ∷ []) ts more) (sym size) (λ r. (n.real r, n.whole r)))))

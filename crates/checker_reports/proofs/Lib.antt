@@ -1,5 +1,2 @@
-pub mod Compared
-pub mod OwnFiles
-pub mod Written
-pub mod Agreeing
+pub mod Numbered
 pub mod Gathering

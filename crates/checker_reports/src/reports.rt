@@ -9,10 +9,10 @@ ghost use Rattle.report_model.specs.declared.report.Report as report;
 
 use metal_tree::Machine;
 use mx_base::Names;
-use program_reports::reports_of;
 use programs::Program;
 use report_lists::sorted;
 use report_model::Report;
+use saturation::analyse;
 use std::alloc::{AllocError, Global};
 
 // The reports of all checkers, in no order.
@@ -29,7 +29,7 @@ fn gathered<'u, 'a>(
 {
     let mut all = Vec::new(alloc);
     for (number, machine) in machines.iter().enumerate() {
-        let mut more = reports_of(alloc, program, machine, number as u16, names, depth)?;
+        let mut more = analyse(alloc, program, machine, number as u16, names, depth)?;
         all.append(&mut more)?;
     }
     Ok(all)

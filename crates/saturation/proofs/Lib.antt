@@ -1,3 +1,6 @@
-pub mod SameValues
-pub mod Somehow
-pub mod AllReports
+pub mod AllKnown
+pub mod Compared
+pub mod OwnFiles
+pub mod Written
+pub mod Agreeing
+pub mod InOrder

@@ -1,10 +1,7 @@
-//! The exact engine: the path edges of a program under a checker, by the rules of tabulation, one edge after the other, and the reports that they
-//! show.
+//! The exact analysis of a program by one checker: the list of its reports, out of a saturated set of path edges.
 #![tactic(auto)]
 
-mod engine;
-mod least_log;
-mod tabulation;
+mod analysis;
+mod checked_programs;
 
-pub use engine::Engine;
-pub use least_log::reported;
+pub use analysis::analyse;

@@ -1,9 +1,10 @@
 use Rattle.std.proofs.Common.{map}
 use Rattle.checker_programs.specs.Units.{texts_of}
 use Rattle.checker_reports.specs.Checkers.{checkers_in}
-use Rattle.checker_reports.proofs.Gathering.{HasReports, gathered-none, gathered-next}
+use Rattle.checker_reports.proofs.Gathering.{gathered-none, gathered-next}
 use Rattle.least_set.proofs.Growing.{all_of}
 use Rattle.metal_tree.specs.Whole.{machine_view}
+use Rattle.saturation.proofs.InOrder.{HasReports}
 use Rattle.checker_reports.proofs.reports.gathered.Goals as goal
 
 pub loop-number-init : goal.loop-number-init

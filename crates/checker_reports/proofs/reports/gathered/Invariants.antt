@@ -1,8 +1,8 @@
 use Rattle.std.proofs.Common.{map, take}
 use Rattle.checker_programs.specs.Units.{texts_of}
 use Rattle.checker_reports.specs.Checkers.{checkers_in}
-use Rattle.checker_reports.proofs.Gathering.{HasReports}
 use Rattle.metal_tree.specs.Whole.{machine_view}
+use Rattle.saturation.proofs.InOrder.{HasReports}
 use Rattle.checker_reports.proofs.reports.gathered.Given as goal
 
 -- the reports of the checkers that were gone through

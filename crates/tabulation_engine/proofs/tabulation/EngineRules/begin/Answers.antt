@@ -1,8 +1,8 @@
 use Rattle.engine_tables.specs.Known.{checker_in, texts_in, graphs_in}
 use Rattle.path_edges.specs.Relations.{Begins}
-use Rattle.saturation.proofs.Somehow.{edges-somehow}
+use Rattle.tabulation_engine.proofs.Somehow.{edges-somehow}
 use Rattle.tuple_flows.proofs.Lists.{if-ok}
-use Rattle.saturation.proofs.tabulation.EngineRules.begin.Goals as goal
+use Rattle.tabulation_engine.proofs.tabulation.EngineRules.begin.Goals as goal
 
 pub returns : goal.returns
 returns c =

@@ -3,9 +3,9 @@ use Rattle.edge_steps.specs.Steps.{StandsBehind}
 use Rattle.engine_tables.specs.Known.{checker_in, texts_in, graphs_in}
 use Rattle.least_set.specs.Logs.{IsExactly}
 use Rattle.path_edges.specs.Relations.{LeadsTo, WaitsAt, IsEndOf}
-use Rattle.saturation.proofs.Somehow.{edges-somehow, waits-somehow, end-somehow}
+use Rattle.tabulation_engine.proofs.Somehow.{edges-somehow, waits-somehow, end-somehow}
 use Rattle.state_tuples.specs.declared.tuple.Tuple.{Tuple}
-use Rattle.saturation.proofs.tabulation.EngineRules.enter.Goals as goal
+use Rattle.tabulation_engine.proofs.tabulation.EngineRules.enter.Goals as goal
 
 pub returns-clause-goes : goal.returns-clause-goes
 returns-clause-goes c =

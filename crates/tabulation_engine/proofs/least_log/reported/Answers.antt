@@ -2,9 +2,9 @@ use Rattle.std.proofs.Common.{subst}
 use Rattle.engine_tables.specs.Known.{AreKnown, checker_in, texts_in, graphs_in}
 use Rattle.least_set.specs.Logs.{IsExactly, SomeGives}
 use Rattle.path_edges.specs.Relations.{ShowsAt}
-use Rattle.saturation.proofs.AllReports.{all-reports}
+use Rattle.tabulation_engine.proofs.AllReports.{all-reports}
 use Rattle.tuple_flows.proofs.Lists.{if-ok}
-use Rattle.saturation.proofs.least_log.reported.Goals as goal
+use Rattle.tabulation_engine.proofs.least_log.reported.Goals as goal
 
 pub returns : goal.returns
 returns c =

@@ -1,6 +1,6 @@
 use Rattle.std.proofs.Common.{map, ap}
-use Rattle.program_reports.proofs.AllKnown.{all-known}
-use Rattle.program_reports.proofs.checked_programs.reports_of.Goals as goal
+use Rattle.saturation.proofs.AllKnown.{all-known}
+use Rattle.saturation.proofs.checked_programs.reports_of.Goals as goal
 
 pub invariant_of-engine : goal.invariant_of-engine
 invariant_of-engine c = record {

@@ -5,7 +5,7 @@ ghost use Rattle.checker_model.specs.Checkers.{model};
 ghost use Rattle.checker_programs.specs.Paths.{program as paths};
 ghost use Rattle.checker_programs.specs.Units.{texts_of};
 ghost use Rattle.path_theory.specs.Paths.{Reported};
-ghost use Rattle.program_reports.specs.Reporting.{checker_of};
+ghost use Rattle.saturation.specs.Reporting.{checker_of};
 ghost use Rattle.report_model.specs.declared.report.Report.{Report as Said};
 
 use engine_tables::Tables;
@@ -16,9 +16,9 @@ use programs::Program;
 use relevant_lists::followed_objects;
 use report_model::Report;
 use root_functions::roots;
-use saturation::{Engine, reported};
 use std::alloc::{AllocError, Global};
 use std::marker::PhantomData;
+use tabulation_engine::{Engine, reported};
 
 /// The reports of a checker over a program: exactly those that some path of the program takes, in no order, and one may be there more than
 /// once. The number is the checker's place among those of the command, from 0 on, the names have the texts of all names, and objects have at

@@ -3,10 +3,10 @@ use Rattle.edge_steps.specs.Steps.{StandsBehind}
 use Rattle.engine_tables.specs.Known.{checker_in, texts_in, graphs_in}
 use Rattle.least_set.specs.Logs.{IsExactly}
 use Rattle.path_edges.specs.Relations.{IsWoken}
-use Rattle.saturation.proofs.Somehow.{edges-somehow}
+use Rattle.tabulation_engine.proofs.Somehow.{edges-somehow}
 use Rattle.tuple_flows.proofs.Lists.{if-ok}
 use Rattle.state_tuples.specs.declared.tuple.Tuple.{Tuple}
-use Rattle.saturation.proofs.tabulation.EngineRules.wake.Goals as goal
+use Rattle.tabulation_engine.proofs.tabulation.EngineRules.wake.Goals as goal
 
 pub returns : goal.returns
 returns c =

@@ -1,0 +1,3 @@
+pub mod SameValues
+pub mod Somehow
+pub mod AllReports
