@@ -9,11 +9,9 @@ use Rattle.checker_model.specs.Reports.{Checker}
 use Rattle.least_set.specs.Logs.{IsExactly, SomeGives}
 use Rattle.path_theory.specs.Facts.{FactOf, NoObject, HasObject, Gives}
 use Rattle.path_theory.specs.Flows.{CallFlow, CallNone, CallObject, ReturnFlow, ReturnNone, ReturnObject}
-use Rattle.refine_restore.specs.declared.site.Site as code
-use Rattle.refine_restore.specs.Sites.{site_of}
 use Rattle.state_tuples.specs.declared.tuple.Tuple.{Tuple}
 use Rattle.tuple_flows.specs.Facts.{fact_of, fact_in, listed, with_object, without_object}
-use Rattle.tuple_flows.specs.Passed.{IsSite, IsEntered, IsReturned}
+use Rattle.tuple_flows.specs.Passed.{IsEntered, IsReturned}
 use Rattle.tuple_flows.proofs.Lists.{exactly-push, exactly-same, exactly-alone}
 use Rattle.tuple_flows.proofs.Tuples.{same-tuple, given-object, given-state, gives}
 

@@ -1,5 +1,5 @@
 -- Tuples by their parts, and which states a fact gives.
-use Rattle.std.proofs.Common.{◌≡◌, ℕ, Bool, true, false, ◌||◌, Option, None, Some, refl, sym, ap, subst, ◌∙◌}
+use Rattle.std.proofs.Common.{◌≡◌, ℕ, true, false, ◌||◌, Option, None, Some, refl, sym, subst, ◌∙◌}
 use Rattle.std.proofs.Math.Bool.{Bool-set}
 use Rattle.std.proofs.Math.Path.{PathP, to_path_p}
 use Rattle.std.specs.Prelude.{is_some, is_none}
