@@ -9,11 +9,9 @@ use Rattle.checker_model.specs.Reports.{Checker}
 use Rattle.least_set.specs.Logs.{IsExactly, SomeGives}
 use Rattle.path_theory.specs.Facts.{FactOf, NoObject, HasObject, Gives}
 use Rattle.path_theory.specs.Flows.{CallFlow, CallNone, CallObject, ReturnFlow, ReturnNone, ReturnObject}
-use Rattle.refine_restore.specs.declared.site.Site as code
-use Rattle.refine_restore.specs.Sites.{site_of}
 use Rattle.state_tuples.specs.declared.tuple.Tuple.{Tuple}
 use Rattle.tuple_flows.specs.Facts.{fact_of, fact_in, listed, with_object, without_object}
-use Rattle.tuple_flows.specs.Passed.{IsSite, IsEntered, IsReturned}
+use Rattle.tuple_flows.specs.Passed.{IsEntered, IsReturned}
 use Rattle.tuple_flows.proofs.Lists.{exactly-push, exactly-same, exactly-alone}
 use Rattle.tuple_flows.proofs.Tuples.{same-tuple, given-object, given-state, gives}
 
@@ -23,9 +21,13 @@ some≢none o h = cc
 no≢has : (o : Object) (x : Option State) → NoObject ≡ HasObject o x → ⊥
 no≢has o x h = cc
 
--- a tuple with one of these objects, in the state of the tuple before, where the object that it has its state from is that one's
+-- a tuple with one of these objects, in the state of the tuple before, where the object that it has its state from is this one, or none
+abbrev pub Taking : (Object → Option Object) → Option Object → Tuple → Object → Tuple → Type 0
+Taking S q t o u = (S o ≡ q) × (with_object t o ≡ u)
+
+-- where it is that of the tuple before
 abbrev pub From : (Object → Option Object) → Tuple → Object → Tuple → Type 0
-From S t o u = (S o ≡ t.object) × (with_object t o ≡ u)
+From S t = Taking S t.object t
 
 module _ (c : Checker) (s : Site) (f : Function) (objects : List Object) (t : Tuple) where
   abbrev Into : FactOf Object State → FactOf Object State → Type 0
@@ -130,12 +132,15 @@ module _ (c : Checker) (s : Site) (f : Function) (objects : List Object) (t : Tu
       (λ u m. subst (IsReturned c s f objects t) m.2.1 (returned-with m.0 b m.1 e m.2.0))
       (λ u w. elim (from-returned u w (fact_in u) refl) [ inl m ↦ m | inr m ↦ absurd (some≢none b (sym e ∙ m.0)) ])
 
--- what is said of a site of the program is said of a call that passes the same
-module _ (depth d : ℕ) (r s : Site) (objects : List Object) (t : Tuple) (list : List Tuple) (e : d ≡ depth) (p : s.formals ≡ r.formals) (q : s.actuals ≡ r.actuals) where
-  pub into-there : IsExactly list (SomeGives (From (into depth r) t) objects) → IsExactly list (SomeGives (From (into d s) t) objects)
-  into-there x = subst (λ (S : Object → Option Object). IsExactly list (SomeGives (From S t) objects))
-      (λ i o. into (sym e i) (record { callee = None; formals = sym p i; actuals = sym q i }) o) x
+-- what is said of a site of the program, and of the object of a tuple, is said of a call that passes the same, and of the tuple
+module _ (depth d : ℕ) (r s : Site) (objects : List Object) (t : Tuple) (q : Option Object) (list : List Tuple) (e : d ≡ depth) (f : s.formals ≡ r.formals) (a : s.actuals ≡ r.actuals) (is : t.object ≡ q) where
+  from-object : (S : Object → Option Object) → IsExactly list (SomeGives (Taking S q t) objects) → IsExactly list (SomeGives (From S t) objects)
+  from-object S x = subst (λ z. IsExactly list (SomeGives (Taking S z t) objects)) (sym is) x
 
-  pub out-there : IsExactly list (SomeGives (From (out depth r) t) objects) → IsExactly list (SomeGives (From (out d s) t) objects)
+  pub into-there : IsExactly list (SomeGives (Taking (into depth r) q t) objects) → IsExactly list (SomeGives (From (into d s) t) objects)
+  into-there x = subst (λ (S : Object → Option Object). IsExactly list (SomeGives (From S t) objects))
+      (λ i o. into (sym e i) (record { callee = None; formals = sym f i; actuals = sym a i }) o) (from-object (into depth r) x)
+
+  pub out-there : IsExactly list (SomeGives (Taking (out depth r) q t) objects) → IsExactly list (SomeGives (From (out d s) t) objects)
   out-there x = subst (λ (S : Object → Option Object). IsExactly list (SomeGives (From S t) objects))
-      (λ i o. out (sym e i) (record { callee = None; formals = sym p i; actuals = sym q i }) o) x
+      (λ i o. out (sym e i) (record { callee = None; formals = sym f i; actuals = sym a i }) o) (from-object (out depth r) x)

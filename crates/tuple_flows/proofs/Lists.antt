@@ -1,7 +1,7 @@
 -- Lists of objects and of tuples.
-use Rattle.std.proofs.Common.{◌≡◌, ◌⊎◌, inl, inr, ℕ, zero, suc, ◌+◌, ◌<◌, List, [], ◌∷◌, ◌++◌, map, length, get_or, take, Contains, Result, Ok, Err, IfOk, ◌↔◌, Bool, true, false, Option, None, Some, refl, sym, ap, subst, ◌∙◌, arith}
+use Rattle.std.proofs.Common.{◌≡◌, ◌⊎◌, inl, inr, ℕ, zero, suc, ◌+◌, ◌<◌, List, [], ◌∷◌, ◌++◌, map, length, get_or, take, Contains, Result, Ok, Err, IfOk, Bool, true, false, Option, None, Some, refl, sym, ap, subst, ◌∙◌, arith}
 use Rattle.std.proofs.lemmas.List.{map_more}
-use Rattle.std.proofs.lemmas.List.Elements.{Contains-append_left, Contains-append_cases, Contains-push, Contains-push_cases}
+use Rattle.std.proofs.lemmas.List.Elements.{Contains-append_left, Contains-push, Contains-push_cases}
 use Rattle.std.specs.Prelude.{is_none}
 use Rattle.c_paths.specs.Membership.{Among}
 use Rattle.least_set.specs.Logs.{IsExactly, SomeGives}
@@ -95,12 +95,6 @@ none-found (Some x) b e h = absurd (by (sym e ∙ h))
 
 pub some-found : {A : Type 0} (q : Option A) (b : Bool) → b ≡ is_none q → b ≡ false → q ≡ None → ⊥
 some-found q b e h n = by (sym (ap is_none n) ∙ sym e ∙ h)
-  where
-    by : true ≡ false → ⊥
-    by k = cc
-
-pub false-found : {P : Type 0} (b : Bool) → (b ≡ true) ↔ P → b ≡ false → P → ⊥
-false-found b e h p = by (sym (e.1 p) ∙ h)
   where
     by : true ≡ false → ⊥
     by k = cc

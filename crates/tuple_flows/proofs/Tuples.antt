@@ -1,12 +1,10 @@
 -- Tuples by their parts, and which states a fact gives.
-use Rattle.std.proofs.Common.{◌≡◌, ℕ, Bool, true, false, ◌||◌, Option, None, Some, refl, sym, ap, subst, ◌∙◌}
+use Rattle.std.proofs.Common.{◌≡◌, ℕ, true, false, ◌||◌, Option, None, Some, refl, sym, subst, ◌∙◌}
 use Rattle.std.proofs.Math.Bool.{Bool-set}
 use Rattle.std.proofs.Math.Path.{PathP, to_path_p}
-use Rattle.std.specs.Option.{option_eq}
 use Rattle.std.specs.Prelude.{is_some, is_none}
 use Rattle.c_objects.specs.Objects.{Object}
 use Rattle.checker_model.specs.Choices.{State}
-use Rattle.objects.specs.Equality.{same_object, same_object-refl}
 use Rattle.path_theory.specs.Facts.{FactOf, NoObject, HasObject, Gives, GivesNone, GivesState}
 use Rattle.state_tuples.specs.declared.tuple.Tuple.{Tuple}
 use Rattle.tuple_flows.specs.Facts.{fact_of, fact_in}
@@ -81,11 +79,3 @@ gives q a s b e = subst (λ z. Gives z (fact_of a s) s) (sym e) (by a b)
     by : (a : Option Object) → IsBare a s → Gives a (fact_of a s) s
     by None b = subst (Gives None NoObject) (sym (no-state s b)) GivesNone
     by (Some o) b = GivesState
-
--- what is one object, or none, is found the same
-pub found-same : (a b : Option Object) → a ≡ b → option_eq same_object a b ≡ true
-found-same a b e = subst (λ z. option_eq same_object a z ≡ true) e (itself a)
-  where
-    itself : (a : Option Object) → option_eq same_object a a ≡ true
-    itself None = refl
-    itself (Some o) = same_object-refl o

@@ -1,6 +1,7 @@
 //! Tuples with another object.
 
-ghost use Rattle.std.specs.Prelude.{◌≡◌, None, Some, map, IfOk};
+ghost use Rattle.std.specs.Prelude.{◌≡◌, None, Some, Contains, map, IfOk};
+ghost use Rattle.least_set.specs.Logs.{IsExactly, SomeGives};
 ghost use Rattle.tuple_flows.specs.Facts.{with_object, without_object};
 
 use objects::{Object, copy};
@@ -66,6 +67,24 @@ pub(crate) fn with_objects(
     let mut list = Vec::new(alloc);
     for object in objects {
         list.push(with_object(tuple, copy(object)))?;
+    }
+    Ok(list)
+}
+
+/// Those of these objects that stand among the followed ones, in the states of a tuple.
+pub(crate) fn with_followed(
+    alloc: Global,
+    tuple: &Tuple,
+    objects: &[Object],
+    followed: &[Object],
+) -> Result<Vec<Tuple>, AllocError>
+    ensures { IfOk result (λ list. IsExactly list.items (SomeGives (λ o u. Contains followed.now o × (with_object tuple.now o ≡ u)) objects.now)) }
+{
+    let mut list = Vec::new(alloc);
+    for object in objects {
+        if followed.contains(object) {
+            list.push(with_object(tuple, copy(object)))?;
+        }
     }
     Ok(list)
 }

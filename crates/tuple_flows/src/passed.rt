@@ -1,6 +1,6 @@
 //! Tuples at entries of callees, and behind calls.
 
-ghost use Rattle.std.specs.Prelude.{◌≡◌, ◌↔◌, ◌≤◌, [], ◌∷◌, None, true, IfOk};
+ghost use Rattle.std.specs.Prelude.{◌≡◌, ◌≤◌, [], ◌∷◌, None, Some, is_none, IfOk};
 ghost use Rattle.checker_model.specs.Calls.{into, out};
 ghost use Rattle.checker_model.specs.Happenings.{Function, Site as Form};
 ghost use Rattle.checker_model.specs.Reports.{Checker};
@@ -9,33 +9,27 @@ ghost use Rattle.refine_restore.specs.Sites.{site_of};
 ghost use Rattle.tuple_flows.specs.Facts.{with_object};
 ghost use Rattle.tuple_flows.specs.Passed.{IsSite, IsEntered, IsReturned};
 
-use crate::parts::{with_object, without_object};
+use crate::parts::{with_followed, with_object, without_object};
+use handed_objects::{entered_by, handed_to};
 use objects::{Object, Origin, copy};
-use refine_restore::{Site, into_callee, out_of_callee};
+use refine_restore::{Site, into_callee};
 use state_tuples::Tuple;
 use std::alloc::{AllocError, Global};
 
-// Whether both are one object, or both none.
-fn are_same(a: &Option<Object>, b: &Option<Object>) -> bool
-    ensures { (result ≡ true) ↔ (a.now ≡ b.now) }
-{
-    *a == *b
-}
-
-// The caller's object whose state an object of the callee begins with, if there is one.
-fn source_of(site: &Site, object: &Object, depth: u8) -> Option<Object>
+// Whether an object of the callee begins unknown.
+fn begins_unknown(site: &Site, object: &Object, depth: u8) -> bool
     requires { depth ≤ 8 }
-    ensures { result ≡ into depth (site_of depth site.now) object.now }
+    ensures { result ≡ is_none (into depth (site_of depth site.now) object.now) }
 {
     match into_callee(site, object, depth) {
-        Origin::Same => Some(copy(object)),
-        Origin::From(source) => Some(source),
-        Origin::Nothing => None,
+        Origin::Same => false,
+        Origin::From(_) => false,
+        Origin::Nothing => true,
     }
 }
 
-// Those of the callee's objects that have their state from the object of a tuple, or none where that has none, in the states of the tuple.
-fn entered(
+// Those of the callee's objects that begin unknown, in the states of a tuple.
+fn entered_unknown(
     alloc: Global,
     site: &Site,
     depth: u8,
@@ -43,12 +37,11 @@ fn entered(
     callee_objects: &[Object],
 ) -> Result<Vec<Tuple>, AllocError>
     requires { depth ≤ 8 }
-    ensures { IfOk result (λ list. IsExactly list.items (SomeGives (λ o u. (into depth (site_of depth site.now) o ≡ tuple.now.object) × (with_object tuple.now o ≡ u)) callee_objects.now)) }
+    ensures { IfOk result (λ list. IsExactly list.items (SomeGives (λ o u. (into depth (site_of depth site.now) o ≡ None) × (with_object tuple.now o ≡ u)) callee_objects.now)) }
 {
     let mut list = Vec::new(alloc);
     for object in callee_objects {
-        let source = source_of(site, object, depth);
-        if are_same(&source, &tuple.object) {
+        if begins_unknown(site, object, depth) {
             list.push(with_object(tuple, copy(object)))?;
         }
     }
@@ -66,9 +59,25 @@ fn entered_none(
     requires { depth ≤ 8 }
     ensures { IfOk result (λ list. tuple.now.object ≡ None → (c : Checker) (s : Form) (callee : Function) → c.depth ≡ depth → IsSite depth site.now s → IsExactly list.items (IsEntered c s callee callee_objects.now tuple.now)) }
 {
-    let mut list = entered(alloc, site, depth, tuple, callee_objects)?;
+    let mut list = entered_unknown(alloc, site, depth, tuple, callee_objects)?;
     list.push(without_object(tuple))?;
     Ok(list)
+}
+
+// Those of the callee's objects that begin with the state of this object of the caller, in the states of a tuple.
+fn entered(
+    alloc: Global,
+    site: &Site,
+    depth: u8,
+    tuple: &Tuple,
+    object: &Object,
+    callee_objects: &[Object],
+) -> Result<Vec<Tuple>, AllocError>
+    requires { depth ≤ 8 }
+    ensures { IfOk result (λ list. IsExactly list.items (SomeGives (λ o u. (into depth (site_of depth site.now) o ≡ Some object.now) × (with_object tuple.now o ≡ u)) callee_objects.now)) }
+{
+    let begun = entered_by(alloc, site, object, depth)?;
+    with_followed(alloc, tuple, begun.as_slice(), callee_objects)
 }
 
 /// The tuples with which a callee is entered where this one stands before the call, among the objects that are followed in the callee.
@@ -83,30 +92,25 @@ pub fn into_call(
     ensures { IfOk result (λ list. (c : Checker) (s : Form) (callee : Function) → c.depth ≡ depth → IsSite depth site.now s → IsExactly list.items (IsEntered c s callee callee_objects.now tuple.now)) }
 {
     match &tuple.object {
-        Some(_) => entered(alloc, site, depth, tuple, callee_objects),
+        Some(object) => entered(alloc, site, depth, tuple, object, callee_objects),
         None => entered_none(alloc, site, depth, tuple, callee_objects),
     }
 }
 
-// Those of the caller's objects that have their state from the object of a tuple, in the states of the tuple.
+// Those of the caller's objects that have their state behind the call from this object of the callee, in the states of a tuple.
 fn returned(
     alloc: Global,
     site: &Site,
     depth: u8,
     tuple: &Tuple,
+    object: &Object,
     caller_objects: &[Object],
 ) -> Result<Vec<Tuple>, AllocError>
     requires { depth ≤ 8 }
-    ensures { IfOk result (λ list. IsExactly list.items (SomeGives (λ o u. (out depth (site_of depth site.now) o ≡ tuple.now.object) × (with_object tuple.now o ≡ u)) caller_objects.now)) }
+    ensures { IfOk result (λ list. IsExactly list.items (SomeGives (λ o u. (out depth (site_of depth site.now) o ≡ Some object.now) × (with_object tuple.now o ≡ u)) caller_objects.now)) }
 {
-    let mut list = Vec::new(alloc);
-    for object in caller_objects {
-        let source = out_of_callee(site, object, depth);
-        if are_same(&source, &tuple.object) {
-            list.push(with_object(tuple, copy(object)))?;
-        }
-    }
-    Ok(list)
+    let handed = handed_to(alloc, site, object, depth)?;
+    with_followed(alloc, tuple, handed.as_slice(), caller_objects)
 }
 
 // A list of one tuple.
@@ -131,7 +135,7 @@ pub fn out_of_call(
     ensures { IfOk result (λ list. (c : Checker) (s : Form) (caller : Function) → c.depth ≡ depth → IsSite depth site.now s → IsExactly list.items (IsReturned c s caller caller_objects.now tuple.now)) }
 {
     match &tuple.object {
-        Some(_) => returned(alloc, site, depth, tuple, caller_objects),
+        Some(object) => returned(alloc, site, depth, tuple, object, caller_objects),
         None => alone(alloc, without_object(tuple)),
     }
 }

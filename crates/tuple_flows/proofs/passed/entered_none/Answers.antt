@@ -1,4 +1,4 @@
-use Rattle.std.proofs.Common.{◌∙◌, sym, subst, ap, [], ◌∷◌, ◌++◌}
+use Rattle.std.proofs.Common.{◌∙◌, sym, subst, ap, [], ◌∷◌, ◌++◌, None}
 use Rattle.least_set.specs.Logs.{IsExactly}
 use Rattle.refine_restore.specs.Sites.{site_of}
 use Rattle.tuple_flows.specs.Passed.{IsEntered}
@@ -11,4 +11,4 @@ returns c =
     let objects = c.args.callee_objects.now in
     let out = c.in_ok-list.list.items in
     λ none k s f e is. subst (λ l. IsExactly l (IsEntered k s f objects t)) (sym (c.in_ok-push.ensures.items ∙ ap (λ z. out ++ z ∷ []) c.without_object.ensures))
-    (entered-without k s f objects t out none (into-there c.args.depth k.depth (site_of c.args.depth c.args.site.now) s objects t out e is.formals is.actuals c.in_ok-list.ensures))
+    (entered-without k s f objects t out none (into-there c.args.depth k.depth (site_of c.args.depth c.args.site.now) s objects t None out e is.formals is.actuals none c.in_ok-list.ensures))

@@ -9,7 +9,7 @@ returns-in-Some c =
     let objects = c.args.callee_objects.now in
     if-ok _ _ c.entered.result
     (λ list x k s f e is. entered-object-alone k s f objects t list.items _ c.in-Some.is
-    (into-there c.args.depth k.depth (site_of c.args.depth c.args.site.now) s objects t list.items e is.formals is.actuals x))
+    (into-there c.args.depth k.depth (site_of c.args.depth c.args.site.now) s objects t _ list.items e is.formals is.actuals c.in-Some.is x))
     c.entered.ensures
 
 pub returns-in-None : goal.returns-in-None

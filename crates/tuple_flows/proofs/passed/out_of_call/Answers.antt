@@ -12,7 +12,7 @@ returns-in-Some c =
     let objects = c.args.caller_objects.now in
     if-ok _ _ c.returned.result
     (λ list x k s f e is. returned-object-alone k s f objects t list.items _ c.in-Some.is
-    (out-there c.args.depth k.depth (site_of c.args.depth c.args.site.now) s objects t list.items e is.formals is.actuals x))
+    (out-there c.args.depth k.depth (site_of c.args.depth c.args.site.now) s objects t _ list.items e is.formals is.actuals c.in-Some.is x))
     c.returned.ensures
 
 pub returns-in-None : goal.returns-in-None

@@ -1,10 +1,10 @@
-use Rattle.std.proofs.Common.{◌≡◌, take}
+use Rattle.std.proofs.Common.{◌≡◌, take, None}
 use Rattle.checker_model.specs.Calls.{into}
 use Rattle.refine_restore.specs.Sites.{site_of}
 use Rattle.least_set.specs.Logs.{IsExactly, SomeGives}
 use Rattle.tuple_flows.specs.Facts.{with_object}
-use Rattle.tuple_flows.proofs.passed.entered.Given as goal
+use Rattle.tuple_flows.proofs.passed.entered_unknown.Given as goal
 
 -- the objects that were gone through have given theirs
 abbrev pub invariant-loop-object : goal.invariant-loop-object
-invariant-loop-object l = IsExactly l.list.items (SomeGives (λ o u. (into l.depth (site_of l.depth l.site) o ≡ l.tuple.object) × (with_object l.tuple o ≡ u)) (take l.object-index l.callee_objects))
+invariant-loop-object l = IsExactly l.list.items (SomeGives (λ o u. (into l.depth (site_of l.depth l.site) o ≡ None) × (with_object l.tuple o ≡ u)) (take l.object-index l.callee_objects))
