@@ -1,5 +1,5 @@
 -- An event at which no rule applies, and which writes over nothing, leaves tuples as they are, and no rule is taken there.
-use Rattle.std.proofs.Common.{arith, ◌≡◌, ℕ, nat_eq, Bool, true, false, cond, not, ◌&&◌, ◌||◌, ◌==◌, List, [], ◌∷◌, length, map, Contains, Option, None, Some, refl, sym, ap, subst, ◌∙◌}
+use Rattle.std.proofs.Common.{arith, ◌≡◌, inl, inr, ℕ, nat_eq, Bool, true, false, cond, not, ◌||◌, ◌==◌, List, [], ◌∷◌, length, map, Contains, Option, None, Some, refl, sym, ap, subst, ◌∙◌}
 use Rattle.std.specs.List.{filter_map, cons_option, list_all}
 use Rattle.std.specs.Option.{option_map}
 use Rattle.std.specs.Prelude.{is_some, is_none}
@@ -11,14 +11,14 @@ use Rattle.applied_rules.specs.declared.rules.EventRules.{EventRules}
 use Rattle.applied_rules.specs.Events.{AreOfEvent}
 use Rattle.applied_rules.specs.Firsts.{first_taken}
 use Rattle.block_flows.proofs.Fires.{fire, fires}
-use Rattle.block_flows.specs.Firings.{acting, TakenHere, fires_here, fire_of}
+use Rattle.block_flows.specs.Firings.{acting, TakenHere, fire_of}
 use Rattle.block_flows.specs.IdleEvents.{is_idle, is_within, leaves_all, AreLeft}
 use Rattle.c_objects.specs.Objects.{Object, is_object}
 use Rattle.c_paths.specs.Events.{Event}
 use Rattle.c_typing.specs.Options.{if_there}
 use Rattle.checker_model.specs.Choices.{State, Taken, stop, is_asked, is_global_asked, target_at, global_behind, object_behind, taken, taken_global, next_global, chosen}
 use Rattle.checker_model.specs.Happenings.{Function, Happening}
-use Rattle.checker_model.specs.Moves.{Move, move_of, source}
+use Rattle.checker_model.specs.Moves.{Move, move_of}
 use Rattle.checker_model.specs.Reports.{Checker}
 use Rattle.flow_graph.specs.Values.{event_of}
 use Rattle.hole_bindings.specs.Settings.{setting_in}
@@ -71,7 +71,7 @@ first-none g e asked state a ts n = ap (first_taken g e asked state a) n ∙ eit
 
 module _ (c : Checker) (h : Happening) (f : Function) (k : Bool) (followed : List Object) (r : EventRules) (of : AreOfEvent c.machine c.depth h f r) (are : AreObjects c.depth followed)
     (idle : is_idle r ≡ true) where
-  moves : Option Move
+  abbrev moves : Option Move
   moves = move_of (facts_in r.setting.unit.now) r.setting.depth (event_of r.event)
 
   parts : ((length r.applied.items == 0) ≡ true) × (is_none moves ≡ true)
