@@ -44,9 +44,9 @@ fn are_within(tuples: &[Tuple], depth: u8) -> bool
     true
 }
 
-/// Whether an event leaves these tuples as they are, since no rule applies there and nothing is written over: behind it stand exactly
-/// these, and no rule is taken, whichever objects are followed, in a root's own frame or in a called one. At most events this takes
-/// constant time for each tuple, and no memory.
+/// Whether an event leaves these tuples as they are, since no rule applies at it and it writes over nothing: behind it stand exactly these,
+/// and no rule with an action is taken there, whichever objects are followed, in a root's own frame or in a called one. It takes no memory,
+/// and where a rule applies constant time.
 pub(crate) fn leaves_all(rules: &EventRules, tuples: &[Tuple]) -> bool
     ensures test { result ≡ leaves_all rules.now tuples.now }
     ensures kept { result ≡ true → (c : Checker) (h : Happening) (f : Function) (is_root : Bool) (followed : List Object) → AreOfEvent c.machine c.depth h f rules.now → AreObjects c.depth followed → AreLeft c h f is_root followed tuples.now }
