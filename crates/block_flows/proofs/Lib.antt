@@ -2,3 +2,4 @@ pub mod OfEvents
 pub mod Standing
 pub mod Fires
 pub mod Reports
+pub mod IdleEvents

@@ -9,6 +9,7 @@ ghost use Rattle.least_set.specs.Logs.{IsExactly, IsOnce};
 ghost use Rattle.tuple_flows.specs.Moved.{AreObjects};
 
 use crate::fronts::{copies, first, next};
+use crate::idle_events::leaves_all;
 use crate::sets::items;
 use applied_rules::EventRules;
 use objects::Object;
@@ -30,6 +31,9 @@ pub fn ends(
     let mut now = first(alloc, tuple)?;
     for event in rules {
         let left = items(&now);
+        if leaves_all(event, left) {
+            continue;
+        }
         let behind = next(alloc, event, is_root, left, followed)?;
         now = behind;
     }

@@ -4,6 +4,7 @@
 
 mod crossing;
 mod fronts;
+mod idle_events;
 mod sets;
 mod taken_rules;
 

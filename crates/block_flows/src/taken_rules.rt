@@ -13,6 +13,7 @@ ghost use Rattle.rule_choices.specs.Values.{taken_of};
 ghost use Rattle.tuple_flows.specs.Moved.{AreObjects};
 
 use crate::fronts::{copy_object, first, next};
+use crate::idle_events::leaves_all;
 use crate::sets::items;
 use applied_rules::EventRules;
 use objects::Object;
@@ -138,6 +139,9 @@ pub fn firings<'r, 'm, 'a>(
     let mut list = Vec::new(alloc);
     for (number, event) in rules.iter().enumerate() {
         let left = items(&now);
+        if leaves_all(event, left) {
+            continue;
+        }
         let mut more = fired_here(alloc, event, number, is_root, left, followed)?;
         list.append(&mut more)?;
         let behind = next(alloc, event, is_root, left, followed)?;

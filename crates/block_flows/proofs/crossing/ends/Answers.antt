@@ -11,6 +11,15 @@ pub loop-event-init : goal.loop-event-init
 loop-event-init c = λ k f hs a are.
     subst (λ z. OnWay k f c.args.is_root c.args.followed.now hs hs c.args.tuple.now z) (sym c.in_ok-now.ensures) (way-start k f c.args.is_root c.args.followed.now hs c.args.tuple.now)
 
+pub loop-event-preserved-then-leaves_all : goal.loop-event-preserved-then-leaves_all
+loop-event-preserved-then-leaves_all c = λ k f hs a are.
+    let i = c.loop-event.event-index in
+    let e = at-event k.machine k.depth f hs c.args.rules.now i c.event-item.result a c.loop-event-test.true c.event-item.is in
+    let now = c.loop-event.now.keys in
+    let left = c.leaves_all.ensures.kept c.if-leaves_all.true k e.0 f c.args.is_root c.args.followed.now e.2 are in
+    let exact = subst (λ z. IsExactly z (SomeGives (IsBehind k e.0 f c.args.is_root c.args.followed.now) z)) c.items-left.ensures.keys left.behind in
+    way-next k f c.args.is_root c.args.followed.now hs e.0 (drop i hs) (drop (i + 1) hs) c.args.tuple.now now now e.1 (c.loop-event.invariant k f hs a are) exact
+
 pub loop-event-preserved : goal.loop-event-preserved
 loop-event-preserved c = λ k f hs a are.
     let i = c.loop-event.event-index in

@@ -1,4 +1,4 @@
-use Rattle.std.proofs.Common.{◌∙◌, ◌+◌, sym, subst, ap, map, drop, []}
+use Rattle.std.proofs.Common.{◌∙◌, ◌+◌, sym, subst, ap, map, drop, [], append-nil}
 use Rattle.std.proofs.lemmas.List.{map-append}
 use Rattle.block_flows.specs.Firings.{fire_in, TakenHere}
 use Rattle.block_flows.proofs.Fires.{IsNoted, notes-start, notes-next, notes-end}
@@ -14,6 +14,21 @@ loop-number-init c = λ k f hs a are.
     let followed = c.args.followed.now in
     let one = subst (λ z. IsNoted k f root followed hs hs 0 t z []) (sym c.in_ok-now.ensures) (notes-start k f root followed hs t) in
     subst (λ z. IsNoted k f root followed hs hs 0 t c.in_ok-now.now.keys (map fire_in z)) (sym c.new-list.ensures.items) one
+
+pub loop-number-preserved-then-leaves_all : goal.loop-number-preserved-then-leaves_all
+loop-number-preserved-then-leaves_all c = λ k f hs a are.
+    let t = c.args.tuple.now in
+    let root = c.args.is_root in
+    let followed = c.args.followed.now in
+    let i = c.loop-number.number in
+    let e = at-event k.machine k.depth f hs c.args.rules.now i c.index-rules-number.result a c.loop-number-test.true c.index-rules-number.is in
+    let now = c.loop-number.now.keys in
+    let old = map fire_in c.loop-number.list.items in
+    let left = c.leaves_all.ensures.kept c.if-leaves_all.true k e.0 f root followed e.2 are in
+    let exact = subst (λ z. IsExactly z (SomeGives (IsBehind k e.0 f root followed) z)) c.items-left.ensures.keys left.behind in
+    let taken = subst (λ z. IsExactly [] (SomeGives (TakenHere k e.0 f root followed i) z)) c.items-left.ensures.keys (left.quiet i) in
+    let noted = notes-next k f root followed hs e.0 (drop i hs) (drop (i + 1) hs) i t now now old [] e.1 (c.loop-number.invariant k f hs a are) exact taken in
+    subst (λ z. IsNoted k f root followed hs (drop (i + 1) hs) (i + 1) t now z) (append-nil old) noted
 
 pub loop-number-preserved : goal.loop-number-preserved
 loop-number-preserved c = λ k f hs a are.
