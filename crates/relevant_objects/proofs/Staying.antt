@@ -1,16 +1,15 @@
 -- An event that moves nothing links an object to itself alone.
-use Rattle.std.proofs.Common.{◌≡◌, ◌⊎◌, inl, inr, ℕ, List, [], ◌∷◌, ◌++◌, Bool, true, false, Contains, Option, None, Some, refl, ◌∙◌, sym, ap, subst, append-nil, true≢false}
+use Rattle.std.proofs.Common.{◌≡◌, ◌⊎◌, inl, inr, ℕ, List, false, Option, None, Some, refl, ◌∙◌, sym, ap, subst}
 use Rattle.std.specs.Prelude.{is_some}
-use Rattle.std.proofs.lemmas.List.Elements.{Contains-push, Contains-push_cases}
-use Rattle.c_objects.specs.Objects.{Object, IsObject, is_object, if_object}
-use Rattle.c_objects.proofs.Plain.{object-is, if-object, object-if}
+use Rattle.c_objects.specs.Objects.{IsObject}
+use Rattle.c_objects.proofs.Plain.{if-object, object-if}
 use Rattle.checker_model.specs.Moves.{Move, move_of, source}
 use Rattle.flow_graph.specs.declared.event.Event.{Event}
 use Rattle.flow_graph.specs.Values.{event_of}
 use Rattle.least_set.specs.Logs.{Adds}
-use Rattle.least_set.proofs.Growing.{nothing, adds_none, adds_same, kept}
+use Rattle.least_set.proofs.Growing.{adds_same}
 use Rattle.objects.specs.Units.{facts_in}
-use Rattle.relevant_objects.specs.Links.{Member, LinksAt, LinksToItself, HasItself}
+use Rattle.relevant_objects.specs.Links.{Member, LinksAt, LinksToItself}
 use Rattle.typed_unit.specs.declared.typed_unit.TypedUnit.{TypedUnit}
 
 no-move : (m : Option Move) → is_some m ≡ false → m ≡ None
@@ -28,32 +27,6 @@ module _ (depth : ℕ) (x y : Member) where
 
   itself-links : LinksToItself depth x y → LinksUnder depth None x y
   itself-links h = (ap (λ z. z.0) h.0, inr (if-object depth x.1 h.1 ∙ ap (λ z. Some z.1) h.0))
-
-module _ (depth : ℕ) (x : Member) where
-  -- it was put last
-  pub itself-pushed : (old new : List Member) → IsObject depth x.1 → new ≡ old ++ (x ∷ []) → Adds (LinksToItself depth x) old new
-  itself-pushed old new is e = record {
-    more = x ∷ [];
-    whole = e;
-    added = λ y h. subst (Contains new) h.0 (subst (λ l. Contains l x) (sym e) (Contains-push old x));
-    only = λ y h. (elim (Contains-push_cases [] x y h) [ inl o ↦ absurd (nothing y o) | inr d ↦ d ], is);
-  }
-
-  -- it is there already
-  pub itself-there : (old : List Member) → (IsObject depth x.1 → Contains old x) → Adds (LinksToItself depth x) old old
-  itself-there old there = record { more = []; whole = sym (append-nil old); added = λ y h. subst (Contains old) h.0 (there h.1); only = λ y h. absurd (nothing y h) }
-
-  -- it is no object
-  pub itself-none : (old : List Member) → is_object depth x.1 ≡ false → Adds (LinksToItself depth x) old old
-  itself-none old no = adds_none old (λ y h. true≢false (sym (object-is depth x.1 h.1) ∙ no))
-
-  -- and then it is there
-  pub has-itself : (stays : Bool) (old new : List Member) → Adds (LinksToItself depth x) old new → HasItself depth stays x new
-  has-itself stays old new w s is = w.added x (λ i. x, is)
-
-  -- what is there stays there
-  pub still-itself : {P : Member → Type 0} (stays : Bool) (old new : List Member) → HasItself depth stays x old → Adds P old new → HasItself depth stays x new
-  still-itself stays old new has w s is = kept w x (has s is)
 
 -- at an event that moves nothing
 pub at-rest : (depth : ℕ) (u : TypedUnit) (x : Member) (e : Event) (old new : List Member) → is_some (move_of (facts_in u) depth (event_of e)) ≡ false → Adds (LinksToItself depth x) old new → Adds (LinksAt depth u x e) old new
