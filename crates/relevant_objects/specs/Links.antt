@@ -1,6 +1,6 @@
 -- THE LINKS between objects of functions: at the events of a function, and over the calls between two.
-use Rattle.std.specs.Prelude.{◌≡◌, ◌⊎◌, ℕ, List, map, Some, slice_get}
-use Rattle.c_objects.specs.Objects.{Object}
+use Rattle.std.specs.Prelude.{◌≡◌, ◌⊎◌, ℕ, List, Bool, true, Contains, map, Some, slice_get}
+use Rattle.c_objects.specs.Objects.{Object, IsObject}
 use Rattle.flow_graph.specs.declared.event.Event.{Event}
 use Rattle.flow_graph.specs.Values.{event_of}
 use Rattle.least_set.specs.Logs.{SomeGives}
@@ -24,6 +24,14 @@ members n os = map (with_number n) os
 -- at an event both are of one function
 abbrev pub LinksAt : ℕ → TypedUnit → Member → Event → Member → Type 0
 LinksAt depth u x e y = (x.0 ≡ y.0) × AreLinkedAt (facts_in u) depth x.1 (event_of e) y.1
+
+-- at an event that moves nothing: an object at the depth, and no other than itself
+abbrev pub LinksToItself : ℕ → Member → Member → Type 0
+LinksToItself depth x y = (x ≡ y) × IsObject depth x.1
+
+-- the list has the object itself, once it stays what it is at an event
+abbrev pub HasItself : ℕ → Bool → Member → List Member → Type 0
+HasItself depth stays x found = stays ≡ true → IsObject depth x.1 → Contains found x
 
 -- from the caller of a call to its callee, and back
 abbrev pub LinksInto : ℕ → Member → FollowedCall → Member → Type 0

@@ -3,14 +3,15 @@
 ghost use Rattle.std.specs.Prelude.{◌≤◌, IfOk};
 ghost use Rattle.flow_graph.specs.Values.{event_of};
 ghost use Rattle.least_set.specs.Logs.{Adds, SomeGives};
-ghost use Rattle.relevant_objects.specs.Links.{LinksAt};
+ghost use Rattle.relevant_objects.specs.Links.{LinksAt, LinksToItself, HasItself};
 
 use crate::members::add_members;
 use crate::rows::FunctionRow;
 use flow_graph::Event;
 use linked_objects::linked_at;
-use objects::Object;
+use objects::{Object, copy, is_object};
 use std::alloc::{AllocError, Global};
+use synonyms_kills::is_move;
 use typed_unit::TypedUnit;
 
 // Puts last what an event links an object of a function to.
@@ -29,6 +30,50 @@ fn add_at(
     add_members(found, member.0, objects)
 }
 
+// Puts an object of a function last, if it is an object at this depth and isn't there already.
+fn add_itself(
+    found: &mut Vec<(u32, Object)>,
+    stays: bool,
+    member: &(u32, Object),
+    depth: u8,
+) -> Result<(), AllocError>
+    requires { HasItself depth stays member.now found.old.items }
+    ensures { IfOk result (λ _. Adds (LinksToItself depth member.now) found.old.items found.new.items) }
+{
+    if stays {
+        return Ok(());
+    }
+    if !is_object(&member.1, depth) {
+        return Ok(());
+    }
+    found.push((member.0, copy(&member.1)))?;
+    Ok(())
+}
+
+// Puts last what an event links an object of a function to. Where it moves nothing that is the object itself, which is there already once
+// it `stays`: once an event before it moved nothing. The result says whether it stays behind this one.
+fn add_unless_there(
+    alloc: Global,
+    found: &mut Vec<(u32, Object)>,
+    stays: bool,
+    event: &Event,
+    unit: &TypedUnit,
+    member: &(u32, Object),
+    depth: u8,
+) -> Result<bool, AllocError>
+    requires low { depth ≤ 8 }
+    requires there { HasItself depth stays member.now found.old.items }
+    ensures adds { IfOk result (λ _. Adds (LinksAt depth unit.now member.now event.now) found.old.items found.new.items) }
+    ensures there { IfOk result (λ now_stays. HasItself depth now_stays member.now found.new.items) }
+{
+    if is_move(event, unit, depth) {
+        add_at(alloc, found, event, unit, member, depth)?;
+        return Ok(stays);
+    }
+    add_itself(found, stays, member, depth)?;
+    Ok(true)
+}
+
 /// Puts last what the events of a function link an object of it to.
 pub(crate) fn add_at_events(
     alloc: Global,
@@ -40,8 +85,9 @@ pub(crate) fn add_at_events(
     requires { depth ≤ 8 }
     ensures { IfOk result (λ _. Adds (SomeGives (LinksAt depth row.now.unit.now member.now) row.now.events.items) found.old.items found.new.items) }
 {
+    let mut stays = false;
     for event in row.events.as_slice() {
-        add_at(alloc, found, event, row.unit, member, depth)?;
+        stays = add_unless_there(alloc, found, stays, event, row.unit, member, depth)?;
     }
     Ok(())
 }
