@@ -4,26 +4,13 @@ use Rattle.command_words.specs.Generation.{IsGeneration}
 use Rattle.command_words.proofs.Generations.{one_generation}
 use Rattle.command.specs.declared.status.Status.{Status}
 use Rattle.command.specs.declared.status.Status.TheVariants.{Clean, Reports, Usage, Refused, ReadFault, WriteFault, NoMemory}
-use Rattle.command.specs.Due.{FailedInTurn, IsDue, IsDueForCount}
+use Rattle.command.specs.Due.{IsDue, IsDueForCount}
 use Rattle.command.specs.Ran.{CompletesMeasure, NoRise, Ran, ReporterStep}
 use Rattle.command.specs.Written.{SinkStep, Written, Took}
 use Rattle.command.proofs.GivenCommands.{command_alone}
 use Rattle.command.proofs.Statuses.{ended}
 
 module _ (told : List ℕ → Option (List ℕ)) (words : List (List ℕ)) (r : ReporterStep) (old new : List (List ℕ)) (result : Status) (out errs : SinkStep) (count : ℕ) (is : IsGeneration words count) where
-  pub unread : Ran told words r old new result out errs → new ≡ old
-  unread (inl stops) = by stops.turn
-    where
-      by : FailedInTurn told words r.called old new → new ≡ old
-      by (inl e) = e
-      by (inr f) = absurd (command_alone words r.called f.0 f.1 count is)
-  unread (inr c) = by c.due
-    where
-      by : IsDue told words r.called r.rendered old new c.status c.text c.line → new ≡ old
-      by (inl m) = m.none_failed
-      by (inr (inl t)) = absurd (command_alone words r.called t.command t.given count is)
-      by (inr (inr g)) = g.none_failed
-
   -- what is due for it, and for nothing else
   due_for : (s : Status) (text line : List ℕ) → IsDue told words r.called r.rendered old new s text line → IsDueForCount count s text line
   due_for s text line (inl m) = absurd (m.none.no_generation count is)

@@ -3,6 +3,7 @@ use Rattle.std.proofs.Common.{◌≡◌, inl, inr, ℕ, suc, ◌+◌, ◌≤◌,
 use Rattle.std.proofs.lemmas.List.{length-map}
 use Rattle.std.proofs.lemmas.Option.{slice_get_within}
 use Rattle.report_model.specs.declared.report.Report.{Report}
+use Rattle.command_words.specs.Generation.{IsGeneration}
 use Rattle.command.specs.Commands.{Command, IsCommand, checkers_of, sources_of}
 use Rattle.command.specs.Due.{FailedInTurn, FailedInTurnOf, IsDue, IsDueFor, IsLacking, IsRefused}
 use Rattle.command.specs.Plans.{IsAmong, IsPlanOf}
@@ -12,6 +13,7 @@ use Rattle.command.specs.Tasks.{LeavesAt}
 use Rattle.command.specs.Written.{SinkStep, Written}
 use Rattle.command.specs.declared.status.Status.{Status}
 use Rattle.command.specs.declared.status.Status.TheVariants as status
+use Rattle.command.proofs.GivenCommands.{command_alone}
 use Rattle.command.proofs.Turns.{all_turns}
 use Rattle.judged_files.specs.FirstFault.{AnswersUnjudged}
 use Rattle.judged_files.specs.Judged.{AreAccepted}
@@ -99,6 +101,19 @@ module _ (words called : List (List ℕ)) (command : Command) (given : IsCommand
   leaves_for_words rendered before after status.ReadFault l = l
   leaves_for_words rendered before after status.WriteFault l = tt
   leaves_for_words rendered before after status.NoMemory l = tt
+
+-- ---- the words ask for a generation
+
+-- no command is given, so no reporter is chosen
+pub leaves_unasked : (words called : List (List ℕ)) (count : ℕ) (rendered : List Report → List (List ℕ)) (before after : List (List Report)) (s : Status) → IsGeneration words count → after ≡ before
+    → Leaves words (record { called = called; rendered = rendered; before = before; after = after }) s
+leaves_unasked words called count rendered before after status.Clean is kept = λ c given. absurd (command_alone words called c given count is)
+leaves_unasked words called count rendered before after status.Reports is kept = λ c given. absurd (command_alone words called c given count is)
+leaves_unasked words called count rendered before after status.Usage is kept = kept
+leaves_unasked words called count rendered before after status.Refused is kept = kept
+leaves_unasked words called count rendered before after status.ReadFault is kept = kept
+leaves_unasked words called count rendered before after status.WriteFault is kept = tt
+leaves_unasked words called count rendered before after status.NoMemory is kept = tt
 
 -- ---- what is due was written
 

@@ -1,6 +1,7 @@
 //! What a run is due, decided before anything is written.
 
 ghost use Rattle.std.specs.Prelude.{◌≡◌, ◌≢◌, ◌≤◌, ◌<◌, ◌+◌, ℕ, length, map, slice_get, string_bytes, vec_len, IfOk, IfSome, OnErr, Some};
+ghost use Rattle.command_words.specs.Generation.{IsGeneration};
 ghost use Rattle.command.specs.Commands.{IsOther};
 ghost use Rattle.command.specs.Due.{FailedInTurn, FailedInTurnOf, IsDue, IsDueFor};
 ghost use Rattle.command.specs.Plans.{IsAmong, IsPlanOf};
@@ -91,6 +92,7 @@ pub(crate) fn decide<F: Files>(
     ensures styles { map (λ b. rendered b) reporters.new.items ≡ map (λ b. rendered b) reporters.old.items }
     ensures others { (k : ℕ) → IsOther (map string_bytes words.now) (map (λ b. called b) reporters.old.items) k → slice_get (map (λ b. taken b) reporters.new.items) k ≡ slice_get (map (λ b. taken b) reporters.old.items) k }
     ensures leaves { IfOk result (λ plan. Leaves (map string_bytes words.now) (reporter_step (map (λ b. called b) reporters.old.items) (λ reports. map (λ b. rendered b reports) reporters.old.items) (map (λ b. taken b) reporters.old.items) (map (λ b. taken b) reporters.new.items)) plan.status) }
+    ensures untouched { (count : ℕ) → IsGeneration (map string_bytes words.now) count → files.new ≡ files.old }
     ensures spares { Spares (map string_bytes words.now) (reporter_step (map (λ b. called b) reporters.old.items) (λ reports. map (λ b. rendered b reports) reporters.old.items) (map (λ b. taken b) reporters.old.items) (map (λ b. taken b) reporters.new.items)) }
 {
     if let Some(count) = read_generation(words) {

@@ -31,6 +31,7 @@ fn decide_and_write<F: Files, O: Sink, E: Sink>(
         (F.failed files.old) (F.failed files.new) result
         (sink_step (O.received out.old) (O.received out.new) (O.faults out.old) (O.faults out.new))
         (sink_step (E.received errs.old) (E.received errs.new) (E.faults errs.old) (E.faults errs.new)) }
+    ensures untouched { (count : ℕ) → IsGeneration (map string_bytes words.now) count → files.new ≡ files.old }
     ensures names { map (λ b. called b) reporters.new.items ≡ map (λ b. called b) reporters.old.items }
     ensures styles { map (λ b. rendered b) reporters.new.items ≡ map (λ b. rendered b) reporters.old.items }
     ensures others { (k : ℕ) → IsOther (map string_bytes words.now) (map (λ b. called b) reporters.old.items) k →
@@ -126,7 +127,7 @@ pub fn run<F: Files, O: Sink, E: Sink>(
         (sink_step (E.received errs.old) (E.received errs.new) (E.faults errs.old) (E.faults errs.new)) }
     ensures generation { (count : ℕ) → IsGeneration (map string_bytes words.now) count →
         (result ≡ Status.Clean) ⊎ ((result ≡ Status.Reports) ⊎ ((result ≡ Status.WriteFault) ⊎ (result ≡ Status.NoMemory))) }
-    ensures unread { (count : ℕ) → IsGeneration (map string_bytes words.now) count → F.failed files.new ≡ F.failed files.old }
+    ensures untouched { (count : ℕ) → IsGeneration (map string_bytes words.now) count → files.new ≡ files.old }
     ensures no_command { GiveNone (map string_bytes words.now) (map (λ b. called b) reporters.old.items) →
         (result ≡ Status.Usage) ⊎ ((result ≡ Status.WriteFault) ⊎ (result ≡ Status.NoMemory)) }
     ensures failed { F.failed files.new ≢ F.failed files.old →

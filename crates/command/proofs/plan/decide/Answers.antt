@@ -1,8 +1,14 @@
 use Rattle.std.proofs.Common.{Global, map, string_bytes, refl, inl}
 use Rattle.reporters.proofs.Appending.{on_err}
 use Rattle.command.specs.Tasks.{command_of}
-use Rattle.command.proofs.Plans.{failed_for_words, leaves_for_words}
+use Rattle.command.proofs.Plans.{failed_for_words, leaves_for_words, leaves_unasked}
 use Rattle.command.proofs.plan.decide.Goals as goal
+
+pub returns-in-Some-clause-leaves : goal.returns-in-Some-clause-leaves
+returns-in-Some-clause-leaves g c =
+    let words = map (string_bytes {Z = Global}) c.args.words.now in
+    let called = map (λ b. (goal.Reporter-dyn g (b.vtable, b.value)).called b.value) c.args.reporters.now.items in
+    leaves_unasked words called c.in-Some.count (λ reports. map (λ b. (goal.Reporter-dyn g (b.vtable, b.value)).rendered b.value reports) c.args.reporters.now.items) _ _ c.in_ok-plan.plan.status c.in-Some.ensures.generation refl
 
 pub returns-in_default-task_of-clause-due : goal.returns-in_default-task_of-clause-due
 returns-in_default-task_of-clause-due g c = inl (record {
@@ -23,11 +29,17 @@ returns-in_err-plan-2-clause-failed g c =
 pub returns-in_err-plan-2-clause-others : goal.returns-in_err-plan-2-clause-others
 returns-in_err-plan-2-clause-others g c k other = c.plan_task.ensures.others k (λ e. other (command_of c.in-Some-task_of.task) (rw c.deref.ensures.value at c.in-Some-task_of.ensures.given) e)
 
+pub returns-in_err-plan-2-clause-untouched : goal.returns-in_err-plan-2-clause-untouched
+returns-in_err-plan-2-clause-untouched g c count is = absurd (c.read_generation.ensures.none c.in_default.is count is)
+
 pub returns-in_err-plan-2-clause-spares : goal.returns-in_err-plan-2-clause-spares
 returns-in_err-plan-2-clause-spares g c count is = absurd (c.read_generation.ensures.none c.in_default.is count is)
 
 pub returns-clause-others : goal.returns-clause-others
 returns-clause-others g c k other = c.plan_task.ensures.others k (λ e. other (command_of c.in-Some-task_of.task) (rw c.deref.ensures.value at c.in-Some-task_of.ensures.given) e)
+
+pub returns-clause-untouched : goal.returns-clause-untouched
+returns-clause-untouched g c count is = absurd (c.read_generation.ensures.none c.in_default.is count is)
 
 pub returns-clause-spares : goal.returns-clause-spares
 returns-clause-spares g c count is = absurd (c.read_generation.ensures.none c.in_default.is count is)

@@ -1,5 +1,5 @@
 use Rattle.command.proofs.Complete.{accepted_linked, accepted_sound, complete, refused_where}
-use Rattle.command.proofs.Generating.{generation, measured, unread}
+use Rattle.command.proofs.Generating.{generation, measured}
 use Rattle.command.proofs.Statuses.{clean, reports, usage, refused, read_fault, write_fault, no_command, failed}
 use Rattle.command.proofs.program.run.Goals as goal
 
@@ -44,6 +44,3 @@ returns-clause-measured g c count is no-out no-errs ne = measured _ _ _ _ _ _ _ 
 
 pub returns-clause-generation : goal.returns-clause-generation
 returns-clause-generation g c count is = generation _ _ _ _ _ _ _ _ count is c.decide_and_write.ensures.ran
-
-pub returns-clause-unread : goal.returns-clause-unread
-returns-clause-unread g c count is = unread _ _ _ _ _ _ _ _ count is c.decide_and_write.ensures.ran
