@@ -8,7 +8,7 @@ use Rattle.command.specs.Ran.{Ran, ReporterStep, Tells, NoRise, Completes}
 use Rattle.command.specs.Written.{SinkStep, Written, Took}
 use Rattle.command.specs.declared.status.Status.{Status}
 use Rattle.command.specs.declared.status.Status.TheVariants.{Clean, Reports, Usage, Refused, ReadFault, WriteFault, NoMemory}
-use Rattle.command.proofs.GivenCommands.{one_command}
+use Rattle.command.proofs.GivenCommands.{command_alone, one_command}
 use Rattle.command.proofs.Turns.{all_turns}
 use Rattle.judged_files.specs.FirstFault.{IsFirstFault}
 use Rattle.judged_files.specs.Judged.{AreAccepted, AreAllSound, AreJudged, AreLinked}
@@ -136,8 +136,9 @@ module _ (told : List ℕ → Option (List ℕ)) (words : List (List ℕ)) (r : 
       by : IsDue told words r.called r.rendered old new c.status c.text c.line → Written c.status c.text c.line result out errs → Completes command contents r.rendered result out errs
       by due (inr (inl w)) = absurd (no-out w.1.0)
       by due (inr (inr w)) = absurd (no-errs w.2.0)
-      by (inl m) (inl w) = absurd (m.none command given)
-      by (inr t) (inl w) = for c.status (subst (λ (k : Command). IsDueFor told k r.rendered old new c.status c.text c.line) (one_command words r.called t.command command t.given given) t.due) w.0 w.1 w.2
+      by (inl m) (inl w) = absurd (m.none.no_command command given)
+      by (inr (inr g)) (inl w) = absurd (command_alone words r.called command given g.count g.is_generation)
+      by (inr (inl t)) (inl w) = for c.status (subst (λ (k : Command). IsDueFor told k r.rendered old new c.status c.text c.line) (one_command words r.called t.command command t.given given) t.due) w.0 w.1 w.2
 
   -- what no accepted command comes to is refused
   pub refused_where : ((reports : List Report) → AreAccepted told (checkers_of command) (sources_of command) command.depth reports → ⊥) → Ran told words r old new result out errs
@@ -157,5 +158,6 @@ module _ (told : List ℕ → Option (List ℕ)) (words : List (List ℕ)) (r : 
       by : IsDue told words r.called r.rendered old new c.status c.text c.line → Written c.status c.text c.line result out errs → (result ≡ Refused) ⊎ ((result ≡ WriteFault) ⊎ (result ≡ NoMemory))
       by due (inr (inl w)) = inr (inl w.0)
       by due (inr (inr w)) = inr (inl w.0)
-      by (inl m) (inl w) = absurd (m.none command given)
-      by (inr t) (inl w) = for c.status (subst (λ (k : Command). IsDueFor told k r.rendered old new c.status c.text c.line) (one_command words r.called t.command command t.given given) t.due) w.0
+      by (inl m) (inl w) = absurd (m.none.no_command command given)
+      by (inr (inr g)) (inl w) = absurd (command_alone words r.called command given g.count g.is_generation)
+      by (inr (inl t)) (inl w) = for c.status (subst (λ (k : Command). IsDueFor told k r.rendered old new c.status c.text c.line) (one_command words r.called t.command command t.given given) t.due) w.0

@@ -3,6 +3,8 @@ use Rattle.std.proofs.Common.{◌≡◌, ℕ, ◌+◌, ◌-◌, ◌≤◌, Bool,
 use Rattle.std.specs.List.{list_all}
 use Rattle.std.proofs.lemmas.Bool.{leb-true}
 use Rattle.command_words.specs.Words.{Setting, DepthApart, DepthJoined, FormatApart, FormatJoined, Stats, is_setting, is_depth_digit, is_checker_word, is_source_word, starts_with_minus, counted, depths, IsOnly, depth_or_usual, Request, IsRequest}
+use Rattle.command_words.specs.Generation.{IsGeneration}
+use Rattle.command_words.proofs.Generations.{no_request}
 use Rattle.command_words.proofs.Sound.{one_request}
 use Rattle.command.specs.Commands.{Command, IsCommand, IsPlace}
 
@@ -76,3 +78,7 @@ one_command words called a b h k =
     (h.depth ∙ ap (λ (r : Request). r.depth) same ∙ sym k.depth)
     (one-place called k.request.format a.place b.place (subst (λ (r : Request). IsPlace called r.format a.place) same h.place) k.place)
     (h.files ∙ ap (λ (r : Request). r.files) same ∙ sym k.files)
+
+-- words that give a command ask for no generation
+pub command_alone : (words called : List (List ℕ)) (c : Command) → IsCommand words called c → (count : ℕ) → IsGeneration words count → ⊥
+command_alone words called c given count is = no_request words count is given.request given.is_request

@@ -7,20 +7,20 @@ use Rattle.std.specs.Str.{bytes_eq}
 use Rattle.command_words.specs.Views.{request_of}
 use Rattle.command_words.specs.Words.{Request, IsRequest}
 use Rattle.command_words.specs.declared.asked.Asked.{Asked}
-use Rattle.command.specs.Commands.{Command, IsCommand, IsPlace, GiveNone}
+use Rattle.command.specs.Commands.{Command, IsCommand, IsPlace, GiveNoCommand}
 use Rattle.command.proofs.GivenCommands.{deep_at_most, few_files, one_command}
 
 abbrev given : Asked → Option ℕ → Command
 given a place = record { depth = a.depth; place = place; files = map string_bytes a.files.now }
 
-pub nothing_given : (words called : List (List ℕ)) → ((r : Request) → IsRequest words r → ⊥) → GiveNone words called
+pub nothing_given : (words called : List (List ℕ)) → ((r : Request) → IsRequest words r → ⊥) → GiveNoCommand words called
 nothing_given words called none c g = none g.request g.is_request
 
 module _ (words called : List (List ℕ)) (a : Asked) (is : IsRequest words (request_of a)) (only : (r : Request) → IsRequest words r → r ≡ request_of a) where
-  pub with_statistics : a.stats ≡ true → GiveNone words called
+  pub with_statistics : a.stats ≡ true → GiveNoCommand words called
   with_statistics e c g = true≢false (sym e ∙ ap (λ (r : Request). r.stats) (sym (only g.request g.is_request)) ∙ g.plain)
 
-  pub without_reporter : (name : Bor (List ℕ)) → a.format ≡ Some name → position (bytes_eq name.now) called ≡ None → GiveNone words called
+  pub without_reporter : (name : Bor (List ℕ)) → a.format ≡ Some name → position (bytes_eq name.now) called ≡ None → GiveNoCommand words called
   without_reporter name f e c g =
       let format : g.request.format ≡ Some name.now = ap (λ (r : Request). r.format) (only g.request g.is_request) ∙ ap option_copied f in
       let place = subst (λ o. IsPlace called o c.place) format g.place in

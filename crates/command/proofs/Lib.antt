@@ -6,3 +6,4 @@ mod Positions
 mod Writing
 mod Statuses
 mod Complete
+mod Generating

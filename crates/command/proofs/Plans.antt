@@ -3,14 +3,17 @@ use Rattle.std.proofs.Common.{◌≡◌, inl, inr, ℕ, suc, ◌+◌, ◌≤◌,
 use Rattle.std.proofs.lemmas.List.{length-map}
 use Rattle.std.proofs.lemmas.Option.{slice_get_within}
 use Rattle.report_model.specs.declared.report.Report.{Report}
+use Rattle.command_words.specs.Generation.{IsGeneration}
 use Rattle.command.specs.Commands.{Command, IsCommand, checkers_of, sources_of}
 use Rattle.command.specs.Due.{FailedInTurn, FailedInTurnOf, IsDue, IsDueFor, IsLacking, IsRefused}
 use Rattle.command.specs.Plans.{IsAmong, IsPlanOf}
-use Rattle.command.specs.Ran.{Leaves}
+use Rattle.command.specs.Ran.{CarriesOut, Leaves, ReporterStep, Spares}
 use Rattle.command.specs.Rendered.{IsPlanFor}
 use Rattle.command.specs.Tasks.{LeavesAt}
+use Rattle.command.specs.Written.{SinkStep, Written}
 use Rattle.command.specs.declared.status.Status.{Status}
 use Rattle.command.specs.declared.status.Status.TheVariants as status
+use Rattle.command.proofs.GivenCommands.{command_alone}
 use Rattle.command.proofs.Turns.{all_turns}
 use Rattle.judged_files.specs.FirstFault.{AnswersUnjudged}
 use Rattle.judged_files.specs.Judged.{AreAccepted}
@@ -84,7 +87,7 @@ is_among told checkers sources old new NoMemory a = tt
 
 module _ (words called : List (List ℕ)) (command : Command) (given : IsCommand words called command) (only : (c : Command) → IsCommand words called c → c ≡ command) where
   pub due_for_words : (told : List ℕ → Option (List ℕ)) (rendered : List Report → List (List ℕ)) (old new : List (List ℕ)) (s : Status) (text line : List ℕ) → IsDueFor told command rendered old new s text line → IsDue told words called rendered old new s text line
-  due_for_words told rendered old new s text line due = inr (record { command = command; given = given; due = due })
+  due_for_words told rendered old new s text line due = inr (inl (record { command = command; given = given; due = due }))
 
   pub failed_for_words : (told : List ℕ → Option (List ℕ)) (old new : List (List ℕ)) → FailedInTurnOf told command old new → FailedInTurn told words called old new
   failed_for_words told old new (inl e) = inl e
@@ -98,3 +101,30 @@ module _ (words called : List (List ℕ)) (command : Command) (given : IsCommand
   leaves_for_words rendered before after status.ReadFault l = l
   leaves_for_words rendered before after status.WriteFault l = tt
   leaves_for_words rendered before after status.NoMemory l = tt
+
+-- ---- the words ask for a generation
+
+-- no command is given, so no reporter is chosen
+pub leaves_unasked : (words called : List (List ℕ)) (count : ℕ) (rendered : List Report → List (List ℕ)) (before after : List (List Report)) (s : Status) → IsGeneration words count → after ≡ before
+    → Leaves words (record { called = called; rendered = rendered; before = before; after = after }) s
+leaves_unasked words called count rendered before after status.Clean is kept = λ c given. absurd (command_alone words called c given count is)
+leaves_unasked words called count rendered before after status.Reports is kept = λ c given. absurd (command_alone words called c given count is)
+leaves_unasked words called count rendered before after status.Usage is kept = kept
+leaves_unasked words called count rendered before after status.Refused is kept = kept
+leaves_unasked words called count rendered before after status.ReadFault is kept = kept
+leaves_unasked words called count rendered before after status.WriteFault is kept = tt
+leaves_unasked words called count rendered before after status.NoMemory is kept = tt
+
+-- ---- what is due was written
+
+pub carried_out : (told : List ℕ → Option (List ℕ)) (words : List (List ℕ)) (r : ReporterStep) (old new : List (List ℕ)) (result : Status) (out errs : SinkStep) (s : Status) (text handed line rest : List ℕ)
+    → handed ≡ text → rest ≡ line → IsDue told words r.called r.rendered old new s text line → Leaves words r s → Spares words r → Written s handed rest result out errs → CarriesOut told words r old new result out errs
+carried_out told words r old new result out errs s text handed line rest e f due leaves spares written = record {
+  status = s;
+  text = text;
+  line = line;
+  due = due;
+  leaves = leaves;
+  spares = spares;
+  written = of_both (λ t l. Written s t l result out errs) handed rest text line e f written;
+}

@@ -2,11 +2,12 @@
 use Rattle.std.proofs.Common.{◌≡◌, ◌≢◌, ◌⊎◌, inl, inr, ℕ, List, [], Option, refl, sym, ◌∙◌, subst}
 use Rattle.mx_io.specs.Causes.{Rose}
 use Rattle.report_model.specs.declared.report.Report.{Report}
+use Rattle.command_words.specs.Generation.{IsGeneration}
 use Rattle.command.specs.declared.status.Status.{Status}
 use Rattle.command.specs.declared.status.Status.TheVariants.{Clean, Reports, Usage, Refused, ReadFault, WriteFault, NoMemory}
 use Rattle.command.specs.Commands.{Command, IsCommand, GiveNone}
-use Rattle.command.specs.Due.{IsDue, IsDueFor, HasTask, IsReported, IsRefused, IsLacking}
-use Rattle.command.specs.Ran.{Ran, IsEmptied, Leaves, ReporterStep, Prints, Misuses, Refuses, Misses}
+use Rattle.command.specs.Due.{IsDue, IsDueFor, HasGeneration, HasTask, IsMeasuredAs, IsReported, IsRefused, IsLacking}
+use Rattle.command.specs.Ran.{Ran, IsEmptied, Leaves, Spares, ReporterStep, Answers, Measures, Prints, Misuses, Refuses, Misses}
 use Rattle.command.specs.Written.{SinkStep, Written, Took, IsStill}
 
 module _ (told : List ℕ → Option (List ℕ)) (words : List (List ℕ)) (r : ReporterStep) (old new : List (List ℕ)) (result : Status) (out errs : SinkStep) where
@@ -16,6 +17,7 @@ module _ (told : List ℕ → Option (List ℕ)) (words : List (List ℕ)) (r : 
     pub line : List ℕ
     pub due : IsDue told words r.called r.rendered old new s text line
     pub leaves : Leaves words r s
+    pub spares : Spares words r
     pub took_out : Took out text
     pub took_errs : Took errs line
     pub out_still : IsStill out
@@ -31,6 +33,7 @@ module _ (told : List ℕ → Option (List ℕ)) (words : List (List ℕ)) (r : 
         line = c.line;
         due = subst (λ x. IsDue told words r.called r.rendered old new x c.text c.line) (sym w.0 ∙ e) c.due;
         leaves = subst (Leaves words r) (sym w.0 ∙ e) c.leaves;
+        spares = c.spares;
         took_out = w.1;
         took_errs = w.2;
         out_still = w.3;
@@ -39,10 +42,10 @@ module _ (told : List ℕ → Option (List ℕ)) (words : List (List ℕ)) (r : 
       by (inr (inl w)) = absurd (fault (sym e ∙ w.0))
       by (inr (inr w)) = absurd (fault (sym e ∙ w.0))
 
-  -- but for usage it was due for a command
-  task : (s : Status) (text line : List ℕ) → s ≢ Usage → IsDue told words r.called r.rendered old new s text line → HasTask told words r.called r.rendered old new s text line
-  task s text line n (inl m) = absurd (n m.status_is)
-  task s text line n (inr t) = t
+  -- but for usage it was due for a command or for a generation
+  asked : (s : Status) (text line : List ℕ) → s ≢ Usage → IsDue told words r.called r.rendered old new s text line → HasTask told words r.called r.rendered old new s text line ⊎ HasGeneration words old new s text line
+  asked s text line n (inl m) = absurd (n m.status_is)
+  asked s text line n (inr h) = h
 
   prints : (IsAsked : List Report → Type 0) (s : Status) (d : Done s) (command : Command) → IsCommand words r.called command → IsReported told command r.rendered old new d.text d.line IsAsked
       → IsEmptied words r → Prints told words r old new out errs IsAsked
@@ -58,17 +61,33 @@ module _ (told : List ℕ → Option (List ℕ)) (words : List (List ℕ)) (r : 
     empty = empty;
   }
 
-  pub clean : Ran told words r old new result out errs → result ≡ Clean → Prints told words r old new out errs (λ reports. reports ≡ [])
-  clean ran e =
-      let d = done Clean (λ k. cc) (λ k. cc) ran e in
-      let t = task Clean d.text d.line (λ k. cc) d.due in
-      prints (λ reports. reports ≡ []) Clean d t.command t.given t.due d.leaves
+  measures : (IsAsked : List Report → Type 0) (s : Status) (d : Done s) (count : ℕ) → IsGeneration words count → new ≡ old → IsMeasuredAs count d.text d.line IsAsked → Measures words r old new out errs IsAsked
+  measures IsAsked s d count is none cause = record {
+    count = count;
+    is_generation = is;
+    text = d.text;
+    cause = subst (λ l. IsMeasuredAs count d.text l IsAsked) cause.line_is cause;
+    none_failed = none;
+    printed = d.took_out;
+    nothing = subst (Took errs) cause.line_is d.took_errs;
+    out_still = d.out_still;
+    errs_still = d.errs_still;
+    kept = d.spares count is;
+  }
 
-  pub reports : Ran told words r old new result out errs → result ≡ Reports → Prints told words r old new out errs (λ reports. reports ≢ [])
-  reports ran e =
-      let d = done Reports (λ k. cc) (λ k. cc) ran e in
-      let t = task Reports d.text d.line (λ k. cc) d.due in
-      prints (λ rs. rs ≢ []) Reports d t.command t.given t.due d.leaves
+  pub clean : Ran told words r old new result out errs → result ≡ Clean → Answers told words r old new out errs (λ reports. reports ≡ [])
+  clean ran e = let d = done Clean (λ k. cc) (λ k. cc) ran e in by d (asked Clean d.text d.line (λ k. cc) d.due)
+    where
+      by : (d : Done Clean) → HasTask told words r.called r.rendered old new Clean d.text d.line ⊎ HasGeneration words old new Clean d.text d.line → Answers told words r old new out errs (λ reports. reports ≡ [])
+      by d (inl t) = inl (prints (λ reports. reports ≡ []) Clean d t.command t.given t.due d.leaves)
+      by d (inr g) = inr (measures (λ reports. reports ≡ []) Clean d g.count g.is_generation g.none_failed g.due)
+
+  pub reports : Ran told words r old new result out errs → result ≡ Reports → Answers told words r old new out errs (λ reports. reports ≢ [])
+  reports ran e = let d = done Reports (λ k. cc) (λ k. cc) ran e in by d (asked Reports d.text d.line (λ k. cc) d.due)
+    where
+      by : (d : Done Reports) → HasTask told words r.called r.rendered old new Reports d.text d.line ⊎ HasGeneration words old new Reports d.text d.line → Answers told words r old new out errs (λ reports. reports ≢ [])
+      by d (inl t) = inl (prints (λ rs. rs ≢ []) Reports d t.command t.given t.due d.leaves)
+      by d (inr g) = inr (measures (λ rs. rs ≢ []) Reports d g.count g.is_generation g.none_failed g.due)
 
   pub usage : Ran told words r old new result out errs → result ≡ Usage → Misuses words r old new out errs
   usage ran e = let d = done Usage (λ k. cc) (λ k. cc) ran e in by d d.due
@@ -82,41 +101,46 @@ module _ (told : List ℕ → Option (List ℕ)) (words : List (List ℕ)) (r : 
         errs_still = d.errs_still;
         kept = d.leaves;
       }
-      by d (inr t) = absurd t.due
+      by d (inr (inl t)) = absurd t.due
+      by d (inr (inr g)) = absurd g.due
 
   pub refused : Ran told words r old new result out errs → result ≡ Refused → Refuses told words r old new out errs
-  refused ran e =
-      let d = done Refused (λ k. cc) (λ k. cc) ran e in
-      let t = task Refused d.text d.line (λ k. cc) d.due in
-      let cause : IsRefused told t.command old new d.text d.line = t.due in
-      record {
-        command = t.command;
-        given = t.given;
-        line = d.line;
-        cause = subst (λ x. IsRefused told t.command old new x d.line) cause.text_is cause;
-        nothing = subst (Took out) cause.text_is d.took_out;
-        printed = d.took_errs;
-        out_still = d.out_still;
-        errs_still = d.errs_still;
-        kept = d.leaves;
-      }
+  refused ran e = let d = done Refused (λ k. cc) (λ k. cc) ran e in by d (asked Refused d.text d.line (λ k. cc) d.due)
+    where
+      by : (d : Done Refused) → HasTask told words r.called r.rendered old new Refused d.text d.line ⊎ HasGeneration words old new Refused d.text d.line → Refuses told words r old new out errs
+      by d (inl t) =
+          let cause : IsRefused told t.command old new d.text d.line = t.due in
+          record {
+            command = t.command;
+            given = t.given;
+            line = d.line;
+            cause = subst (λ x. IsRefused told t.command old new x d.line) cause.text_is cause;
+            nothing = subst (Took out) cause.text_is d.took_out;
+            printed = d.took_errs;
+            out_still = d.out_still;
+            errs_still = d.errs_still;
+            kept = d.leaves;
+          }
+      by d (inr g) = absurd g.due
 
   pub read_fault : Ran told words r old new result out errs → result ≡ ReadFault → Misses told words r old new out errs
-  read_fault ran e =
-      let d = done ReadFault (λ k. cc) (λ k. cc) ran e in
-      let t = task ReadFault d.text d.line (λ k. cc) d.due in
-      let cause : IsLacking told t.command old new d.text d.line = t.due in
-      record {
-        command = t.command;
-        given = t.given;
-        line = d.line;
-        cause = subst (λ x. IsLacking told t.command old new x d.line) cause.text_is cause;
-        nothing = subst (Took out) cause.text_is d.took_out;
-        printed = d.took_errs;
-        out_still = d.out_still;
-        errs_still = d.errs_still;
-        kept = d.leaves;
-      }
+  read_fault ran e = let d = done ReadFault (λ k. cc) (λ k. cc) ran e in by d (asked ReadFault d.text d.line (λ k. cc) d.due)
+    where
+      by : (d : Done ReadFault) → HasTask told words r.called r.rendered old new ReadFault d.text d.line ⊎ HasGeneration words old new ReadFault d.text d.line → Misses told words r old new out errs
+      by d (inl t) =
+          let cause : IsLacking told t.command old new d.text d.line = t.due in
+          record {
+            command = t.command;
+            given = t.given;
+            line = d.line;
+            cause = subst (λ x. IsLacking told t.command old new x d.line) cause.text_is cause;
+            nothing = subst (Took out) cause.text_is d.took_out;
+            printed = d.took_errs;
+            out_still = d.out_still;
+            errs_still = d.errs_still;
+            kept = d.leaves;
+          }
+      by d (inr g) = absurd g.due
 
   pub write_fault : Ran told words r old new result out errs → result ≡ WriteFault → Rose out.faults_before out.faults_after ⊎ Rose errs.faults_before errs.faults_after
   write_fault (inl stops) e = let k = stops.status in cc
@@ -124,13 +148,20 @@ module _ (told : List ℕ → Option (List ℕ)) (words : List (List ℕ)) (r : 
     where
       none : (s : Status) → result ≡ s → IsDue told words r.called r.rendered old new s c.text c.line → s ≡ WriteFault → ⊥
       none s h (inl m) w = let u = m.status_is in cc
-      none WriteFault h (inr t) w = t.due
-      none Clean h (inr t) w = cc
-      none Reports h (inr t) w = cc
-      none Usage h (inr t) w = cc
-      none Refused h (inr t) w = cc
-      none ReadFault h (inr t) w = cc
-      none NoMemory h (inr t) w = cc
+      none WriteFault h (inr (inl t)) w = t.due
+      none Clean h (inr (inl t)) w = cc
+      none Reports h (inr (inl t)) w = cc
+      none Usage h (inr (inl t)) w = cc
+      none Refused h (inr (inl t)) w = cc
+      none ReadFault h (inr (inl t)) w = cc
+      none NoMemory h (inr (inl t)) w = cc
+      none WriteFault h (inr (inr t)) w = t.due
+      none Clean h (inr (inr t)) w = cc
+      none Reports h (inr (inr t)) w = cc
+      none Usage h (inr (inr t)) w = cc
+      none Refused h (inr (inr t)) w = cc
+      none ReadFault h (inr (inr t)) w = cc
+      none NoMemory h (inr (inr t)) w = cc
 
       by : IsDue told words r.called r.rendered old new c.status c.text c.line → Written c.status c.text c.line result out errs → Rose out.faults_before out.faults_after ⊎ Rose errs.faults_before errs.faults_after
       by due (inl w) = absurd (none c.status w.0 due (sym w.0 ∙ e))
@@ -150,7 +181,8 @@ module _ (told : List ℕ → Option (List ℕ)) (words : List (List ℕ)) (r : 
       by : IsDue told words r.called r.rendered old new c.status c.text c.line → (result ≡ c.status) ⊎ (result ≡ WriteFault) → (result ≡ Usage) ⊎ ((result ≡ WriteFault) ⊎ (result ≡ NoMemory))
       by (inl m) (inl e) = inl (e ∙ m.status_is)
       by (inl m) (inr e) = inr (inl e)
-      by (inr t) e = absurd (n t.command t.given)
+      by (inr (inl t)) e = absurd (n.no_command t.command t.given)
+      by (inr (inr g)) e = absurd (n.no_generation g.count g.is_generation)
 
   pub failed : Ran told words r old new result out errs → new ≢ old → (result ≡ ReadFault) ⊎ ((result ≡ WriteFault) ⊎ (result ≡ NoMemory))
   failed (inl stops) n = inr (inr stops.status)
@@ -168,4 +200,5 @@ module _ (told : List ℕ → Option (List ℕ)) (words : List (List ℕ)) (r : 
 
       by : IsDue told words r.called r.rendered old new c.status c.text c.line → (result ≡ c.status) ⊎ (result ≡ WriteFault) → (result ≡ ReadFault) ⊎ ((result ≡ WriteFault) ⊎ (result ≡ NoMemory))
       by (inl m) e = absurd (n m.none_failed)
-      by (inr t) e = for t.command c.status t.due e
+      by (inr (inl t)) e = for t.command c.status t.due e
+      by (inr (inr g)) e = absurd (n g.none_failed)

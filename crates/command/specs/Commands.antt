@@ -2,6 +2,7 @@
 use Rattle.std.specs.Prelude.{◌≡◌, ℕ, false, List, filter, Option, None, Some}
 use Rattle.std.specs.List.{position}
 use Rattle.std.specs.Str.{bytes_eq}
+use Rattle.command_words.specs.Generation.{IsGeneration}
 use Rattle.command_words.specs.Words.{Request, IsRequest, is_checker_word, is_source_word}
 use Rattle.request_files.specs.Turns.{Turn, turns}
 
@@ -26,8 +27,13 @@ pub record IsCommand (words called : List (List ℕ)) (command : Command) : Type
   pub files : command.files ≡ request.files
 
 -- the words give no command
-abbrev pub GiveNone : List (List ℕ) → List (List ℕ) → Type 0
-GiveNone words called = (command : Command) → IsCommand words called command → ⊥
+abbrev pub GiveNoCommand : List (List ℕ) → List (List ℕ) → Type 0
+GiveNoCommand words called = (command : Command) → IsCommand words called command → ⊥
+
+-- the words give no command, and ask for no generation either
+pub record GiveNone (words called : List (List ℕ)) : Type 0 where
+  pub no_command : GiveNoCommand words called
+  pub no_generation : (count : ℕ) → IsGeneration words count → ⊥
 
 -- the reporter at this place isn't the one that the words choose
 abbrev pub IsOther : List (List ℕ) → List (List ℕ) → ℕ → Type 0

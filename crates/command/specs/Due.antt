@@ -1,10 +1,12 @@
 -- What a run is due: a status, the text for `out` and the line for `errs`.
 use Rattle.std.specs.Prelude.{◌≡◌, ◌≢◌, ◌⊎◌, ℕ, List, [], ◌∷◌, ◌++◌, Option, codes}
 use Rattle.report_model.specs.declared.report.Report.{Report}
+use Rattle.command_words.specs.Generation.{IsGeneration}
 use Rattle.command.specs.Commands.{Command, IsCommand, GiveNone, checkers_of, sources_of, turns_of}
 use Rattle.command.specs.Rendered.{IsText}
 use Rattle.command.specs.declared.status.Status.{Status}
 use Rattle.command.specs.declared.status.Status.TheVariants.{Clean, Reports, Usage, Refused, ReadFault, WriteFault, NoMemory}
+use Rattle.generated_program.specs.Measured.{IsMeasured, measure_line}
 use Rattle.judged_files.specs.FirstFault.{IsFirstFault}
 use Rattle.judged_files.specs.Judged.{AreAccepted}
 use Rattle.request_files.specs.Faults.{Located, refused_line}
@@ -57,7 +59,25 @@ IsDueFor told command rendered old new ReadFault text line = IsLacking told comm
 IsDueFor told command rendered old new WriteFault text line = ⊥
 IsDueFor told command rendered old new NoMemory text line = ⊥
 
--- the words give no command, and nothing was read
+-- the generated program of a number was judged, and this is the line of its reports, which are of the kind that is asked
+pub record IsMeasuredAs (count : ℕ) (text line : List ℕ) (IsAsked : List Report → Type 0) : Type 0 where
+  pub reports : List Report
+  pub measured : IsMeasured count reports
+  pub asked : IsAsked reports
+  pub text_is : text ≡ measure_line count reports
+  pub line_is : line ≡ []
+
+-- what is due for a generation
+abbrev pub IsDueForCount : ℕ → Status → List ℕ → List ℕ → Type 0
+IsDueForCount count Clean text line = IsMeasuredAs count text line (λ reports. reports ≡ [])
+IsDueForCount count Reports text line = IsMeasuredAs count text line (λ reports. reports ≢ [])
+IsDueForCount count Usage text line = ⊥
+IsDueForCount count Refused text line = ⊥
+IsDueForCount count ReadFault text line = ⊥
+IsDueForCount count WriteFault text line = ⊥
+IsDueForCount count NoMemory text line = ⊥
+
+-- the words give no command and ask for no generation, and nothing was read
 pub record IsMisused (words called old new : List (List ℕ)) (status : Status) (text line : List ℕ) : Type 0 where
   pub none : GiveNone words called
   pub none_failed : new ≡ old
@@ -71,6 +91,14 @@ pub record HasTask (told : List ℕ → Option (List ℕ)) (words called : List 
   pub given : IsCommand words called command
   pub due : IsDueFor told command rendered old new status text line
 
+-- the words ask for a generation, nothing was read, and this is due for it
+pub record HasGeneration (words old new : List (List ℕ)) (status : Status) (text line : List ℕ) : Type 0 where
+  pub count : ℕ
+  pub is_generation : IsGeneration words count
+  pub none_failed : new ≡ old
+  pub due : IsDueForCount count status text line
+
 -- WHAT A RUN IS DUE
 abbrev pub IsDue : (List ℕ → Option (List ℕ)) → List (List ℕ) → List (List ℕ) → (List Report → List (List ℕ)) → List (List ℕ) → List (List ℕ) → Status → List ℕ → List ℕ → Type 0
-IsDue told words called rendered old new status text line = IsMisused words called old new status text line ⊎ HasTask told words called rendered old new status text line
+IsDue told words called rendered old new status text line =
+    IsMisused words called old new status text line ⊎ (HasTask told words called rendered old new status text line ⊎ HasGeneration words old new status text line)

@@ -2,13 +2,15 @@
 use Rattle.std.specs.Prelude.{◌≡◌, ◌≢◌, ℕ, ◌⊎◌, List, [], ◌∷◌, Option, Some}
 use Rattle.mx_io.specs.Causes.{Rose}
 use Rattle.report_model.specs.declared.report.Report.{Report}
+use Rattle.command_words.specs.Generation.{IsGeneration}
 use Rattle.command.specs.Commands.{Command, IsCommand, checkers_of, sources_of}
-use Rattle.command.specs.Due.{IsDue, IsMisused, IsReported, IsRefused, IsLacking, FailedInTurn, usage_line}
+use Rattle.command.specs.Due.{IsDue, IsMeasuredAs, IsMisused, IsReported, IsRefused, IsLacking, FailedInTurn, usage_line}
 use Rattle.command.specs.Rendered.{IsText}
 use Rattle.command.specs.declared.status.Status.{Status}
 use Rattle.command.specs.declared.status.Status.TheVariants.{Clean, Reports, Usage, Refused, ReadFault, WriteFault, NoMemory}
 use Rattle.command.specs.Tasks.{IsEmptiedAt}
 use Rattle.command.specs.Written.{SinkStep, Written, Took, IsStill}
+use Rattle.generated_program.specs.Measured.{IsMeasured, measure_line}
 use Rattle.judged_files.specs.Judged.{AreJudged}
 use Rattle.request_files.specs.Turns.{Turn}
 
@@ -43,6 +45,10 @@ Leaves words r ReadFault = r.after ≡ r.before
 Leaves words r WriteFault = Unit {0}
 Leaves words r NoMemory = Unit {0}
 
+-- no reporter was handed anything, where the words ask for a generation
+abbrev pub Spares : List (List ℕ) → ReporterStep → Type 0
+Spares words r = (count : ℕ) → IsGeneration words count → r.after ≡ r.before
+
 -- there was no memory before the first write
 pub record Stops (told : List ℕ → Option (List ℕ)) (words : List (List ℕ)) (r : ReporterStep) (old new : List (List ℕ)) (result : Status) (out errs : SinkStep) : Type 0 where
   pub status : result ≡ NoMemory
@@ -57,6 +63,7 @@ pub record CarriesOut (told : List ℕ → Option (List ℕ)) (words : List (Lis
   pub line : List ℕ
   pub due : IsDue told words r.called r.rendered old new status text line
   pub leaves : Leaves words r status
+  pub spares : Spares words r
   pub written : Written status text line result out errs
 
 abbrev pub Ran : (List ℕ → Option (List ℕ)) → List (List ℕ) → ReporterStep → List (List ℕ) → List (List ℕ) → Status → SinkStep → SinkStep → Type 0
@@ -73,6 +80,23 @@ pub record Prints (told : List ℕ → Option (List ℕ)) (words : List (List �
   pub out_still : IsStill out
   pub errs_still : IsStill errs
   pub empty : IsEmptied words r
+
+-- the line of a generation was printed, whose reports are of the kind that is asked, and nothing else; no reporter was handed anything
+pub record Measures (words : List (List ℕ)) (r : ReporterStep) (old new : List (List ℕ)) (out errs : SinkStep) (IsAsked : List Report → Type 0) : Type 0 where
+  pub count : ℕ
+  pub is_generation : IsGeneration words count
+  pub text : List ℕ
+  pub cause : IsMeasuredAs count text [] IsAsked
+  pub none_failed : new ≡ old
+  pub printed : Took out text
+  pub nothing : Took errs []
+  pub out_still : IsStill out
+  pub errs_still : IsStill errs
+  pub kept : r.after ≡ r.before
+
+-- reports were printed as the words ask, or the line of a generation
+abbrev pub Answers : (List ℕ → Option (List ℕ)) → List (List ℕ) → ReporterStep → List (List ℕ) → List (List ℕ) → SinkStep → SinkStep → (List Report → Type 0) → Type 0
+Answers told words r old new out errs IsAsked = Prints told words r old new out errs IsAsked ⊎ Measures words r old new out errs IsAsked
 
 -- the line of a refusal was printed, and nothing else; no reporter was handed anything
 pub record Refuses (told : List ℕ → Option (List ℕ)) (words : List (List ℕ)) (r : ReporterStep) (old new : List (List ℕ)) (out errs : SinkStep) : Type 0 where
@@ -126,4 +150,12 @@ pub record Completes (command : Command) (contents : List (List ℕ)) (rendered 
   pub text : List ℕ
   pub text_is : IsText command.place (rendered reports) reports text
   pub printed : Took out text
+  pub nothing : Took errs []
+
+-- the line of the generated program of this number was printed, and nothing else, and the status says whether there are reports
+pub record CompletesMeasure (count : ℕ) (result : Status) (out errs : SinkStep) : Type 0 where
+  pub reports : List Report
+  pub measured : IsMeasured count reports
+  pub status : ((result ≡ Clean) × (reports ≡ [])) ⊎ ((result ≡ Reports) × (reports ≢ []))
+  pub printed : Took out (measure_line count reports)
   pub nothing : Took errs []

@@ -1,6 +1,7 @@
 -- The command that positions of words stand for.
-use Rattle.std.specs.Prelude.{ℕ, List, [], get_or, map}
-use Rattle.command.specs.Commands.{Command}
+use Rattle.std.specs.Prelude.{◌≡◌, ℕ, List, [], get_or, map, Option, None, Some}
+use Rattle.command_words.specs.Generation.{IsGeneration}
+use Rattle.command.specs.Commands.{Command, IsCommand}
 use Rattle.command.specs.declared.request.Request.{Request}
 
 -- the words at these positions
@@ -9,3 +10,8 @@ words_at words positions = map (λ i. get_or words i []) positions
 
 abbrev pub command_at : List (List ℕ) → Request → Command
 command_at words r = record { depth = r.depth; place = r.format; files = words_at words r.files.items }
+
+-- the words ask for what a request holds: for a generation, if it has a number to generate, and else for a command
+abbrev pub AskFor : List (List ℕ) → List (List ℕ) → Request → Option ℕ → Type 0
+AskFor words called r None = IsCommand words called (command_at words r)
+AskFor words called r (Some count) = IsGeneration words count × (r.files.items ≡ [])

@@ -1,6 +1,7 @@
 //! What the command does: the words, the files of each kind, their reports, the plan of what is due, and its writing.
 #![tactic(auto)]
 
+mod generation;
 mod kinds;
 mod lines;
 mod outcome;

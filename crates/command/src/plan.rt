@@ -1,19 +1,22 @@
 //! What a run is due, decided before anything is written.
 
 ghost use Rattle.std.specs.Prelude.{◌≡◌, ◌≢◌, ◌≤◌, ◌<◌, ◌+◌, ℕ, length, map, slice_get, string_bytes, vec_len, IfOk, IfSome, OnErr, Some};
+ghost use Rattle.command_words.specs.Generation.{IsGeneration};
 ghost use Rattle.command.specs.Commands.{IsOther};
 ghost use Rattle.command.specs.Due.{FailedInTurn, FailedInTurnOf, IsDue, IsDueFor};
 ghost use Rattle.command.specs.Plans.{IsAmong, IsPlanOf};
-ghost use Rattle.command.specs.Ran.{Leaves, reporter_step};
+ghost use Rattle.command.specs.Ran.{Leaves, Spares, reporter_step};
 ghost use Rattle.command.specs.Tasks.{LeavesAt, command_of};
 ghost use Rattle.request_files.specs.Views.{words_of};
 
+use crate::generation::plan_generation;
 use crate::kinds::{checkers_among, sources_among, word_at};
 use crate::outcome::reports_of;
 use crate::refusal::{not_read, refused, usage};
 use crate::rendering::{Plan, plan_reports};
 use crate::status::Status;
 use crate::words::{Task, task_of};
+use command_words::read_generation;
 use judged_files::Unjudged;
 use mx_io::Files;
 use reporters::Reporter;
@@ -76,7 +79,7 @@ fn plan_task<F: Files>(
     }
 }
 
-/// Reads and judges the files, and makes all that is to be written.
+/// Reads and judges the files, or generates and judges a program, and makes all that is to be written.
 pub(crate) fn decide<F: Files>(
     alloc: Global,
     words: &[String],
@@ -89,7 +92,13 @@ pub(crate) fn decide<F: Files>(
     ensures styles { map (λ b. rendered b) reporters.new.items ≡ map (λ b. rendered b) reporters.old.items }
     ensures others { (k : ℕ) → IsOther (map string_bytes words.now) (map (λ b. called b) reporters.old.items) k → slice_get (map (λ b. taken b) reporters.new.items) k ≡ slice_get (map (λ b. taken b) reporters.old.items) k }
     ensures leaves { IfOk result (λ plan. Leaves (map string_bytes words.now) (reporter_step (map (λ b. called b) reporters.old.items) (λ reports. map (λ b. rendered b reports) reporters.old.items) (map (λ b. taken b) reporters.old.items) (map (λ b. taken b) reporters.new.items)) plan.status) }
+    ensures untouched { (count : ℕ) → IsGeneration (map string_bytes words.now) count → files.new ≡ files.old }
+    ensures spares { Spares (map string_bytes words.now) (reporter_step (map (λ b. called b) reporters.old.items) (λ reports. map (λ b. rendered b reports) reporters.old.items) (map (λ b. taken b) reporters.old.items) (map (λ b. taken b) reporters.new.items)) }
 {
+    if let Some(count) = read_generation(words) {
+        let plan = plan_generation(alloc, count)?;
+        return Ok(plan);
+    }
     let Some(task) = task_of(words, reporters) else {
         let text = Vec::new(alloc);
         let line = usage(alloc)?;

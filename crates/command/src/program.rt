@@ -3,7 +3,8 @@
 ghost use Rattle.std.specs.Prelude.{◌≡◌, ◌≢◌, ◌⊎◌, ℕ, List, [], ◌+◌, map, slice_get, take, string_bytes};
 ghost use Rattle.mx_io.specs.Causes.{Rose};
 ghost use Rattle.command.specs.Commands.{Command, GiveNone, IsCommand, IsOther, checkers_of, sources_of, turns_of};
-ghost use Rattle.command.specs.Ran.{Completes, Misses, Misuses, NoRise, Prints, Ran, Refuses, Tells, reporter_step, sink_step};
+ghost use Rattle.command_words.specs.Generation.{IsGeneration};
+ghost use Rattle.command.specs.Ran.{Answers, Completes, CompletesMeasure, Misses, Misuses, NoRise, Ran, Refuses, Tells, reporter_step, sink_step};
 ghost use Rattle.judged_files.specs.Judged.{AreLinked};
 ghost use Rattle.judged_files.specs.Linking.{HaveLinkFault};
 ghost use Rattle.request_files.specs.Faults.{Located};
@@ -30,6 +31,7 @@ fn decide_and_write<F: Files, O: Sink, E: Sink>(
         (F.failed files.old) (F.failed files.new) result
         (sink_step (O.received out.old) (O.received out.new) (O.faults out.old) (O.faults out.new))
         (sink_step (E.received errs.old) (E.received errs.new) (E.faults errs.old) (E.faults errs.new)) }
+    ensures untouched { (count : ℕ) → IsGeneration (map string_bytes words.now) count → files.new ≡ files.old }
     ensures names { map (λ b. called b) reporters.new.items ≡ map (λ b. called b) reporters.old.items }
     ensures styles { map (λ b. rendered b) reporters.new.items ≡ map (λ b. rendered b) reporters.old.items }
     ensures others { (k : ℕ) → IsOther (map string_bytes words.now) (map (λ b. called b) reporters.old.items) k →
@@ -48,7 +50,8 @@ fn decide_and_write<F: Files, O: Sink, E: Sink>(
 }
 
 /// Runs checkers over C files: reads and judges the files that the words name, and then writes the reports to `out`, as lines or as the
-/// chosen reporter renders them, or one line to `errs`. Nothing is written before all is decided.
+/// chosen reporter renders them, or one line to `errs`. Where the words ask for a generation, the generated program is judged, no file is
+/// read, and one line is written to `out`. Nothing is written before all is decided.
 pub fn run<F: Files, O: Sink, E: Sink>(
     alloc: Global,
     words: &[String],
@@ -66,13 +69,13 @@ pub fn run<F: Files, O: Sink, E: Sink>(
 
     // The same by status.
     ensures clean { result ≡ Status.Clean →
-        Prints (F.contents files.old) (map string_bytes words.now)
+        Answers (F.contents files.old) (map string_bytes words.now)
         (reporter_step (map (λ b. called b) reporters.old.items) (λ reports. map (λ b. rendered b reports) reporters.old.items) (map (λ b. taken b) reporters.old.items) (map (λ b. taken b) reporters.new.items))
         (F.failed files.old) (F.failed files.new)
         (sink_step (O.received out.old) (O.received out.new) (O.faults out.old) (O.faults out.new))
         (sink_step (E.received errs.old) (E.received errs.new) (E.faults errs.old) (E.faults errs.new)) (λ reports. reports ≡ []) }
     ensures reports { result ≡ Status.Reports →
-        Prints (F.contents files.old) (map string_bytes words.now)
+        Answers (F.contents files.old) (map string_bytes words.now)
         (reporter_step (map (λ b. called b) reporters.old.items) (λ reports. map (λ b. rendered b reports) reporters.old.items) (map (λ b. taken b) reporters.old.items) (map (λ b. taken b) reporters.new.items))
         (F.failed files.old) (F.failed files.new)
         (sink_step (O.received out.old) (O.received out.new) (O.faults out.old) (O.faults out.new))
@@ -117,6 +120,14 @@ pub fn run<F: Files, O: Sink, E: Sink>(
         (AreLinked (checkers_of command) (sources_of command) contents → ⊥) →
         F.failed files.new ≡ F.failed files.old →
         (result ≡ Status.Refused) ⊎ ((result ≡ Status.WriteFault) ⊎ (result ≡ Status.NoMemory)) }
+    ensures measured { (count : ℕ) → IsGeneration (map string_bytes words.now) count → NoRise (O.faults out.old) (O.faults out.new) →
+        NoRise (E.faults errs.old) (E.faults errs.new) → result ≢ Status.NoMemory →
+        CompletesMeasure count result
+        (sink_step (O.received out.old) (O.received out.new) (O.faults out.old) (O.faults out.new))
+        (sink_step (E.received errs.old) (E.received errs.new) (E.faults errs.old) (E.faults errs.new)) }
+    ensures generation { (count : ℕ) → IsGeneration (map string_bytes words.now) count →
+        (result ≡ Status.Clean) ⊎ ((result ≡ Status.Reports) ⊎ ((result ≡ Status.WriteFault) ⊎ (result ≡ Status.NoMemory))) }
+    ensures untouched { (count : ℕ) → IsGeneration (map string_bytes words.now) count → files.new ≡ files.old }
     ensures no_command { GiveNone (map string_bytes words.now) (map (λ b. called b) reporters.old.items) →
         (result ≡ Status.Usage) ⊎ ((result ≡ Status.WriteFault) ⊎ (result ≡ Status.NoMemory)) }
     ensures failed { F.failed files.new ≢ F.failed files.old →

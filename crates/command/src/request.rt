@@ -1,11 +1,13 @@
 //! The request that words stand for, by positions.
 
-ghost use Rattle.std.specs.Prelude.{◌≡◌, ◌⊎◌, ◌<◌, ◌≤◌, ◌-◌, ◌^◌, Err, false, length, map, string_bytes, IfOk, IfSome};
+ghost use Rattle.std.specs.Prelude.{◌≡◌, ◌⊎◌, ◌<◌, ◌≤◌, ◌-◌, ◌^◌, ℕ, Err, Some, false, length, map, string_bytes, IfOk, IfSome, MatchResult};
 ghost use Rattle.std.specs.List.{range_with_len};
-ghost use Rattle.command.specs.Commands.{GiveNone, IsCommand};
-ghost use Rattle.command.specs.Requests.{command_at};
+ghost use Rattle.command.specs.Commands.{GiveNone};
+ghost use Rattle.command.specs.Requests.{AskFor};
+ghost use Rattle.command_words.specs.Generation.{IsGeneration};
 
 use crate::words::task_of;
+use command_words::read_generation;
 use reporters::Reporter;
 use std::alloc::{AllocError, Global};
 
@@ -20,6 +22,8 @@ pub struct Request {
     pub stats: bool,
     /// The FILE words, checkers and C files, in order.
     pub files: Vec<u32>,
+    /// How many functions to generate, 1 to 9999; there are no files then.
+    pub generate: Option<u32>,
 }
 
 /// Why words give no request.
@@ -64,11 +68,21 @@ pub fn read_words(
     reporters: &[Box<dyn Reporter>],
 ) -> Result<Request, WordsFault>
     requires few { length reporters.now < 2 ^ 32 }
-    ensures request { IfOk result (λ request. IsCommand (map string_bytes words.now) (map (λ b. called b) reporters.now) (command_at (map string_bytes words.now) request)) }
+    ensures request { IfOk result (λ request. AskFor (map string_bytes words.now) (map (λ b. called b) reporters.now) request request.generate) }
+    ensures generation { (count : ℕ) → IsGeneration (map string_bytes words.now) count → MatchResult result (λ request. request.generate ≡ Some count) (λ fault. ⊥) }
     ensures plain { IfOk result (λ request. request.stats ≡ false) }
     ensures usage { result ≡ Err WordsFault.Usage → GiveNone (map string_bytes words.now) (map (λ b. called b) reporters.now) }
     ensures none { GiveNone (map string_bytes words.now) (map (λ b. called b) reporters.now) → (result ≡ Err WordsFault.Usage) ⊎ (result ≡ Err WordsFault.NoMemory) }
 {
+    if let Some(count) = read_generation(words) {
+        return Ok(Request {
+            depth: 4,
+            format: None,
+            stats: false,
+            files: Vec::new(alloc),
+            generate: Some(count),
+        });
+    }
     let Some(task) = task_of(words, reporters) else {
         return Err(WordsFault::Usage);
     };
@@ -81,5 +95,6 @@ pub fn read_words(
         format: short_place(task.place),
         stats: false,
         files,
+        generate: None,
     })
 }

@@ -1,7 +1,7 @@
 //! The words of the command, and the task that they give.
 
 ghost use Rattle.std.specs.Prelude.{◌≡◌, ◌≤◌, ◌<◌, length, map, string_bytes, None, IfSome};
-ghost use Rattle.command.specs.Commands.{Command, IsCommand, GiveNone};
+ghost use Rattle.command.specs.Commands.{Command, IsCommand, GiveNoCommand};
 ghost use Rattle.command.specs.Tasks.{command_of};
 
 use command_words::read_asked;
@@ -23,7 +23,7 @@ pub(crate) struct Task<'a> {
 pub(crate) fn task_of<'a>(words: &'a [String], reporters: &[Box<dyn Reporter>]) -> Option<Task<'a>>
     ensures given { IfSome result (λ task. IsCommand (map string_bytes words.now) (map (λ b. called b) reporters.now) (command_of task)) }
     ensures only { IfSome result (λ task. (command : Command) → IsCommand (map string_bytes words.now) (map (λ b. called b) reporters.now) command → command ≡ command_of task) }
-    ensures none { result ≡ None → GiveNone (map string_bytes words.now) (map (λ b. called b) reporters.now) }
+    ensures none { result ≡ None → GiveNoCommand (map string_bytes words.now) (map (λ b. called b) reporters.now) }
     ensures deep { IfSome result (λ task. task.depth ≤ 8) }
     ensures few { IfSome result (λ task. length task.files.now ≤ 80) }
     ensures within { IfSome result (λ task. IfSome task.place (λ place. place < length reporters.now)) }

@@ -1,5 +1,6 @@
 pub mod Answered
 pub mod Complete
 pub mod Examples
+pub mod Generations
 pub mod Sound
 pub mod Steps

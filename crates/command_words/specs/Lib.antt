@@ -1,3 +1,4 @@
+pub mod Generation
 pub mod Reading
 pub mod Views
 pub mod Words

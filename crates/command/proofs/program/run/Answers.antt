@@ -1,4 +1,5 @@
 use Rattle.command.proofs.Complete.{accepted_linked, accepted_sound, complete, refused_where}
+use Rattle.command.proofs.Generating.{generation, measured}
 use Rattle.command.proofs.Statuses.{clean, reports, usage, refused, read_fault, write_fault, no_command, failed}
 use Rattle.command.proofs.program.run.Goals as goal
 
@@ -37,3 +38,9 @@ returns-clause-faulty g c command contents position given tells unsound same =
 pub returns-clause-unlinked : goal.returns-clause-unlinked
 returns-clause-unlinked g c command contents given tells unlinked same =
     refused_where _ _ _ _ _ _ _ _ command contents given same (λ reports a. unlinked (accepted_linked (g.F.Files.contents c.args.files.now) command contents reports a tells)) c.decide_and_write.ensures.ran
+
+pub returns-clause-measured : goal.returns-clause-measured
+returns-clause-measured g c count is no-out no-errs ne = measured _ _ _ _ _ _ _ _ count is c.decide_and_write.ensures.ran no-out no-errs ne
+
+pub returns-clause-generation : goal.returns-clause-generation
+returns-clause-generation g c count is = generation _ _ _ _ _ _ _ _ count is c.decide_and_write.ensures.ran

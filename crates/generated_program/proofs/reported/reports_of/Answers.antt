@@ -1,0 +1,12 @@
+use Rattle.std.proofs.Common.{ap}
+use Rattle.mx_io.specs.MemFiles.{first_of}
+use Rattle.generated_program.specs.Checker.{free_text}
+use Rattle.generated_program.specs.Measured.{checker_name, program_name}
+use Rattle.generated_program.proofs.Contents.{judged_as_told}
+use Rattle.generated_program.proofs.reported.reports_of.Goals as goal
+
+pub returns-in-Ok : goal.returns-in-Ok
+returns-in-Ok c =
+    let held = c.in_ok-files.ensures in
+    judged_as_told (first_of c.in_ok-files.files.files) checker_name program_name free_text c.args.program.now (ap (λ fs. first_of fs checker_name) held) (ap (λ fs. first_of fs program_name) held) 4 c.in-Ok.reports.items
+    c.in-Ok.ensures.accepted

@@ -1,0 +1,3 @@
+pub mod Checker
+pub mod Generated
+pub mod Measured
