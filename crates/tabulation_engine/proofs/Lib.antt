@@ -1,3 +1,4 @@
 pub mod SameValues
 pub mod Somehow
+pub mod Keeping
 pub mod AllReports

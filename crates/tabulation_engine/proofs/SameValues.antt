@@ -12,6 +12,7 @@ use Rattle.path_edges.specs.declared.edges.Context.{Context}
 use Rattle.path_edges.specs.declared.edges.Edge.{Edge}
 use Rattle.path_edges.specs.declared.edges.Waiter.{Waiter}
 use Rattle.path_edges.specs.Equality.{same_context}
+use Rattle.tabulation_engine.specs.Agreement.{states_agree, tuples_agree, contexts_agree, edges_agree}
 use Rattle.state_tuples.specs.declared.tuple.Tuple.{Tuple}
 
 number-itself : (n : ℕ) → nat_eq n n ≡ true
@@ -35,30 +36,18 @@ option-itself eq itself None = refl
 option-itself eq itself (Some x) = itself x
 
 -- states, tuples and contexts
-abbrev same_state : State → State → Bool
-same_state a b = nat_eq a.0 b.0 && nat_eq a.1 b.1
-
-abbrev tuples_agree : Tuple → Tuple → Bool
-tuples_agree x y = nat_eq x.global y.global && (option_eq same_object x.object y.object && option_eq same_state x.state y.state)
-
-abbrev pub contexts_agree : Context → Context → Bool
-contexts_agree x y = nat_eq x.function y.function && tuples_agree x.entry y.entry
-
-state-itself : (x : State) → same_state x x ≡ true
+state-itself : (x : State) → states_agree x x ≡ true
 state-itself x = two (nat_eq x.0 x.0) (nat_eq x.1 x.1) (number-itself x.0) (number-itself x.1)
 
 tuple-itself : (t : Tuple) → tuples_agree t t ≡ true
 tuple-itself t =
-    two (nat_eq t.global t.global) (option_eq same_object t.object t.object && option_eq same_state t.state t.state) (number-itself t.global)
-    (two (option_eq same_object t.object t.object) (option_eq same_state t.state t.state) (option-itself same_object same_object-refl t.object) (option-itself same_state state-itself t.state))
+    two (nat_eq t.global t.global) (option_eq same_object t.object t.object && option_eq states_agree t.state t.state) (number-itself t.global)
+    (two (option_eq same_object t.object t.object) (option_eq states_agree t.state t.state) (option-itself same_object same_object-refl t.object) (option-itself states_agree state-itself t.state))
 
 pub context-itself : (k : Context) → contexts_agree k k ≡ true
 context-itself k = two (nat_eq k.function k.function) (tuples_agree k.entry k.entry) (number-itself k.function) (tuple-itself k.entry)
 
 -- edges
-abbrev pub edges_agree : Edge → Edge → Bool
-edges_agree x y = contexts_agree x.context y.context && (beq x.is_root y.is_root && (nat_eq x.block y.block && tuples_agree x.tuple y.tuple))
-
 pub edge-itself : (e : Edge) → edges_agree e e ≡ true
 edge-itself e =
     two (contexts_agree e.context e.context) (beq e.is_root e.is_root && (nat_eq e.block e.block && tuples_agree e.tuple e.tuple)) (context-itself e.context)
@@ -67,7 +56,7 @@ edge-itself e =
 
 -- who waits, and where
 abbrev saved_agree : Object × Option State → Object × Option State → Bool
-saved_agree x y = same_object x.0 y.0 && option_eq same_state x.1 y.1
+saved_agree x y = same_object x.0 y.0 && option_eq states_agree x.1 y.1
 
 abbrev waiters_agree : Waiter → Waiter → Bool
 waiters_agree x y = contexts_agree x.context y.context && (beq x.is_root y.is_root && (nat_eq x.block y.block && (nat_eq x.behind y.behind && option_eq saved_agree x.saved y.saved)))
@@ -75,11 +64,11 @@ waiters_agree x y = contexts_agree x.context y.context && (beq x.is_root y.is_ro
 abbrev pub waits_agree : Wait Context Waiter → Wait Context Waiter → Bool
 waits_agree x y = contexts_agree x.on y.on && waiters_agree x.waiter y.waiter
 
-same-state : (a b : State) → same_state a b ≡ true → a ≡ b
+same-state : (a b : State) → states_agree a b ≡ true → a ≡ b
 same-state a b h = same_pair nat_eq nat_eq eqb-true eqb-true a b h
 
 same-saved : (x y : Object × Option State) → saved_agree x y ≡ true → x ≡ y
-same-saved x y h = same_pair same_object (option_eq same_state) same_object-true (same_option same_state same-state) x y h
+same-saved x y h = same_pair same_object (option_eq states_agree) same_object-true (same_option states_agree same-state) x y h
 
 same-waiter : (x y : Waiter) → waiters_agree x y ≡ true → x ≡ y
 same-waiter x y h =
@@ -101,7 +90,7 @@ same-wait x y h =
     λ i. record { on = same_context x.on y.on p.0 i; waiter = same-waiter x.waiter y.waiter p.1 i }
 
 saved-itself : (x : Object × Option State) → saved_agree x x ≡ true
-saved-itself x = two (same_object x.0 x.0) (option_eq same_state x.1 x.1) (same_object-refl x.0) (option-itself same_state state-itself x.1)
+saved-itself x = two (same_object x.0 x.0) (option_eq states_agree x.1 x.1) (same_object-refl x.0) (option-itself states_agree state-itself x.1)
 
 waiter-itself : (w : Waiter) → waiters_agree w w ≡ true
 waiter-itself w =

@@ -2,6 +2,7 @@
 //! show.
 #![tactic(auto)]
 
+mod caching_engine;
 mod engine;
 mod least_log;
 mod tabulation;

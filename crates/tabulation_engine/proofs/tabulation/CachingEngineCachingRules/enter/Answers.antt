@@ -5,11 +5,11 @@ use Rattle.least_set.specs.Logs.{IsExactly}
 use Rattle.path_edges.specs.Relations.{LeadsTo, WaitsAt, IsEndOf}
 use Rattle.tabulation_engine.proofs.Somehow.{edges-somehow, waits-somehow, end-somehow}
 use Rattle.state_tuples.specs.declared.tuple.Tuple.{Tuple}
-use Rattle.tabulation_engine.proofs.tabulation.EngineRules.enter.Goals as goal
+use Rattle.tabulation_engine.proofs.tabulation.CachingEngineCachingRules.enter.Goals as goal
 
 pub returns-clause-goes : goal.returns-clause-goes
 returns-clause-goes c =
-    let e = c.args.self.now in
+    let e = c.args.self.now.engine.now in
     let t = e.tables in
     let a = c.args.member.now in
     let stand = λ (l : List Tuple). IsExactly l (StandsBehind (checker_in t) (texts_in t) (graphs_in t) a) in
@@ -18,7 +18,7 @@ returns-clause-goes c =
 
 pub returns-clause-waits : goal.returns-clause-waits
 returns-clause-waits c =
-    let e = c.args.self.now in
+    let e = c.args.self.now.engine.now in
     let t = e.tables in
     let a = c.args.member.now in
     let stand = λ (l : List Tuple). IsExactly l (StandsBehind (checker_in t) (texts_in t) (graphs_in t) a) in
@@ -27,6 +27,6 @@ returns-clause-waits c =
 
 pub returns-clause-ends : goal.returns-clause-ends
 returns-clause-ends c =
-    let e = c.args.self.now in
+    let e = c.args.self.now.engine.now in
     let t = e.tables in
     end-somehow c.end_of-end.result (IsEndOf (checker_in t) (texts_in t) (graphs_in t) c.args.member.now) e.known c.end_of-end.ensures
