@@ -2,3 +2,4 @@ pub mod Events
 pub mod Ends
 pub mod Firings
 pub mod IdleEvents
+pub mod QuietEvents

@@ -5,6 +5,7 @@
 mod crossing;
 mod fronts;
 mod idle_events;
+mod quiet_events;
 mod sets;
 mod taken_rules;
 

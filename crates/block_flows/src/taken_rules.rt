@@ -14,6 +14,7 @@ ghost use Rattle.tuple_flows.specs.Moved.{AreObjects};
 
 use crate::fronts::{copy_object, first, next};
 use crate::idle_events::leaves_all;
+use crate::quiet_events::are_quiet;
 use crate::sets::items;
 use applied_rules::EventRules;
 use objects::Object;
@@ -123,10 +124,8 @@ fn fired_here<'r, 'm, 'a>(
     Ok(list)
 }
 
-/// The rules with an action that are taken while this tuple crosses a block's events, in a root's own frame or in a called one: by which
-/// object, or by the global state, and at which event. The rules are those of the events in their order; those that are followed are
-/// objects at the depth of the rules. A report on the way is that of one of these.
-pub fn firings<'r, 'm, 'a>(
+// The rules with an action that are taken while a tuple crosses events.
+fn fired_on_the_way<'r, 'm, 'a>(
     alloc: Global,
     rules: &'r [EventRules<'m, 'a>],
     is_root: bool,
@@ -148,4 +147,22 @@ pub fn firings<'r, 'm, 'a>(
         now = behind;
     }
     Ok(list)
+}
+
+/// The rules with an action that are taken while this tuple crosses a block's events, in a root's own frame or in a called one: by which
+/// object, or by the global state, and at which event. The rules are those of the events in their order; those that are followed are
+/// objects at the depth of the rules. A report on the way is that of one of these.
+pub fn firings<'r, 'm, 'a>(
+    alloc: Global,
+    rules: &'r [EventRules<'m, 'a>],
+    is_root: bool,
+    tuple: &Tuple,
+    followed: &[Object],
+) -> Result<Vec<Firing<'r, 'm, 'a>>, AllocError>
+    ensures { IfOk result (λ list. (c : Checker) (f : Function) (hs : List Happening) → AreOfEvents c.machine c.depth f hs rules.now → AreObjects c.depth followed.now → IsExactly (map fire_in list.items) (TakenAt c hs f is_root followed.now tuple.now)) }
+{
+    if are_quiet(rules) {
+        return Ok(Vec::new(alloc));
+    }
+    fired_on_the_way(alloc, rules, is_root, tuple, followed)
 }

@@ -5,7 +5,7 @@ use Rattle.block_flows.proofs.Fires.{IsNoted}
 use Rattle.checker_model.specs.Happenings.{Function, Happening}
 use Rattle.checker_model.specs.Reports.{Checker}
 use Rattle.tuple_flows.specs.Moved.{AreObjects}
-use Rattle.block_flows.proofs.taken_rules.firings.Given as goal
+use Rattle.block_flows.proofs.taken_rules.fired_on_the_way.Given as goal
 
 -- what is taken at the events that were gone through is noted
 abbrev pub invariant-loop-number : goal.invariant-loop-number
