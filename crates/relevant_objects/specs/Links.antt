@@ -25,11 +25,11 @@ members n os = map (with_number n) os
 abbrev pub LinksAt : ℕ → TypedUnit → Member → Event → Member → Type 0
 LinksAt depth u x e y = (x.0 ≡ y.0) × AreLinkedAt (facts_in u) depth x.1 (event_of e) y.1
 
--- at an event that moves nothing: an object at the depth, and no other than itself
+-- an event that moves nothing links an object at the depth to itself, and to no other
 abbrev pub LinksToItself : ℕ → Member → Member → Type 0
 LinksToItself depth x y = (x ≡ y) × IsObject depth x.1
 
--- the list has the object itself, once it stays what it is at an event
+-- once an event moved nothing, so that the object stays, the list has it
 abbrev pub HasItself : ℕ → Bool → Member → List Member → Type 0
 HasItself depth stays x found = stays ≡ true → IsObject depth x.1 → Contains found x
 

@@ -30,7 +30,7 @@ fn add_at(
     add_members(found, member.0, objects)
 }
 
-// Puts an object of a function last, if it is an object at this depth and isn't there already.
+// Puts an object of a function last, if it is an object at this depth, unless it is there since an event at which it `stays`.
 fn add_itself(
     found: &mut Vec<(u32, Object)>,
     stays: bool,
@@ -50,8 +50,8 @@ fn add_itself(
     Ok(())
 }
 
-// Puts last what an event links an object of a function to. Where it moves nothing that is the object itself, which is there already once
-// it `stays`: once an event before it moved nothing. The result says whether it stays behind this one.
+// Puts last what an event links an object of a function to. An event that moves nothing links it to itself alone, which is put once:
+// `stays` says whether an event before this one moved nothing, and the result whether this one or one before it did.
 fn add_unless_there(
     alloc: Global,
     found: &mut Vec<(u32, Object)>,
