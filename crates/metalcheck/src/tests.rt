@@ -176,6 +176,28 @@ const ROWS: &[Row] = &[
         out: b"",
         errs: b"c.c: not read\n",
     },
+    // A generated program is no file.
+    Row {
+        words: &["--generate", "1"],
+        source: USE,
+        status: Status::Reports,
+        out: b"functions 3, bytes 104, reports 1\n",
+        errs: b"",
+    },
+    Row {
+        words: &["--generate", "16"],
+        source: USE,
+        status: Status::Reports,
+        out: b"functions 18, bytes 580, reports 3\n",
+        errs: b"",
+    },
+    Row {
+        words: &["--generate", "016"],
+        source: USE,
+        status: Status::Usage,
+        out: b"",
+        errs: USAGE,
+    },
 ];
 
 #[test]
@@ -337,5 +359,7 @@ fn words_are_read_by_positions(rt: HostRuntime) -> Result<(), Fail> {
     let request = request_of(rt.alloc(), &words)?;
     assert!(rt; request.depth == 2 && request.format == Some(1));
     assert!(rt; !request.stats && request.files.as_slice() == [3, 4].as_slice());
+    let generation = request_of(rt.alloc(), &["--generate", "16"])?;
+    assert!(rt; request.generate.is_none() && generation.generate == Some(16));
     Ok(())
 }

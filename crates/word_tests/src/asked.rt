@@ -1,6 +1,6 @@
 //! What lists of words ask for, written down by hand.
 
-use command_words::read_asked;
+use command_words::{read_asked, read_generation};
 use std::alloc::{AllocError, Global};
 use std::process::Abort;
 use std::str;
@@ -117,5 +117,35 @@ fn most_files(rt: HostRuntime) -> Result<(), Fail> {
     assert!(rt; read_asked(&checkers).is_none());
     let sources = many(rt.alloc(), 16, 65)?;
     assert!(rt; read_asked(&sources).is_none());
+    Ok(())
+}
+
+/// Words, and how many functions they ask to generate.
+const GENERATIONS: &[(&str, Option<u32>)] = &[
+    ("--generate 1", Some(1)),
+    ("--generate 10", Some(10)),
+    ("--generate 9999", Some(9999)),
+    ("--generate 0", None),
+    ("--generate 01", None),
+    ("--generate +1", None),
+    ("--generate -1", None),
+    ("--generate 10000", None),
+    ("--generate 4294967297", None),
+    ("--generate 1x", None),
+    ("--generate", None),
+    ("--generate=1", None),
+    ("--generate 1 a.c", None),
+    ("--stats --generate 1", None),
+    ("--Generate 1", None),
+    ("1 --generate", None),
+    ("", None),
+];
+
+#[test]
+fn generations(rt: HostRuntime) -> Result<(), Fail> {
+    for (text, wanted) in GENERATIONS {
+        let words = words_of(rt.alloc(), text)?;
+        assert!(rt; read_generation(&words) == *wanted, "{text}");
+    }
     Ok(())
 }
