@@ -3,3 +3,4 @@ pub mod Standing
 pub mod Fires
 pub mod Reports
 pub mod IdleEvents
+pub mod QuietEvents

@@ -23,6 +23,7 @@ use Rattle.hole_bindings.specs.Settings.{setting_in}
 use Rattle.hole_matching.specs.Holes.{Setting}
 use Rattle.path_theory.specs.Facts.{FactOf}
 use Rattle.rule_choices.specs.Asked.{Asker, GlobalState, ObjectIn}
+use Rattle.rule_choices.specs.declared.fired.Fired.{Fired}
 use Rattle.rule_choices.specs.Values.{taken_of}
 use Rattle.tuple_flows.specs.Facts.{listed}
 
@@ -31,22 +32,24 @@ no-action None h = refl
 no-action (Some x) h = cc
 
 -- of rules without an action none with one is the first
-first-acts-none : (g : Setting) (e : Event) (state : ℕ) (a : Asker) (ts : List Taken) → list_all is_silent ts ≡ true → acting (first_some (picked g e state a) ts) ≡ None
+first-acts-none : (g : Setting) (e : Event) (state : ℕ) (a : Asker) (xs : List Fired) → list_all is_silent xs ≡ true → acting (first_some (picked g e state a) (map taken_of xs)) ≡ None
 first-acts-none g e state a [] q = refl
-first-acts-none g e state a (t ∷ ts) q =
-    let p = and_parts (is_silent t) (list_all is_silent ts) q in
-    by (takes g e state a t) p.0 (first-acts-none g e state a ts p.1)
+first-acts-none g e state a (x ∷ xs) q =
+    let p = and_parts (is_silent x) (list_all is_silent xs) q in
+    by (takes g e state a (taken_of x)) p.0 (first-acts-none g e state a xs p.1)
   where
-    by : (b : Bool) → is_silent t ≡ true → acting (first_some (picked g e state a) ts) ≡ None → acting (or_else (cond b (Some t) None) (first_some (picked g e state a) ts)) ≡ None
+    by : (b : Bool) → is_silent x ≡ true → acting (first_some (picked g e state a) (map taken_of xs)) ≡ None
+        → acting (or_else (cond b (Some (taken_of x)) None) (first_some (picked g e state a) (map taken_of xs))) ≡ None
     by false s r = r
-    by true s r = ap (λ z. cond z (Some t) None) (no-action t.rule.action s)
+    by true s r = ap (λ z. cond z (Some (taken_of x)) None) (no-action (taken_of x).rule.action s)
 
-taken-acts-none : (g : Setting) (e : Event) (asked : Bool) (state : ℕ) (a : Asker) (ts : List Taken) → list_all is_silent ts ≡ true → acting (first_taken g e asked state a ts) ≡ None
-taken-acts-none g e asked state a ts q = by (nat_eq state stop || not asked)
+taken-acts-none : (g : Setting) (e : Event) (asked : Bool) (state : ℕ) (a : Asker) (xs : List Fired) → list_all is_silent xs ≡ true
+    → acting (first_taken g e asked state a (map taken_of xs)) ≡ None
+taken-acts-none g e asked state a xs q = by (nat_eq state stop || not asked)
   where
-    by : (b : Bool) → acting (cond b None (first_some (picked g e state a) ts)) ≡ None
+    by : (b : Bool) → acting (cond b None (first_some (picked g e state a) (map taken_of xs))) ≡ None
     by true = refl
-    by false = first-acts-none g e state a ts q
+    by false = first-acts-none g e state a xs q
 
 module _ (c : Checker) (f : Function) (k : Bool) (followed : List Object) where
   abbrev HereIs : Happening → ℕ → FactOf Object State → Option Object → Taken → Type 0
@@ -59,12 +62,12 @@ module _ (c : Checker) (f : Function) (k : Bool) (followed : List Object) where
     object-none : (g : ℕ) (o : Object) (x : Option State) → acting (taken c.machine c.depth h f k g o x) ≡ None
     object-none g o x =
         ap acting (sym (object_is c.machine c.depth h f r of k (is_asked (event_of r.event) k o) g (ObjectIn o x) o x refl refl))
-        ∙ taken-acts-none (setting_in r.setting) (event_of r.event) (is_asked (event_of r.event) k o) g (ObjectIn o x) (map taken_of r.applied.items) quiet
+        ∙ taken-acts-none (setting_in r.setting) (event_of r.event) (is_asked (event_of r.event) k o) g (ObjectIn o x) r.applied.items quiet
 
     global-none : (g : ℕ) → acting (taken_global c.machine c.depth h f k g) ≡ None
     global-none g =
         ap acting (sym (global_is c.machine c.depth h f r of k (is_global_asked (event_of r.event) k) g refl))
-        ∙ taken-acts-none (setting_in r.setting) (event_of r.event) (is_global_asked (event_of r.event) k) g GlobalState (map taken_of r.applied.items) quiet
+        ∙ taken-acts-none (setting_in r.setting) (event_of r.event) (is_global_asked (event_of r.event) k) g GlobalState r.applied.items quiet
 
     none-here : (g : ℕ) (t : FactOf Object State) (q : Option Object) (a : Taken) → HereIs h g t q a → ⊥
     none-here g t _ a (ToObject o x i s w) = let n = object-none g o x in cc
@@ -76,7 +79,7 @@ module _ (c : Checker) (f : Function) (k : Bool) (followed : List Object) where
   none-taken [] rs of quiet n g t q a w = no-events n g t q a w
     where
       no-events : (n g : ℕ) (t : FactOf Object State) (q : Option Object) (a : Taken) → At [] n g t q a → ⊥
-      no-events n g t q a ()
+      no-events n g t q a w = elim w [ ]
   none-taken (h ∷ hs) [] of quiet n g t q a w = absurd of
   none-taken (h ∷ hs) (r ∷ rs) of quiet n g t q a w =
       let p = and_parts (is_quiet r) (are_quiet rs) quiet in

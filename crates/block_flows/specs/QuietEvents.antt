@@ -1,17 +1,17 @@
 -- Events at which no rule with an action can be taken.
-use Rattle.std.specs.Prelude.{Bool, is_none, List, map}
+use Rattle.std.specs.Prelude.{Bool, is_none, List}
 use Rattle.std.specs.List.{list_all}
 use Rattle.applied_rules.specs.declared.rules.EventRules.{EventRules}
-use Rattle.checker_model.specs.Choices.{Taken}
+use Rattle.rule_choices.specs.declared.fired.Fired.{Fired}
 use Rattle.rule_choices.specs.Values.{taken_of}
 
 -- the rule has no action
-abbrev pub is_silent : Taken → Bool
-is_silent t = is_none t.rule.action
+abbrev pub is_silent : Fired → Bool
+is_silent fired = is_none (taken_of fired).rule.action
 
 -- none of the alternatives that apply at an event is of a rule with an action
 abbrev pub is_quiet : EventRules → Bool
-is_quiet r = list_all is_silent (map taken_of r.applied.items)
+is_quiet r = list_all is_silent r.applied.items
 
 abbrev pub are_quiet : List EventRules → Bool
 are_quiet rs = list_all is_quiet rs

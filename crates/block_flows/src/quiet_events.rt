@@ -1,15 +1,14 @@
 //! Events at which no rule with an action can be taken. In most blocks all are such.
 
-ghost use Rattle.std.specs.Prelude.{◌≡◌, is_none};
-ghost use Rattle.block_flows.specs.QuietEvents.{is_quiet, are_quiet};
-ghost use Rattle.rule_choices.specs.Values.{taken_of};
+ghost use Rattle.std.specs.Prelude.{◌≡◌};
+ghost use Rattle.block_flows.specs.QuietEvents.{is_silent, is_quiet, are_quiet};
 
 use applied_rules::EventRules;
 use state_tuples::Fired;
 
 // Whether an alternative is of a rule without an action.
 fn is_silent(fired: &Fired) -> bool
-    ensures { result ≡ is_none (taken_of fired.now).rule.action }
+    ensures { result ≡ is_silent fired.now }
 {
     fired.rule.action.is_none()
 }
