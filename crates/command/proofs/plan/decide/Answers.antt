@@ -8,7 +8,9 @@ pub returns-in-Some-clause-leaves : goal.returns-in-Some-clause-leaves
 returns-in-Some-clause-leaves g c =
     let words = map (string_bytes {Z = Global}) c.args.words.now in
     let called = map (λ b. (goal.Reporter-dyn g (b.vtable, b.value)).called b.value) c.args.reporters.now.items in
-    leaves_unasked words called c.in-Some.count (λ reports. map (λ b. (goal.Reporter-dyn g (b.vtable, b.value)).rendered b.value reports) c.args.reporters.now.items) _ _ c.in_ok-plan.plan.status c.in-Some.ensures.generation refl
+    let held = map (λ b. (goal.Reporter-dyn g (b.vtable, b.value)).taken b.value) c.args.reporters.now.items in
+    leaves_unasked words called c.in-Some.count (λ reports. map (λ b. (goal.Reporter-dyn g (b.vtable, b.value)).rendered b.value reports) c.args.reporters.now.items) held held c.in_ok-plan.plan.status c.in-Some.ensures.generation
+    refl
 
 pub returns-in_default-task_of-clause-due : goal.returns-in_default-task_of-clause-due
 returns-in_default-task_of-clause-due g c = inl (record {
