@@ -8,7 +8,7 @@ use Rattle.applied_rules.specs.declared.rules.EventRules.{EventRules}
 use Rattle.applied_rules.specs.Events.{AreOfEvent}
 use Rattle.applied_rules.specs.Firsts.{takes, picked, first_taken}
 use Rattle.block_flows.specs.Events.{AreOfEvents}
-use Rattle.block_flows.specs.Firings.{acting, if_acting, ObjectActs, GlobalActs}
+use Rattle.block_flows.specs.Firings.{acting, ObjectActs, GlobalActs}
 use Rattle.block_flows.specs.QuietEvents.{is_silent, is_quiet, are_quiet}
 use Rattle.c_objects.specs.Objects.{Object}
 use Rattle.c_paths.specs.Events.{Event}
