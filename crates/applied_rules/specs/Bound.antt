@@ -1,22 +1,21 @@
--- THE OBJECTS THAT BINDINGS HAVE, hole by hole.
-use Rattle.std.specs.Prelude.{List, take, flat_map, Option}
+-- THE OBJECTS THAT RULES BIND: what their state variables have taken.
+use Rattle.std.specs.Prelude.{ℕ, List, flat_map}
 use Rattle.std.specs.Option.{option_to_list}
 use Rattle.c_objects.specs.Objects.{Object}
-use Rattle.checker_model.specs.Choices as choices
-use Rattle.hole_matching.specs.Alternatives.{object_taken}
+use Rattle.checker_model.specs.Choices.{Taken, rule_variables}
+use Rattle.hole_matching.specs.Alternatives.{bound_object}
 use Rattle.hole_matching.specs.Holes.{Setting}
-use Rattle.hole_matching.specs.Matching.{Taken, Binding}
-use Rattle.metal_machines.specs.Limits.{most_holes}
+use Rattle.hole_matching.specs.Matching.{Binding}
 
 -- one or none
-abbrev pub object_of_hole : Setting → Option Taken → List Object
-object_of_hole g x = option_to_list (object_taken g x)
+abbrev pub object_of : Setting → Binding → ℕ → List Object
+object_of g b v = option_to_list (bound_object g v b)
 
-abbrev pub bound_in : Setting → Binding → List Object
-bound_in g b = flat_map (object_of_hole g) (take most_holes b)
+abbrev pub objects_of : Setting → Binding → List ℕ → List Object
+objects_of g b vs = flat_map (object_of g b) vs
 
-abbrev pub bound_with : Setting → choices.Taken → List Object
-bound_with g t = bound_in g t.binding
+abbrev pub bound_with : Setting → Taken → List Object
+bound_with g t = objects_of g t.binding (rule_variables t.rule.source t.rule.dest)
 
-abbrev pub bound_by : Setting → List choices.Taken → List Object
+abbrev pub bound_by : Setting → List Taken → List Object
 bound_by g ts = flat_map (bound_with g) ts

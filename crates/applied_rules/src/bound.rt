@@ -2,51 +2,82 @@
 
 ghost use Rattle.std.specs.Prelude.{◌≡◌, ◌↔◌, ◌++◌, ℕ, map, IfOk, Contains};
 ghost use Rattle.std.specs.Option.{option_to_list};
-ghost use Rattle.applied_rules.specs.Bound.{bound_in, bound_by};
+ghost use Rattle.applied_rules.specs.Bound.{objects_of, bound_with, bound_by};
 ghost use Rattle.applied_rules.specs.Events.{AreOfEvent};
 ghost use Rattle.c_objects.specs.Objects.{Object as Seen};
-ghost use Rattle.checker_model.specs.Choices.{Binds};
+ghost use Rattle.checker_model.specs.Choices.{Binds, variable_of, led_variables};
 ghost use Rattle.checker_model.specs.Happenings.{Function, Happening};
 ghost use Rattle.hole_bindings.specs.Bindings.{binding_of};
 ghost use Rattle.hole_bindings.specs.Settings.{setting_in};
 ghost use Rattle.hole_matching.specs.Alternatives.{bound_object};
 ghost use Rattle.metal_machines.specs.Machine.{Machine as Form};
+ghost use Rattle.metal_tree.specs.Views.{target_view, dest_view};
 ghost use Rattle.rule_choices.specs.Values.{taken_of};
 
 use crate::rules::EventRules;
-use event_rules::bound_object;
+use event_rules::{bound_object, variable_of};
 use hole_bindings::{Binding, Setting};
+use metal_tree::{Dest, Source, Target};
 use objects::Object;
 use state_tuples::Fired;
 use std::alloc::{AllocError, Global};
 
-// Adds the object of what a hole has taken, if it has one.
+// Adds the object of what a variable has taken, if it has taken one.
 fn add_bound(
     setting: &Setting,
-    hole: u8,
+    variable: u8,
     binding: &Binding,
     objects: &mut Vec<Object>,
 ) -> Result<(), AllocError>
-    ensures { IfOk result (λ _. objects.new.items ≡ objects.old.items ++ option_to_list (bound_object (setting_in setting.now) hole (binding_of binding.now))) }
+    ensures { IfOk result (λ _. objects.new.items ≡ objects.old.items ++ option_to_list (bound_object (setting_in setting.now) variable (binding_of binding.now))) }
 {
-    if let Some(object) = bound_object(setting, hole, binding) {
+    if let Some(object) = bound_object(setting, variable, binding) {
         objects.push(object)?;
     }
     Ok(())
 }
 
-// Adds the objects of what the holes of a binding have taken.
-fn add_binding(
+// Adds the object of the variable to whose state a target leads, if it leads to one.
+fn add_led(
     setting: &Setting,
+    target: Target,
     binding: &Binding,
     objects: &mut Vec<Object>,
 ) -> Result<(), AllocError>
-    ensures { IfOk result (λ _. objects.new.items ≡ objects.old.items ++ bound_in (setting_in setting.now) (binding_of binding.now)) }
+    ensures { IfOk result (λ _. objects.new.items ≡ objects.old.items ++ objects_of (setting_in setting.now) (binding_of binding.now) (option_to_list (variable_of (target_view target)))) }
 {
-    for hole in 0..16u8 {
-        add_bound(setting, hole, binding, objects)?;
+    if let Some(variable) = variable_of(target) {
+        add_bound(setting, variable, binding, objects)?;
     }
     Ok(())
+}
+
+// Adds the objects of the variables to whose states a rule leads.
+fn add_targets(
+    setting: &Setting,
+    dest: &Dest,
+    binding: &Binding,
+    objects: &mut Vec<Object>,
+) -> Result<(), AllocError>
+    ensures { IfOk result (λ _. objects.new.items ≡ objects.old.items ++ objects_of (setting_in setting.now) (binding_of binding.now) (led_variables (dest_view dest.now))) }
+{
+    match dest {
+        Dest::To(target) => add_led(setting, *target, binding, objects),
+        Dest::Split { on_true, on_false } => {
+            add_led(setting, *on_true, binding, objects)?;
+            add_led(setting, *on_false, binding, objects)
+        }
+    }
+}
+
+// Adds what the state variables of a rule have taken.
+fn add_fired(setting: &Setting, fired: &Fired, objects: &mut Vec<Object>) -> Result<(), AllocError>
+    ensures { IfOk result (λ _. objects.new.items ≡ objects.old.items ++ bound_with (setting_in setting.now) (taken_of fired.now)) }
+{
+    match fired.rule.source {
+        Source::Global(_) => add_targets(setting, &fired.rule.dest, &fired.binding, objects),
+        Source::Object { variable, .. } => add_bound(setting, variable, &fired.binding, objects),
+    }
 }
 
 // The objects that these alternatives bind.
@@ -55,13 +86,13 @@ fn bound_by(alloc: Global, setting: &Setting, applied: &[Fired]) -> Result<Vec<O
 {
     let mut objects = Vec::new(alloc);
     for fired in applied {
-        add_binding(setting, &fired.binding, &mut objects)?;
+        add_fired(setting, fired, &mut objects)?;
     }
     Ok(objects)
 }
 
 impl<'m, 'a> EventRules<'m, 'a> {
-    /// The objects that the alternatives bind to their holes; one may stand there more than once.
+    /// The objects that the alternatives bind: what the state variables of their rules have taken. One may stand there more than once.
     pub fn bound_objects(&self, alloc: Global) -> Result<Vec<Object>, AllocError>
         ensures { IfOk result (λ list. (m : Form) (depth : ℕ) (h : Happening) (f : Function) → AreOfEvent m depth h f self.now → (o : Seen) → Contains list.items o ↔ Binds m depth f h o) }
     {

@@ -1,6 +1,7 @@
 -- CHOICES: the rule that the global state takes at an event, and the rule that an object takes. All of them look at the states behind
 -- the event's move.
-use Rattle.std.specs.Prelude.{◌≡◌, ℕ, nat_eq, List, [], ◌∷◌, Bool, true, false, cond, not, ◌&&◌, ◌||◌, Option, None, Some}
+use Rattle.std.specs.Prelude.{◌≡◌, ℕ, nat_eq, List, [], ◌∷◌, ◌++◌, Bool, true, false, cond, not, ◌&&◌, ◌||◌, Option, None, Some}
+use Rattle.std.specs.Option.{option_to_list}
 use Rattle.c_objects.specs.Objects.{Object}
 use Rattle.c_paths.specs.Events.{Event, Evaluated, Declared, Branched, Exited}
 use Rattle.c_paths.specs.Membership.{Among}
@@ -143,7 +144,16 @@ next_global m depth h f is_root state = if_there (taken_global m depth h f is_ro
 abbrev pub chosen : Machine → ℕ → Happening → Function → Bool → ℕ → Object → Option State → Option State
 chosen m depth h f is_root state o x = if_there (taken m depth h f is_root state o x) x (λ t. object_behind (target_at h.event t.rule.dest) x)
 
--- AN ALTERNATIVE OF A RULE BINDS THE OBJECT at an event, to one of its holes
+-- the state variables of a rule: that of the state from which it goes, or from a global state those of the states to which it leads
+abbrev pub led_variables : Dest → List ℕ
+led_variables (Always t) = option_to_list (variable_of t)
+led_variables (ByTruth on_true on_false) = option_to_list (variable_of on_true) ++ option_to_list (variable_of on_false)
+
+abbrev pub rule_variables : Source → Dest → List ℕ
+rule_variables (FromGlobal q) d = led_variables d
+rule_variables (FromObject v q) d = v ∷ []
+
+-- AN ALTERNATIVE OF A RULE BINDS THE OBJECT at an event: the rule's state variable has taken it
 pub record Binds (m : Machine) (depth : ℕ) (f : Function) (h : Happening) (o : Object) : Type 0 where
   pub rule : Rule
   pub among : Among rule m.rules
@@ -152,4 +162,5 @@ pub record Binds (m : Machine) (depth : ℕ) (f : Function) (h : Happening) (o :
   pub binding : Binding
   pub applies : applied (scene m depth h f) h.event rule.dest items ≡ Some binding
   pub variable : ℕ
+  pub of_rule : Among variable (rule_variables rule.source rule.dest)
   pub bound : bound_object (scene m depth h f) variable binding ≡ Some o
