@@ -2,24 +2,19 @@
 use Rattle.std.proofs.Common.{◌≡◌, nat_eq, Bool, true, false, ◌&&◌, refl}
 use Rattle.std.proofs.lemmas.Bool.{eqb-true}
 use Rattle.std.specs.Bool.{beq}
-use Rattle.std.specs.Option.{option_eq}
-use Rattle.checker_model.specs.Choices.{State}
 use Rattle.least_set.specs.Same.{both}
-use Rattle.objects.specs.Equality.{same_object}
 use Rattle.path_edges.specs.declared.edges.Context.{Context}
 use Rattle.path_edges.specs.declared.edges.Edge.{Edge}
-use Rattle.state_tuples.specs.Equality.{same_tuple}
-use Rattle.state_tuples.specs.declared.tuple.Tuple.{Tuple}
+use Rattle.state_tuples.specs.Equality.{same_tuple, tuples_agree}
 
-abbrev same_state : State → State → Bool
-same_state a b = nat_eq a.0 b.0 && nat_eq a.1 b.1
-
-abbrev tuples_agree : Tuple → Tuple → Bool
-tuples_agree x y = nat_eq x.global y.global && (option_eq same_object x.object y.object && option_eq same_state x.state y.state)
-
-abbrev contexts_agree : Context → Context → Bool
+-- WHETHER CONTEXTS AND EDGES AGREE, part by part, as `==` tests it
+abbrev pub contexts_agree : Context → Context → Bool
 contexts_agree x y = nat_eq x.function y.function && tuples_agree x.entry y.entry
 
+abbrev pub edges_agree : Edge → Edge → Bool
+edges_agree x y = contexts_agree x.context y.context && (beq x.is_root y.is_root && (nat_eq x.block y.block && tuples_agree x.tuple y.tuple))
+
+-- those that agree are equal
 pub same_context : (x y : Context) → contexts_agree x y ≡ true → x ≡ y
 same_context x y h =
     let p = both (nat_eq x.function y.function) (tuples_agree x.entry y.entry) h in
@@ -31,7 +26,7 @@ same_truth false false h = refl
 same_truth true false h = cc
 same_truth false true h = cc
 
-pub same_edge : (x y : Edge) → contexts_agree x.context y.context && (beq x.is_root y.is_root && (nat_eq x.block y.block && tuples_agree x.tuple y.tuple)) ≡ true → x ≡ y
+pub same_edge : (x y : Edge) → edges_agree x y ≡ true → x ≡ y
 same_edge x y h =
     let p = both (contexts_agree x.context y.context) (beq x.is_root y.is_root && (nat_eq x.block y.block && tuples_agree x.tuple y.tuple)) h in
     let q = both (beq x.is_root y.is_root) (nat_eq x.block y.block && tuples_agree x.tuple y.tuple) p.1 in

@@ -11,7 +11,7 @@ use Rattle.indexmap.specs.IndexMap.{IndexMap, get, Updates, IsUnchanged}
 use Rattle.least_set.specs.Logs.{IsExactly}
 use Rattle.path_edges.specs.Equality.{same_edge}
 use Rattle.path_edges.specs.declared.edges.Edge.{Edge}
-use Rattle.tabulation_engine.specs.Agreement.{edges_agree}
+use Rattle.path_edges.specs.Equality.{edges_agree}
 use Rattle.tabulation_engine.specs.KeptTuples.{AreBehind}
 use Rattle.state_tuples.specs.declared.tuple.Tuple.{Tuple}
 

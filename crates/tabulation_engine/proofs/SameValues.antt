@@ -12,7 +12,8 @@ use Rattle.path_edges.specs.declared.edges.Context.{Context}
 use Rattle.path_edges.specs.declared.edges.Edge.{Edge}
 use Rattle.path_edges.specs.declared.edges.Waiter.{Waiter}
 use Rattle.path_edges.specs.Equality.{same_context}
-use Rattle.tabulation_engine.specs.Agreement.{states_agree, tuples_agree, contexts_agree, edges_agree}
+use Rattle.path_edges.specs.Equality.{contexts_agree, edges_agree}
+use Rattle.state_tuples.specs.Equality.{states_agree, tuples_agree}
 use Rattle.state_tuples.specs.declared.tuple.Tuple.{Tuple}
 
 number-itself : (n : ℕ) → nat_eq n n ≡ true

@@ -10,7 +10,7 @@ use Rattle.path_edges.specs.declared.edges.Context.{Context}
 use Rattle.path_edges.specs.declared.edges.Edge.{Edge}
 use Rattle.path_edges.specs.declared.edges.Waiter.{Waiter}
 use Rattle.tabulation_engine.proofs.SameValues.{context-itself, edge-itself, waits_agree, same-wait, wait-itself}
-use Rattle.tabulation_engine.specs.Agreement.{contexts_agree, edges_agree}
+use Rattle.path_edges.specs.Equality.{contexts_agree, edges_agree}
 use Rattle.tabulation_rules.proofs.Stable.{exactly}
 
 -- of edges, and of those that wait

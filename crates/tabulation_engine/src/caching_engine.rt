@@ -5,7 +5,7 @@ ghost use Rattle.edge_steps.specs.Steps.{StandsBehind};
 ghost use Rattle.engine_tables.specs.Known.{AreKnown, checker_in, texts_in, graphs_in};
 ghost use Rattle.indexmap.specs.IndexMap.{get};
 ghost use Rattle.least_set.specs.Logs.{IsExactly};
-ghost use Rattle.tabulation_engine.specs.Agreement.{edges_agree};
+ghost use Rattle.path_edges.specs.Equality.{edges_agree};
 ghost use Rattle.tabulation_engine.specs.KeptTuples.{AreBehind};
 
 use crate::engine::Engine;
