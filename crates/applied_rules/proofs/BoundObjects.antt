@@ -1,8 +1,7 @@
 -- The objects of all bindings are exactly those that alternatives bind.
-use Rattle.std.proofs.Common.{◌≡◌, ℕ, List, [], ◌∷◌, ◌++◌, Contains, Option, None, Some, sym, ap, subst, ◌∙◌, append_assoc, append-nil}
+use Rattle.std.proofs.Common.{◌≡◌, ℕ, List, Contains, Option, None, Some, sym, ap, subst}
 use Rattle.std.specs.Prelude.{◌↔◌}
 use Rattle.std.specs.Option.{option_map, option_to_list}
-use Rattle.std.proofs.lemmas.Grind.{flat_map-append}
 use Rattle.applied_rules.proofs.Lists.{among, contained, given-stands, stands-given, the-one, one-stands}
 use Rattle.applied_rules.specs.Applied.{taken_with, applied_alternative, applied_rule, applied_at}
 use Rattle.applied_rules.specs.Bound.{object_of, objects_of, bound_with, bound_by}
@@ -19,22 +18,6 @@ use Rattle.metal_machines.specs.Machine.{Rule, Machine}
 -- ---- variables, one by one
 
 module _ (g : Setting) (b : Binding) where
-  -- the object of one
-  pub one-bound : (v : ℕ) (old new : List Object) → new ≡ old ++ option_to_list (bound_object g v b) → new ≡ old ++ objects_of g b (v ∷ [])
-  one-bound v old new n = n ∙ ap (λ z. old ++ z) (sym (append-nil (object_of g b v)))
-
-  -- of none
-  pub none-bound : (old new : List Object) → new ≡ old → new ≡ old ++ objects_of g b []
-  none-bound old new n = n ∙ sym (append-nil old)
-
-  -- of some, and then of more
-  pub more-bound : (vs ws : List ℕ) (old mid new : List Object) → mid ≡ old ++ objects_of g b vs → new ≡ mid ++ objects_of g b ws → new ≡ old ++ objects_of g b (vs ++ ws)
-  more-bound vs ws old mid new m n =
-      n
-      ∙ ap (λ z. z ++ objects_of g b ws) m
-      ∙ append_assoc old (objects_of g b vs) (objects_of g b ws)
-      ∙ ap (λ z. old ++ z) (sym (flat_map-append (object_of g b) vs ws))
-
   -- a variable that has taken the object gives it, and no other does
   bound-stands : (vs : List ℕ) (v : ℕ) (o : Object) → Among v vs → bound_object g v b ≡ Some o → Contains (objects_of g b vs) o
   bound-stands vs v o m h = given-stands (object_of g b) vs v o (contained vs v m) (one-stands (bound_object g v b) o h)
