@@ -1,7 +1,7 @@
 -- The objects of all bindings are exactly those that alternatives bind.
 use Rattle.std.proofs.Common.{◌≡◌, ℕ, List, Contains, Option, None, Some, sym, ap, subst}
 use Rattle.std.specs.Prelude.{◌↔◌}
-use Rattle.std.specs.Option.{option_map, option_to_list}
+use Rattle.std.specs.Option.{option_map}
 use Rattle.applied_rules.proofs.Lists.{among, contained, given-stands, stands-given, the-one, one-stands}
 use Rattle.applied_rules.specs.Applied.{taken_with, applied_alternative, applied_rule, applied_at}
 use Rattle.applied_rules.specs.Bound.{object_of, objects_of, bound_with, bound_by}
