@@ -35,15 +35,15 @@ pub(crate) fn refused(alloc: Global, located: &LocatedFault) -> Result<Text, All
     ensures { IfOk result (λ line. line ≡ refused_line (located_of located.now)) }
 {
     let mut number = Buffer::new();
-    let pieces = [
+    let place = [
         located.file.as_slice(),
         b":",
         number.format(located.line).as_bytes(),
         b": refused: ",
-        located.fault.name().as_bytes(),
-        b"\n",
     ];
     let mut line = Text::new(alloc);
-    append_all(&pieces, &mut line)?;
+    append_all(&place, &mut line)?;
+    line.push_all(located.fault.name().as_bytes())?;
+    line.push_all(b"\n")?;
     Ok(line)
 }
