@@ -6,4 +6,5 @@ mod Positions
 mod Writing
 mod Statuses
 mod Complete
+mod Contents
 mod Generating

@@ -3,10 +3,10 @@ use Rattle.std.specs.Prelude.{◌≡◌, ◌≢◌, ◌⊎◌, ℕ, List, [], �
 use Rattle.report_model.specs.declared.report.Report.{Report}
 use Rattle.command_words.specs.Generation.{IsGeneration}
 use Rattle.command.specs.Commands.{Command, IsCommand, GiveNone, checkers_of, sources_of, turns_of}
+use Rattle.command.specs.Measured.{IsMeasured, measure_line}
 use Rattle.command.specs.Rendered.{IsText}
 use Rattle.command.specs.declared.status.Status.{Status}
 use Rattle.command.specs.declared.status.Status.TheVariants.{Clean, Reports, Usage, Refused, ReadFault, WriteFault, NoMemory}
-use Rattle.generated_program.specs.Measured.{IsMeasured, measure_line}
 use Rattle.judged_files.specs.FirstFault.{IsFirstFault}
 use Rattle.judged_files.specs.Judged.{AreAccepted}
 use Rattle.request_files.specs.Faults.{Located, refused_line}

@@ -1,5 +1,7 @@
+pub mod Checker
 pub mod Commands
 pub mod Due
+pub mod Measured
 pub mod Plans
 pub mod Ran
 pub mod Rendered

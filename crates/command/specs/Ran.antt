@@ -5,12 +5,12 @@ use Rattle.report_model.specs.declared.report.Report.{Report}
 use Rattle.command_words.specs.Generation.{IsGeneration}
 use Rattle.command.specs.Commands.{Command, IsCommand, checkers_of, sources_of}
 use Rattle.command.specs.Due.{IsDue, IsMeasuredAs, IsMisused, IsReported, IsRefused, IsLacking, FailedInTurn, usage_line}
+use Rattle.command.specs.Measured.{IsMeasured, measure_line}
 use Rattle.command.specs.Rendered.{IsText}
 use Rattle.command.specs.declared.status.Status.{Status}
 use Rattle.command.specs.declared.status.Status.TheVariants.{Clean, Reports, Usage, Refused, ReadFault, WriteFault, NoMemory}
 use Rattle.command.specs.Tasks.{IsEmptiedAt}
 use Rattle.command.specs.Written.{SinkStep, Written, Took, IsStill}
-use Rattle.generated_program.specs.Measured.{IsMeasured, measure_line}
 use Rattle.judged_files.specs.Judged.{AreJudged}
 use Rattle.request_files.specs.Turns.{Turn}
 

@@ -1,14 +1,17 @@
-//! What the command does: the words, the files of each kind, their reports, the plan of what is due, and its writing.
+//! What the command does: the words, the files of each kind, their reports, what is measured of a generated program, the plan of what is
+//! due, and its writing.
 #![tactic(auto)]
 
 mod generation;
 mod kinds;
 mod lines;
+mod measuring;
 mod outcome;
 mod plan;
 mod program;
 mod refusal;
 mod rendering;
+mod reported;
 mod request;
 mod status;
 mod words;

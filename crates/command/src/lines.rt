@@ -9,11 +9,11 @@ use reporters::write_line;
 use std::alloc::{AllocError, Global};
 
 /// Appends texts, one behind the other.
-pub(crate) fn append_all(texts: &[&[u8]], text: &mut Vec<u8>) -> Result<(), AllocError>
-    ensures { OnOk result (text.new.items ≡ text.old.items ++ flat_map (λ t. t.now) texts.now) }
+pub(crate) fn append_all(texts: &[&[u8]], into: &mut Text) -> Result<(), AllocError>
+    ensures { OnOk result (into.new ≡ into.old ++ flat_map (λ t. t.now) texts.now) }
 {
     for piece in texts {
-        text.extend_from_slice(piece)?;
+        into.push_all(piece)?;
     }
     Ok(())
 }

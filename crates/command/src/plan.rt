@@ -30,7 +30,7 @@ fn plan_refusal(
     unjudged: Unjudged,
 ) -> Result<Plan, AllocError>
     requires { IsAmong (length checkers.now + length sources.now) unjudged }
-    ensures { IfOk result (λ plan. IsPlanOf (words_of checkers.now) (words_of sources.now) unjudged plan.status plan.text.items plan.line.items) }
+    ensures { IfOk result (λ plan. IsPlanOf (words_of checkers.now) (words_of sources.now) unjudged plan.status plan.text.items plan.line) }
 {
     let text = Vec::new(alloc);
     match unjudged {
@@ -64,7 +64,7 @@ fn plan_task<F: Files>(
     requires deep { task.now.depth ≤ 8 }
     requires few { length task.now.files.now ≤ 80 }
     requires within { IfSome task.now.place (λ p. p < vec_len reporters.old) }
-    ensures due { IfOk result (λ plan. IsDueFor (F.contents files.old) (command_of task.now) (λ reports. map (λ b. rendered b reports) reporters.old.items) (F.failed files.old) (F.failed files.new) plan.status plan.text.items plan.line.items) }
+    ensures due { IfOk result (λ plan. IsDueFor (F.contents files.old) (command_of task.now) (λ reports. map (λ b. rendered b reports) reporters.old.items) (F.failed files.old) (F.failed files.new) plan.status plan.text.items plan.line) }
     ensures failed { OnErr result (FailedInTurnOf (F.contents files.old) (command_of task.now) (F.failed files.old) (F.failed files.new)) }
     ensures names { map (λ b. called b) reporters.new.items ≡ map (λ b. called b) reporters.old.items }
     ensures styles { map (λ b. rendered b) reporters.new.items ≡ map (λ b. rendered b) reporters.old.items }
@@ -86,7 +86,7 @@ pub(crate) fn decide<F: Files>(
     files: &mut F,
     reporters: &mut Vec<Box<dyn Reporter>>,
 ) -> Result<Plan, AllocError>
-    ensures due { IfOk result (λ plan. IsDue (F.contents files.old) (map string_bytes words.now) (map (λ b. called b) reporters.old.items) (λ reports. map (λ b. rendered b reports) reporters.old.items) (F.failed files.old) (F.failed files.new) plan.status plan.text.items plan.line.items) }
+    ensures due { IfOk result (λ plan. IsDue (F.contents files.old) (map string_bytes words.now) (map (λ b. called b) reporters.old.items) (λ reports. map (λ b. rendered b reports) reporters.old.items) (F.failed files.old) (F.failed files.new) plan.status plan.text.items plan.line) }
     ensures failed { OnErr result (FailedInTurn (F.contents files.old) (map string_bytes words.now) (map (λ b. called b) reporters.old.items) (F.failed files.old) (F.failed files.new)) }
     ensures names { map (λ b. called b) reporters.new.items ≡ map (λ b. called b) reporters.old.items }
     ensures styles { map (λ b. rendered b) reporters.new.items ≡ map (λ b. rendered b) reporters.old.items }

@@ -43,7 +43,7 @@ fn decide_and_write<F: Files, O: Sink, E: Sink>(
     carry_out(
         plan.status,
         plan.text.as_slice(),
-        plan.line.as_slice(),
+        plan.line.as_bytes(),
         out,
         errs,
     )

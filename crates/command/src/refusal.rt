@@ -7,31 +7,32 @@ ghost use Rattle.request_files.specs.Views.{located_of};
 
 use crate::lines::append_all;
 use itoa::Buffer;
+use mx_base::Text;
 use request_files::LocatedFault;
 use std::alloc::{AllocError, Global};
 
 /// How the command is called.
-pub(crate) fn usage(alloc: Global) -> Result<Vec<u8>, AllocError>
-    ensures { IfOk result (λ line. line.items ≡ usage_line) }
+pub(crate) fn usage(alloc: Global) -> Result<Text, AllocError>
+    ensures { IfOk result (λ line. line ≡ usage_line) }
 {
-    Vec::from_slice(
+    Text::from_bytes(
         alloc,
         b"usage: metalcheck [--depth N] [--format NAME] [--stats] FILE...\n",
     )
 }
 
 /// A file was not read.
-pub(crate) fn not_read(alloc: Global, name: &str) -> Result<Vec<u8>, AllocError>
-    ensures { IfOk result (λ line. line.items ≡ not_read_line name.now) }
+pub(crate) fn not_read(alloc: Global, name: &str) -> Result<Text, AllocError>
+    ensures { IfOk result (λ line. line ≡ not_read_line name.now) }
 {
-    let mut line = Vec::from_slice(alloc, name.as_bytes())?;
-    line.extend_from_slice(b": not read\n")?;
+    let mut line = Text::from_bytes(alloc, name.as_bytes())?;
+    line.push_all(b": not read\n")?;
     Ok(line)
 }
 
 /// A file has a fault.
-pub(crate) fn refused(alloc: Global, located: &LocatedFault) -> Result<Vec<u8>, AllocError>
-    ensures { IfOk result (λ line. line.items ≡ refused_line (located_of located.now)) }
+pub(crate) fn refused(alloc: Global, located: &LocatedFault) -> Result<Text, AllocError>
+    ensures { IfOk result (λ line. line ≡ refused_line (located_of located.now)) }
 {
     let mut number = Buffer::new();
     let place = [
@@ -40,9 +41,9 @@ pub(crate) fn refused(alloc: Global, located: &LocatedFault) -> Result<Vec<u8>, 
         number.format(located.line).as_bytes(),
         b": refused: ",
     ];
-    let mut line = Vec::new(alloc);
+    let mut line = Text::new(alloc);
     append_all(&place, &mut line)?;
-    line.extend_from_slice(located.fault.name().as_bytes())?;
-    line.push(b'\n')?;
+    line.push_all(located.fault.name().as_bytes())?;
+    line.push_all(b"\n")?;
     Ok(line)
 }

@@ -5,6 +5,7 @@ ghost use Rattle.command.specs.Rendered.{IsPlanFor, IsText};
 
 use crate::lines::write_lines;
 use crate::status::Status;
+use mx_base::Text;
 use report_model::Report;
 use reporters::{Reporter, render_at};
 use std::alloc::{AllocError, Global};
@@ -14,7 +15,7 @@ use std::alloc::{AllocError, Global};
 pub(crate) struct Plan {
     pub status: Status,
     pub text: Vec<u8>,
-    pub line: Vec<u8>,
+    pub line: Text,
 }
 
 /// A line for each report, or what the reporter at a place makes of them.
@@ -49,10 +50,10 @@ pub(crate) fn plan_reports(
     ensures styles { map (λ b. rendered b) reporters.new.items ≡ map (λ b. rendered b) reporters.old.items }
     ensures others { (k : ℕ) → place ≢ Some k → slice_get (map (λ b. taken b) reporters.new.items) k ≡ slice_get (map (λ b. taken b) reporters.old.items) k }
     ensures empty { OnOk result (IfSome place (λ p. slice_get (map (λ b. taken b) reporters.new.items) p ≡ Some [])) }
-    ensures plan { IfOk result (λ plan. IsPlanFor place (map (λ b. rendered b reports.now) reporters.old.items) reports.now plan.status plan.text.items plan.line.items) }
+    ensures plan { IfOk result (λ plan. IsPlanFor place (map (λ b. rendered b reports.now) reporters.old.items) reports.now plan.status plan.text.items plan.line) }
 {
     let text = render(alloc, place, reporters, reports)?;
-    let line = Vec::new(alloc);
+    let line = Text::new(alloc);
     if reports.is_empty() {
         return Ok(Plan {
             status: Status::Clean,

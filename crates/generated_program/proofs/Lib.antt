@@ -1,3 +1,2 @@
-mod Contents
 mod Examples
 mod Lines

@@ -1,3 +1,1 @@
-pub mod Checker
 pub mod Generated
-pub mod Measured

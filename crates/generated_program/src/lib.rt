@@ -1,10 +1,7 @@
-//! Programs that are generated from a number, and what is measured of them under a fixed checker.
+//! Programs that are generated from a number.
 #![tactic(auto)]
 
-mod measuring;
 mod pieces;
 mod program;
-mod reported;
 
-pub use measuring::{Measured, measure};
 pub use program::write_program;

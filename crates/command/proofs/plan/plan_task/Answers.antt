@@ -23,7 +23,7 @@ returns-in-Ok-clause-due g c =
     let accepted = of_both (λ xs ys. AreAccepted told xs ys c.args.task.now.depth c.in-Ok.reports.items) _ _ _ _ (ap words_of c.deref.ensures.value ∙ c.in_ok-checkers.ensures) (ap words_of c.deref-2.ensures.value ∙ c.in_ok-sources.ensures) c.in-Ok.ensures.accepted in
     IfOk-weaker c.plan_reports.result _ _
     (λ plan p. due_for_reports told command (g.F.Files.failed c.args.files.now) (g.F.Files.failed c.reports_of.new.files)
-    (λ reports. map (λ b. (goal.Reporter-dyn g (b.vtable, b.value)).rendered b.value reports) c.args.reporters.now.items) c.in-Ok.reports.items plan.status plan.text.items plan.line.items accepted c.in-Ok.ensures.none_failed p)
+    (λ reports. map (λ b. (goal.Reporter-dyn g (b.vtable, b.value)).rendered b.value reports) c.args.reporters.now.items) c.in-Ok.reports.items plan.status plan.text.items plan.line accepted c.in-Ok.ensures.none_failed p)
     (rw c.deref-in-Ok.ensures.value at c.plan_reports.ensures.plan)
 
 pub plan_refusal-requires : goal.plan_refusal-requires
@@ -40,8 +40,8 @@ returns-clause-due g c =
     let new = g.F.Files.failed c.reports_of.new.files in
     let answers = of_both (λ xs ys. AnswersUnjudged told xs ys old new c.in-Err.unjudged) _ _ _ _ (ap words_of c.deref.ensures.value ∙ c.in_ok-checkers.ensures) (ap words_of c.deref-2.ensures.value ∙ c.in_ok-sources.ensures) c.in-Err.ensures.unjudged in
     IfOk-weaker c.plan_refusal.result _ _
-    (λ plan p. due_for_none told command old new (λ reports. map (λ b. (goal.Reporter-dyn g (b.vtable, b.value)).rendered b.value reports) c.args.reporters.now.items) c.in-Err.unjudged plan.status plan.text.items plan.line.items answers
-    (of_both (λ xs ys. IsPlanOf xs ys c.in-Err.unjudged plan.status plan.text.items plan.line.items) _ _ _ _ (ap words_of c.deref-in-Err.ensures.value ∙ c.in_ok-checkers.ensures) (ap words_of c.deref-in-Err-2.ensures.value ∙ c.in_ok-sources.ensures) p))
+    (λ plan p. due_for_none told command old new (λ reports. map (λ b. (goal.Reporter-dyn g (b.vtable, b.value)).rendered b.value reports) c.args.reporters.now.items) c.in-Err.unjudged plan.status plan.text.items plan.line answers
+    (of_both (λ xs ys. IsPlanOf xs ys c.in-Err.unjudged plan.status plan.text.items plan.line) _ _ _ _ (ap words_of c.deref-in-Err.ensures.value ∙ c.in_ok-checkers.ensures) (ap words_of c.deref-in-Err-2.ensures.value ∙ c.in_ok-sources.ensures) p))
     c.plan_refusal.ensures
 
 pub returns-clause-failed : goal.returns-clause-failed

@@ -1,13 +1,10 @@
 //! The reports of the fixed checker over a program.
 
 ghost use Rattle.std.specs.Prelude.{◌≡◌, [], ◌∷◌, IfOk};
-ghost use Rattle.generated_program.specs.Checker.{free_text};
-ghost use Rattle.generated_program.specs.Measured.{AreReportsOf, checker_name, program_name};
+ghost use Rattle.command.specs.Checker.{free_text};
+ghost use Rattle.command.specs.Measured.{AreReportsOf, checker_name, program_name};
 
-use bumpalo::Bump;
-use c_lexer::Tokens;
-use judged_files::judge_files;
-use mx_base::Names;
+use crate::outcome::reports_of;
 use mx_io::MemFiles;
 use report_model::Report;
 use std::alloc::{AllocError, Global};
@@ -33,25 +30,11 @@ fn files_with(alloc: Global, program: &[u8]) -> Result<MemFiles, AllocError>
 
 /// The reports of the fixed checker over a program, judged as files with these contents are. A program that were refused would end
 /// like want of memory; of generated ones it is seen in tests that they aren't.
-pub(crate) fn reports_of(alloc: Global, program: &[u8]) -> Result<Vec<Report>, AllocError>
+pub(crate) fn program_reports(alloc: Global, program: &[u8]) -> Result<Vec<Report>, AllocError>
     ensures { IfOk result (λ reports. AreReportsOf program.now reports.items) }
 {
     let mut files = files_with(alloc, program)?;
-    let mut checker_places: [Option<Tokens>; 1] = [None];
-    let mut source_places: [Option<Tokens>; 1] = [None];
-    let arena = Bump::new(alloc);
-    let mut names = Names::new(alloc);
-    match judge_files(
-        &arena,
-        alloc,
-        &mut files,
-        &["free.metal"],
-        &["generated.c"],
-        4,
-        &mut checker_places,
-        &mut source_places,
-        &mut names,
-    ) {
+    match reports_of(alloc, &mut files, &["free.metal"], &["generated.c"], 4) {
         Ok(reports) => Ok(reports),
         Err(_) => Err(AllocError),
     }

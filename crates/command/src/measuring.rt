@@ -2,18 +2,18 @@
 
 ghost use Rattle.std.specs.Prelude.{◌≡◌, ◌++◌, ◌+◌, ◌<◌, ◌≤◌, ◌^◌, codes, IfOk};
 ghost use Rattle.std.specs.Fmt.{decimal};
-ghost use Rattle.generated_program.specs.Measured.{IsMeasure};
+ghost use Rattle.command.specs.Measured.{IsMeasure};
 
-use crate::pieces::append_all;
-use crate::program::write_program;
-use crate::reported::reports_of;
+use crate::lines::append_all;
+use crate::reported::program_reports;
+use generated_program::write_program;
 use itoa::Buffer;
 use mx_base::Text;
 use std::alloc::{AllocError, Global};
 
 /// The line of a generated program, and whether there are reports.
 #[derive(Drop)]
-pub struct Measured {
+pub(crate) struct Measured {
     pub line: Text,
     pub has_reports: bool,
 }
@@ -46,14 +46,14 @@ fn line_with(
 
 /// Generates the program of a number from 1 to 9999, judges it under the fixed checker, and counts its functions, its bytes and its
 /// reports. No file is read.
-pub fn measure(alloc: Global, count: u32) -> Result<Measured, AllocError>
+pub(crate) fn measure(alloc: Global, count: u32) -> Result<Measured, AllocError>
     requires least { 1 ≤ count }
     requires most { count ≤ 9999 }
     ensures { IfOk result (λ m. IsMeasure count m.line m.has_reports) }
 {
     let mut program = Text::new(alloc);
     write_program(count, &mut program)?;
-    let reports = reports_of(alloc, program.as_bytes())?;
+    let reports = program_reports(alloc, program.as_bytes())?;
     let line = line_with(alloc, count + 2, program.len(), reports.len())?;
     Ok(Measured {
         line,

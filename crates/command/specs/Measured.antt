@@ -1,10 +1,10 @@
 -- WHAT IS MEASURED of a generated program.
 use Rattle.std.specs.Prelude.{◌≡◌, ◌≢◌, ℕ, ◌+◌, Bool, MatchBool, List, [], ◌∷◌, ◌++◌, length, codes}
 use Rattle.std.specs.Fmt.{decimal}
-use Rattle.judged_files.specs.Judged.{AreJudged}
 use Rattle.report_model.specs.declared.report.Report.{Report}
-use Rattle.generated_program.specs.Checker.{free_text}
+use Rattle.command.specs.Checker.{free_text}
 use Rattle.generated_program.specs.Generated.{generated}
+use Rattle.judged_files.specs.Judged.{AreJudged}
 
 -- the names of the two files
 abbrev pub checker_name : List ℕ

@@ -1,9 +1,9 @@
 use Rattle.std.proofs.Common.{ap}
 use Rattle.mx_io.specs.MemFiles.{first_of}
-use Rattle.generated_program.specs.Checker.{free_text}
-use Rattle.generated_program.specs.Measured.{checker_name, program_name}
-use Rattle.generated_program.proofs.Contents.{judged_as_told}
-use Rattle.generated_program.proofs.reported.reports_of.Goals as goal
+use Rattle.command.specs.Checker.{free_text}
+use Rattle.command.specs.Measured.{checker_name, program_name}
+use Rattle.command.proofs.Contents.{judged_as_told}
+use Rattle.command.proofs.reported.program_reports.Goals as goal
 
 pub returns-in-Ok : goal.returns-in-Ok
 returns-in-Ok c =
