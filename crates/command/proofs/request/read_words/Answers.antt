@@ -29,9 +29,11 @@ returns-clause-request g c =
     let called = map (λ b. (goal.Reporter-dyn g (b.vtable, b.value)).called b.value) c.args.reporters.now in
     let many = sym (length-map c.args.words.now (string_bytes {Z = Global})) in
     let few = sym (length-map c.in-Some-task_of.task.files.now (string_bytes {Z = Global})) in
-    (subst (λ place. IsCommand words called (record { depth = c.in-Some-task_of.task.depth; place = place; files = words_at words c.in-Ok.files.items })) (sym c.short_place.ensures)
-        (by_positions words called (command_of c.in-Some-task_of.task) c.in-Ok.files.items _ _ c.in-Some-task_of.ensures.given many few c.in-Ok.ensures),
-    last_positions words called (command_of c.in-Some-task_of.task) c.in-Ok.files.items _ _ c.in-Some-task_of.ensures.given many few c.in-Ok.ensures)
+    let command = command_of c.in-Some-task_of.task in
+    let given = c.in-Some-task_of.ensures.given in
+    let whole = by_positions words called command c.in-Ok.files.items _ _ given many few c.in-Ok.ensures in
+    let last = last_positions words called command c.in-Ok.files.items _ _ given many few c.in-Ok.ensures in
+    (subst (λ place. IsCommand words called (record { depth = command.depth; place = place; files = words_at words c.in-Ok.files.items })) (sym c.short_place.ensures) whole, last)
 
 pub returns-clause-generation : goal.returns-clause-generation
 returns-clause-generation g c count is = absurd (c.read_generation.ensures.none c.in_default.is count is)
