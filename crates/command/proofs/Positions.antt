@@ -1,10 +1,11 @@
 -- Files by their positions among the words.
 use Rattle.std.proofs.Common.{◌≡◌, ℕ, zero, suc, ◌+◌, ◌-◌, ◌*◌, ◌≤◌, ◌<◌, Bool, true, false, List, [], ◌∷◌, ◌++◌, length, drop, get_or, Option, refl, sym, ap, ◌∙◌, append_assoc, append-nil, add-one, length-append, arith}
 use Rattle.std.proofs.Math.Seq.{drop-append_seam}
+use Rattle.std.proofs.lemmas.List.FromFn.{length-range_with_len}
 use Rattle.std.specs.List.{range_with_len, flat_map}
 use Rattle.command_words.specs.Words.{Setting, DepthApart, DepthJoined, FormatApart, FormatJoined, Stats, spelled, depths, formats, marks, divider, IsOnly, Request, IsRequest}
 use Rattle.command.specs.Commands.{Command, IsCommand}
-use Rattle.command.specs.Requests.{words_at}
+use Rattle.command.specs.Requests.{words_at, AreLastPositions}
 use Rattle.command.proofs.GivenCommands.{few_files}
 
 -- one position more
@@ -117,3 +118,12 @@ by_positions words called c positions n m g many few e = record {
   files = ap (words_at words) e ∙ ap (λ k. words_at words (range_with_len (k - m) (k - (k - m)))) many
       ∙ ap (λ k. words_at words (range_with_len (length words - k) (length words - (length words - k)))) (few ∙ ap length g.files) ∙ files-last words g.request g.is_request;
 }
+
+-- from where as many words are left as there are files, the positions are the last ones
+pub last_positions : (words called : List (List ℕ)) (c : Command) (positions : List ℕ) (n m : ℕ) → IsCommand words called c → n ≡ length words → m ≡ length c.files → positions ≡ range_with_len (n - m) (n - (n - m))
+    → AreLastPositions words positions
+last_positions words called c positions n m g many few e =
+    let fewer = files_fewer words called c g in
+    let count : length positions ≡ n - (n - m) = ap length e ∙ length-range_with_len (n - m) (n - (n - m)) in
+    let from : n - m ≡ length words - length positions = omega (arith, fewer, count, many, few) in
+    e ∙ ap (λ k. range_with_len k (n - (n - m))) from ∙ ap (range_with_len (length words - length positions)) (sym count)

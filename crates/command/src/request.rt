@@ -20,7 +20,7 @@ pub struct Request {
     pub format: Option<u32>,
     /// Whether statistics are asked for.
     pub stats: bool,
-    /// The FILE words, checkers and C files, in order.
+    /// The FILE words, checkers and C files, in order: the last of the words.
     pub files: Vec<u32>,
     /// How many functions to generate, 1 to 9999; there are no files then.
     pub generate: Option<u32>,

@@ -353,13 +353,34 @@ fn request_of(alloc: Global, words: &[&str]) -> Result<Request, AllocError> {
     }
 }
 
+/// Words, the number of the reporter that they name, and the positions of the files. Some words stand in front of a file that equals them.
+const POSITIONS: &[(&[&str], Option<u32>, &[u32])] = &[
+    (
+        &["--depth", "2", "--format=json", "free.metal", "a.c"],
+        Some(1),
+        &[3, 4],
+    ),
+    (&["--format", "json", "json"], Some(1), &[2]),
+    (&["--format", "json", "json", "a.c"], Some(1), &[2, 3]),
+    (&["--depth", "2", "2", "2"], None, &[2, 3]),
+    (&["a.c", "free.metal", "a.c"], None, &[0, 1, 2]),
+    (&["--", "--", "--"], None, &[1, 2]),
+];
+
 #[test]
 fn words_are_read_by_positions(rt: HostRuntime) -> Result<(), Fail> {
-    let words = ["--depth", "2", "--format=json", "free.metal", "a.c"];
-    let request = request_of(rt.alloc(), &words)?;
-    assert!(rt; request.depth == 2 && request.format == Some(1));
-    assert!(rt; !request.stats && request.files.as_slice() == [3, 4].as_slice());
+    for (words, format, files) in POSITIONS {
+        let request = request_of(rt.alloc(), words)?;
+        assert!(rt; request.format == *format && request.files.as_slice() == *files);
+    }
+    Ok(())
+}
+
+#[test]
+fn words_give_a_depth_or_a_generation(rt: HostRuntime) -> Result<(), Fail> {
+    let request = request_of(rt.alloc(), &["--depth", "2", "a.c"])?;
+    assert!(rt; request.depth == 2 && !request.stats && request.generate.is_none());
     let generation = request_of(rt.alloc(), &["--generate", "16"])?;
-    assert!(rt; request.generate.is_none() && generation.generate == Some(16));
+    assert!(rt; generation.generate == Some(16));
     Ok(())
 }

@@ -3,7 +3,7 @@ use Rattle.std.proofs.lemmas.List.{length-map}
 use Rattle.command.specs.Commands.{IsCommand}
 use Rattle.command.specs.Requests.{words_at}
 use Rattle.command.specs.Tasks.{command_of}
-use Rattle.command.proofs.Positions.{by_positions, command_few}
+use Rattle.command.proofs.Positions.{by_positions, last_positions, command_few}
 use Rattle.command.proofs.request.read_words.Goals as goal
 
 pub returns-in-Some-clause-generation : goal.returns-in-Some-clause-generation
@@ -27,9 +27,13 @@ pub returns-clause-request : goal.returns-clause-request
 returns-clause-request g c =
     let words = map (string_bytes {Z = Global}) c.args.words.now in
     let called = map (λ b. (goal.Reporter-dyn g (b.vtable, b.value)).called b.value) c.args.reporters.now in
-    subst (λ place. IsCommand words called (record { depth = c.in-Some-task_of.task.depth; place = place; files = words_at words c.in-Ok.files.items })) (sym c.short_place.ensures)
-    (by_positions words called (command_of c.in-Some-task_of.task) c.in-Ok.files.items _ _ c.in-Some-task_of.ensures.given (sym (length-map c.args.words.now (string_bytes {Z = Global})))
-    (sym (length-map c.in-Some-task_of.task.files.now (string_bytes {Z = Global}))) c.in-Ok.ensures)
+    let many = sym (length-map c.args.words.now (string_bytes {Z = Global})) in
+    let few = sym (length-map c.in-Some-task_of.task.files.now (string_bytes {Z = Global})) in
+    let command = command_of c.in-Some-task_of.task in
+    let given = c.in-Some-task_of.ensures.given in
+    let whole = by_positions words called command c.in-Ok.files.items _ _ given many few c.in-Ok.ensures in
+    let last = last_positions words called command c.in-Ok.files.items _ _ given many few c.in-Ok.ensures in
+    (subst (λ place. IsCommand words called (record { depth = command.depth; place = place; files = words_at words c.in-Ok.files.items })) (sym c.short_place.ensures) whole, last)
 
 pub returns-clause-generation : goal.returns-clause-generation
 returns-clause-generation g c count is = absurd (c.read_generation.ensures.none c.in_default.is count is)
