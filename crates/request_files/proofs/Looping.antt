@@ -1,6 +1,8 @@
 -- One turn of the loops over words.
 use Rattle.std.proofs.Common.{◌≡◌, ℕ, zero, suc, get_or, take, ◌+◌, ◌-◌, ◌*◌, ◌<◌, ◌≤◌, List, [], ◌∷◌, ◌++◌, length, map, min, Option, Some, None, slice_get, refl, sym, ap, ◌∙◌, subst, arith, length-append}
-use Rattle.std.specs.Borrow.{Bor}
+use Rattle.std.specs.Borrow.{Bor, MutBor}
+use Rattle.std.specs.Slice.Iter.{iter_mut_rest, iter_mut_steps}
+use Rattle.std.specs.declared.slice.IterMut.{IterMut}
 use Rattle.mx_base.specs.Names.{AddsAtMost, HasNoRepeats}
 use Rattle.metal_tree.specs.Whole.{machine_view}
 use Rattle.metal_tree.specs.declared.machine.Machine.{Machine}
@@ -111,6 +113,11 @@ module _ (told at : List ℕ → Option (List ℕ)) (left : ℕ) (ws : List (Bor
       (texts_of old) (text_of u) r placed in
       subst (λ ts. AreReadSources told left (words_of ws) (take (index + 1) (words_of ws)) grown ts (rest - size)) (sym (ap texts_of items ∙ views-push text_of old u))
       (subst (λ front. AreReadSources told left (words_of ws) front grown (texts_of old ++ text_of u ∷ []) (rest - size)) (sym (take_next (words_of ws) index (get_or ws index d).now (word_at ws index d lt))) next)
+
+-- where a place is taken for each file, as many are left as files are
+pub place_taken : {T : Type 0} (before after : IterMut T) (place : Option (MutBor T)) (files index : ℕ) → iter_mut_steps before place after → files ≤ index + length (iter_mut_rest before) → files ≤ index + 1 + length (iter_mut_rest after)
+place_taken before after None files index taken h = omega (arith, taken.0, h)
+place_taken before after (Some x) files index taken h = omega (arith, ap length taken, h)
 
 -- names, and the bytes that may still come
 pub room_left : (a b whole rest size k i most : ℕ) → b ≤ a + k → k ≤ 2 * size + 1 → size ≤ rest → a + 2 * rest ≤ whole + i → b + 2 * (rest - size) ≤ whole + (i + 1)

@@ -113,6 +113,7 @@ pub fn read_checkers<'a, F: Files>(
 ) -> Result<CheckersRead<'a>, Unread>
     requires left { left ≤ 33554432 }
     requires few { length words.now ≤ 65535 }
+    requires enough { length words.now ≤ length places.old }
     requires room { length names.old ≤ 2 ^ 28 }
     ensures read { IfOk result (λ r. AreReadCheckers (F.contents files.old) left (words_of words.now) (words_of words.now) names.new (machines_of r.machines.items) r.left) }
     ensures unread { IfErr result (λ e. AnswersUnread (F.contents files.old) left (numbered CheckerFile 0 (words_of words.now)) (F.failed files.old) (F.failed files.new) e) }
@@ -127,9 +128,7 @@ pub fn read_checkers<'a, F: Files>(
     let mut rest = left;
     let mut free = places.iter_mut();
     for word in words {
-        let Some(place) = free.next() else {
-            return Err(Unread::NoMemory);
-        };
+        let place = free.next().unwrap();
         let position = machines.len();
         match load_checker(
             arena,

@@ -40,6 +40,8 @@ pub fn read_files<'a, F: Files>(
 ) -> Result<FilesRead<'a>, Unread>
     requires few_checkers { length checkers.now ≤ 65535 }
     requires few_sources { length sources.now ≤ 65535 }
+    requires enough_for_checkers { length checkers.now ≤ length checker_places.old }
+    requires enough_for_sources { length sources.now ≤ length source_places.old }
     requires room { length names.old ≤ 2 ^ 20 }
     ensures read { IfOk result (λ r. AreReadFiles (F.contents files.old) (words_of checkers.now) (words_of sources.now) names.new (machines_of r.checkers.machines.items) (texts_of r.sources.units.items)) }
     ensures numbered { IfOk result (λ r. (i : ℕ) (u : UnitValue) → slice_get r.sources.units.items i ≡ Some u → u.unit.file ≡ i) }

@@ -1,5 +1,6 @@
 -- the checkers so far were read without a fault
 use Rattle.std.proofs.Common.{◌≡◌, ◌≤◌, ◌+◌, ◌*◌, take, length}
+use Rattle.std.specs.Slice.Iter.{iter_mut_rest}
 use Rattle.request_files.specs.InTurn.{AreReadCheckers}
 use Rattle.request_files.specs.Meanings.{AreFirst}
 use Rattle.request_files.specs.Views.{machines_of, words_of}
@@ -11,6 +12,7 @@ invariant-loop-word g l =
     record {
       read : AreReadCheckers (files.contents l.fn.files) l.fn.left (words_of l.words) (take l.word-index (words_of l.words)) l.names (machines_of l.machines.items) l.rest;
       count : length l.machines.items ≡ l.word-index;
+      places : length l.words ≤ l.word-index + length (iter_mut_rest l.free);
       bound : l.rest ≤ l.fn.left;
       room : length l.names + 2 * l.rest ≤ length l.fn.names + 2 * l.fn.left + l.word-index;
       first : AreFirst l.fn.names l.names;
