@@ -81,6 +81,8 @@ pub fn judge_files<'a, F: Files>(
 ) -> Result<Vec<Report>, Unjudged>
     requires few_checkers { length checkers.now ≤ 65535 }
     requires few_sources { length sources.now ≤ 65535 }
+    requires enough_for_checkers { length checkers.now ≤ length checker_places.old }
+    requires enough_for_sources { length sources.now ≤ length source_places.old }
     requires deep { depth ≤ 8 }
     requires room { length names.old ≤ 2 ^ 20 }
     ensures accepted { IfOk result (λ reports. AreAccepted (F.contents files.old) (words_of checkers.now) (words_of sources.now) depth reports.items) }

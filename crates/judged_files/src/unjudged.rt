@@ -9,6 +9,6 @@ pub enum Unjudged {
     NotRead(usize),
     /// The first fault: that of a file, or of linking.
     Faulty(LocatedFault),
-    /// There was no memory, or fewer places than files.
+    /// There was no memory.
     NoMemory,
 }

@@ -39,6 +39,6 @@ pub struct LocatedFault {
     pub fault: Fault,
     /// The presumed file: the word on the command line, unless a marker names another.
     pub file: Vec<u8>,
-    /// The presumed line, from 1.
+    /// The presumed line.
     pub line: u32,
 }

@@ -144,6 +144,7 @@ pub fn read_sources<'a, F: Files>(
 ) -> Result<SourcesRead<'a>, Unread>
     requires left { left ≤ 33554432 }
     requires few { length words.now ≤ 65535 }
+    requires enough { length words.now ≤ length places.old }
     requires room { length names.old ≤ 2 ^ 28 }
     ensures read { IfOk result (λ r. AreReadSources (F.contents files.old) left (words_of words.now) (words_of words.now) names.new (texts_of r.units.items) r.left) }
     ensures numbered { IfOk result (λ r. (i : ℕ) (u : UnitValue) → slice_get r.units.items i ≡ Some u → u.unit.file ≡ i) }
@@ -157,9 +158,7 @@ pub fn read_sources<'a, F: Files>(
     let mut rest = left;
     let mut free = places.iter_mut();
     for word in words {
-        let Some(place) = free.next() else {
-            return Err(Unread::NoMemory);
-        };
+        let place = free.next().unwrap();
         let position = units.len();
         match load_source(
             arena,

@@ -9,6 +9,6 @@ pub enum Unread {
     NotRead(usize),
     /// The file at this position has a fault, and those before it have none.
     Faulty(usize, LocatedFault),
-    /// There was no memory, or fewer places than files.
+    /// There was no memory.
     NoMemory,
 }

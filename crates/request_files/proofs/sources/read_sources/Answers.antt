@@ -1,6 +1,6 @@
 use Rattle.std.proofs.Common.{◌≡◌, ◌+◌, ◌*◌, ◌∙◌, [], ◌∷◌, length, length-append, ap, arith}
 use Rattle.request_files.specs.Turns.{SourceFile}
-use Rattle.request_files.proofs.Looping.{not_read, source_faulty, sources_more, source_fits, room_left, numbered-push}
+use Rattle.request_files.proofs.Looping.{not_read, source_faulty, sources_more, source_fits, room_left, numbered-push, place_taken}
 use Rattle.request_files.proofs.Turns.{first-adds, first-then, adds_few}
 use Rattle.request_files.proofs.sources.read_sources.Goals as goal
 
@@ -33,6 +33,7 @@ loop-word-preserved g c =
       numbered = numbered-push c.loop-word.units.items c.push.new.self.items c.in-Ok.loaded.unit here.numbered
           (c.in-Ok.ensures.file ∙ omega (arith, here.count, c.loop-word.units.ok.0, c.len-position.ensures, c.requires.few, c.loop-word-test.true)) c.in-Ok-push.ensures.items;
       count = omega (arith, here.count, ap length c.in-Ok-push.ensures.items, length-append c.loop-word.units.items (c.in-Ok.loaded.unit ∷ []));
+      places = place_taken c.loop-word.free c.next.new.self c.next.result (length c.args.words.now) c.loop-word.word-index c.next.ensures.steps here.places;
       bound = omega (arith, here.bound);
       room = room_left (length c.loop-word.names) (length c.load_source.new.names) (length c.args.names.now + 2 * c.args.left) c.loop-word.rest size (size + 1) c.loop-word.word-index 0
           (adds_few c.loop-word.names c.load_source.new.names (size + 1) c.in-Ok.ensures.adds) (omega arith) fits here.room;

@@ -1,5 +1,6 @@
 -- the C files so far were read without a fault
 use Rattle.std.proofs.Common.{◌≡◌, ◌≤◌, ◌+◌, ◌*◌, ℕ, Some, take, length, slice_get}
+use Rattle.std.specs.Slice.Iter.{iter_mut_rest}
 use Rattle.request_files.specs.InTurn.{AreReadSources}
 use Rattle.request_files.specs.Meanings.{AreFirst}
 use Rattle.request_files.specs.Views.{texts_of, words_of}
@@ -13,6 +14,7 @@ invariant-loop-word g l =
       read : AreReadSources (files.contents l.fn.files) l.fn.left (words_of l.words) (take l.word-index (words_of l.words)) l.names (texts_of l.units.items) l.rest;
       numbered : (i : ℕ) (u : TypedUnit) → slice_get l.units.items i ≡ Some u → u.unit.file ≡ i;
       count : length l.units.items ≡ l.word-index;
+      places : length l.words ≤ l.word-index + length (iter_mut_rest l.free);
       bound : l.rest ≤ l.fn.left;
       room : length l.names + 2 * l.rest ≤ length l.fn.names + 2 * l.fn.left + l.word-index;
       first : AreFirst l.fn.names l.names;
