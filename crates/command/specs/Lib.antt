@@ -1,5 +1,6 @@
 pub mod Commands
 pub mod Due
+pub mod Handed
 pub mod Plans
 pub mod Ran
 pub mod Rendered
