@@ -31,9 +31,7 @@ fn run_command(rt: &HostRuntime) -> Result<Status, AllocError> {
     let mut files = OsFiles::new(rt, alloc);
     let mut out = OsSink::new(rt.stdout());
     let mut errs = OsSink::new(rt.stderr());
-    Ok(run_in_styles(
-        alloc, &words, &mut files, &mut out, &mut errs,
-    ))
+    Ok(run_in_styles(alloc, &words, &mut files, &mut out, &mut errs))
 }
 
 fn main(rt: HostRuntime) -> ExitCode {
