@@ -71,10 +71,6 @@ styles_of rendered items first second two a b reports =
     let both : map (λ x. rendered x reports) (first ∷ second ∷ []) ≡ styles reports = λ i. a i reports ∷ b i reports ∷ [] in
     ap (map (λ x. rendered x reports)) two ∙ both
 
--- what holds of each value of one type holds of each of an equal type
-pub of_equal : {V : Type 0} {H : V → Type 0} (P : (v : V) → H v → Type 0) (v w : V) → v ≡ w → ((x : H w) → P w x) → (x : H v) → P v x
-of_equal {V} {H} P v w e all x = subst (λ (u : V). (y : H u) → P u y) (sym e) all x
-
 -- reporters with these names
 module _ (called : List (List ℕ)) (names : called ≡ style_names) (words : List (List ℕ)) where
   pub command_in_styles : (command : Command) → IsCommand words style_names command → IsCommand words called command

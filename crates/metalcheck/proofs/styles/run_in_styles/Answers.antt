@@ -1,21 +1,6 @@
-use Rattle.std.proofs.Common.{◌≡◌, codes, refl}
-use Rattle.reporters.specs.Styles.{json_of, table_of}
-use Rattle.metalcheck.proofs.BothStyles.{answers_in_styles, command_in_styles, completes_in_styles, misses_in_styles, misuses_in_styles, none_in_styles, of_equal, ran_in_styles, refuses_in_styles}
+use Rattle.metalcheck.proofs.BothStyles.{answers_in_styles, command_in_styles, completes_in_styles, misses_in_styles, misuses_in_styles, none_in_styles, ran_in_styles, refuses_in_styles}
 use Rattle.metalcheck.proofs.InFormat.{in_format}
 use Rattle.metalcheck.proofs.styles.run_in_styles.Goals as goal
-
--- the box of a style renders as the style does
-pub list_of-requires-clause-names : goal.list_of-requires-clause-names
-list_of-requires-clause-names g c = (
-  of_equal (λ v x. (goal.Reporter-dyn g (v, x)).called x ≡ codes "table") _ _ c.into_dyn_box.ensures.0 (λ x. refl) c.into_dyn_box.result.value,
-  of_equal (λ v x. (goal.Reporter-dyn g (v, x)).called x ≡ codes "json") _ _ c.into_dyn_box-2.ensures.0 (λ x. refl) c.into_dyn_box-2.result.value,
-)
-
-pub list_of-requires-clause-styles : goal.list_of-requires-clause-styles
-list_of-requires-clause-styles g c = (
-  of_equal (λ v x. (goal.Reporter-dyn g (v, x)).rendered x ≡ table_of) _ _ c.into_dyn_box.ensures.0 (λ x. refl) c.into_dyn_box.result.value,
-  of_equal (λ v x. (goal.Reporter-dyn g (v, x)).rendered x ≡ json_of) _ _ c.into_dyn_box-2.ensures.0 (λ x. refl) c.into_dyn_box-2.result.value,
-)
 
 pub returns-clause-ran : goal.returns-clause-ran
 returns-clause-ran g c = let k = c.in-Ok-list_of.ensures in ran_in_styles _ _ k.names k.styles _ _ _ _ _ _ _ _ _ c.run.ensures.ran
