@@ -1,7 +1,10 @@
 pub mod Checker
 pub mod Commands
 pub mod Due
-pub mod Measured
+pub mod 
+Handed
+Measured
+
 pub mod Plans
 pub mod Ran
 pub mod Rendered

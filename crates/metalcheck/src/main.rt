@@ -1,12 +1,13 @@
 //! Checks C files by checkers.
 #![tactic(auto)]
 
+mod styles;
 #[cfg(test)]
 mod tests;
 
-use command::{Status, run};
+use crate::styles::run_in_styles;
+use command::Status;
 use mx_io::{OsFiles, OsSink};
-use reporters::{JsonLines, Reporter, Table};
 use std::alloc::AllocError;
 use std::env;
 use std::process::ExitCode;
@@ -23,24 +24,14 @@ fn words_of(rt: &HostRuntime) -> Result<Vec<String>, AllocError> {
     Ok(words)
 }
 
-/// Runs the command. `--format` chooses from the reporters `table` and `json`.
+/// Runs the command with the words, the files and the streams of the system.
 fn run_command(rt: &HostRuntime) -> Result<Status, AllocError> {
     let alloc = rt.alloc();
     let words = words_of(rt)?;
-    let mut reporters: Vec<Box<dyn Reporter>> = Vec::new(alloc);
-    reporters.push(Box::new(alloc, Table::new(alloc))?)?;
-    reporters.push(Box::new(alloc, JsonLines::new(alloc))?)?;
     let mut files = OsFiles::new(rt, alloc);
     let mut out = OsSink::new(rt.stdout());
     let mut errs = OsSink::new(rt.stderr());
-    Ok(run(
-        alloc,
-        &words,
-        &mut files,
-        &mut out,
-        &mut errs,
-        &mut reporters,
-    ))
+    Ok(run_in_styles(alloc, &words, &mut files, &mut out, &mut errs))
 }
 
 fn main(rt: HostRuntime) -> ExitCode {

@@ -1,0 +1,2 @@
+mod BothStyles
+mod InFormat
