@@ -1,10 +1,8 @@
 pub mod Checker
 pub mod Commands
 pub mod Due
-pub mod 
-Handed
-Measured
-
+pub mod Handed
+pub mod Measured
 pub mod Plans
 pub mod Ran
 pub mod Rendered
