@@ -1,4 +1,5 @@
 pub mod Lists
+pub mod Numbered
 pub mod MatchedOnce
 pub mod BoundObjects
 pub mod OfEvents

@@ -1,15 +1,17 @@
 -- What is asked of the rules of an event is what is asked of the checker at that event.
-use Rattle.std.proofs.Common.{◌≡◌, ℕ, nat_eq, Bool, cond, not, ◌||◌, List, map, Option, None, sym, ap, subst, ◌∙◌, Contains}
-use Rattle.std.specs.Prelude.{◌↔◌, Vec, Result, Ok, Err, IfOk}
+use Rattle.std.proofs.Common.{◌≡◌, ℕ, nat_eq, Bool, cond, not, ◌||◌, List, map, Option, None, Some, true, false, refl, sym, ap, subst, ◌∙◌, Contains, Bor}
+use Rattle.std.specs.Prelude.{◌↔◌, Vec, Result, Ok, Err, IfOk, IfSome}
+use Rattle.std.specs.Option.{option_map}
 use Rattle.applied_rules.proofs.BoundObjects.{exactly_bound}
-use Rattle.applied_rules.proofs.MatchedOnce.{matched_once}
-use Rattle.applied_rules.specs.Applied.{applied_at}
+use Rattle.applied_rules.proofs.MatchedOnce.{matched_once, taken_by_first}
+use Rattle.applied_rules.specs.Applied.{Applied, applied_at}
 use Rattle.applied_rules.specs.Bound.{bound_by}
-use Rattle.applied_rules.specs.Events.{AreOfEvent}
-use Rattle.applied_rules.specs.Firsts.{picked, first_taken}
+use Rattle.applied_rules.specs.Events.{applied_of, AreOfEvent}
+use Rattle.applied_rules.specs.Firsts.{picked, first_taken, rule_taken}
 use Rattle.applied_rules.specs.declared.rules.EventRules.{EventRules}
 use Rattle.c_objects.specs.Objects.{Object}
 use Rattle.c_typing.specs.Options.{if_there}
+use Rattle.checker_model.proofs.Sources.{untested}
 use Rattle.checker_model.specs.Choices.{State, Taken, Binds, stop, first_some, is_asked, is_global_asked, scene, taken, taken_global, target_at, global_behind, object_behind, next_global, chosen}
 use Rattle.checker_model.specs.Happenings.{Function, Happening}
 use Rattle.flow_graph.specs.Values.{event_of}
@@ -17,45 +19,74 @@ use Rattle.hole_bindings.specs.Settings.{setting_in}
 use Rattle.metal_machines.specs.Machine.{Machine}
 use Rattle.rule_choices.specs.Asked.{Asker, GlobalState, ObjectIn, asked_rule}
 use Rattle.rule_choices.specs.declared.fired.Fired.{Fired}
+use Rattle.rule_choices.specs.Firsts.{IsByFirst}
 use Rattle.rule_choices.specs.Values.{taken_of}
 
-module _ (m : Machine) (depth : ℕ) (h : Happening) (f : Function) (r : EventRules) (of : AreOfEvent m depth h f r) where
-  abbrev ts : List Taken
-  ts = map taken_of r.applied.items
+untaken : (b : Bool) (x : Option Applied) → rule_taken (cond b None x) ≡ cond b None (rule_taken x)
+untaken true x = refl
+untaken false x = refl
 
-  first-is : (state : ℕ) (a : Asker) → first_some (picked (setting_in r.setting) (event_of r.event) state a) ts ≡ first_some (asked_rule (scene m depth h f) h.event state a) m.rules
+module _ (m : Machine) (depth : ℕ) (h : Happening) (f : Function) (r : EventRules) (of : AreOfEvent m depth h f r) where
+  abbrev all : List Applied
+  all = map applied_of r.applied.items
+
+  abbrev first : ℕ → Asker → Option Applied
+  first state a = first_some (picked (setting_in r.setting) (event_of r.event) state a) all
+
+  first-is : (state : ℕ) (a : Asker) → first state a ≡ first_some (picked (scene m depth h f) h.event state a) (applied_at (scene m depth h f) h.event m.rules)
   first-is state a =
-      ap (λ z. first_some (picked z (event_of r.event) state a) ts) of.setting
-      ∙ ap (λ z. first_some (picked (scene m depth h f) z state a) ts) of.event
+      ap (λ z. first_some (picked z (event_of r.event) state a) all) of.setting
+      ∙ ap (λ z. first_some (picked (scene m depth h f) z state a) all) of.event
       ∙ ap (first_some (picked (scene m depth h f) h.event state a)) of.applied
-      ∙ matched_once (scene m depth h f) h.event state a m.rules
+
+  rule-is : (state : ℕ) (a : Asker) → rule_taken (first state a) ≡ first_some (asked_rule (scene m depth h f) h.event state a) m.rules
+  rule-is state a = ap rule_taken (first-is state a) ∙ matched_once (scene m depth h f) h.event state a m.rules
 
   pub global_is : (is_root asked : Bool) (state : ℕ) → asked ≡ is_global_asked (event_of r.event) is_root
-      → first_taken (setting_in r.setting) (event_of r.event) asked state GlobalState ts ≡ taken_global m depth h f is_root state
+      → rule_taken (first_taken (setting_in r.setting) (event_of r.event) asked state GlobalState all) ≡ taken_global m depth h f is_root state
   global_is is_root asked state e =
-      ap (λ z. cond (nat_eq state stop || not z) None (first_some (picked (setting_in r.setting) (event_of r.event) state GlobalState) ts)) (e ∙ ap (λ z. is_global_asked z is_root) of.event)
-      ∙ ap (λ z. cond (nat_eq state stop || not (is_global_asked h.event is_root)) None z) (first-is state GlobalState)
+      untaken (nat_eq state stop || not asked) (first state GlobalState)
+      ∙ ap (λ z. cond (nat_eq state stop || not z) None (rule_taken (first state GlobalState))) (e ∙ ap (λ z. is_global_asked z is_root) of.event)
+      ∙ ap (λ z. cond (nat_eq state stop || not (is_global_asked h.event is_root)) None z) (rule-is state GlobalState)
 
   pub object_is : (is_root asked : Bool) (state : ℕ) (a : Asker) (o : Object) (x : Option State) → asked ≡ is_asked (event_of r.event) is_root o → a ≡ ObjectIn o x
-      → first_taken (setting_in r.setting) (event_of r.event) asked state a ts ≡ taken m depth h f is_root state o x
+      → rule_taken (first_taken (setting_in r.setting) (event_of r.event) asked state a all) ≡ taken m depth h f is_root state o x
   object_is is_root asked state a o x e q =
-      ap (λ z. cond (nat_eq state stop || not z) None (first_some (picked (setting_in r.setting) (event_of r.event) state a) ts)) (e ∙ ap (λ z. is_asked z is_root o) of.event)
+      untaken (nat_eq state stop || not asked) (first state a)
+      ∙ ap (λ z. cond (nat_eq state stop || not z) None (rule_taken (first state a))) (e ∙ ap (λ z. is_asked z is_root o) of.event)
       ∙ ap (λ z. cond (nat_eq state stop || not (is_asked h.event is_root o)) None z)
-      (first-is state a ∙ ap (λ z. first_some (asked_rule (scene m depth h f) h.event state z) m.rules) q)
+      (rule-is state a ∙ ap (λ z. first_some (asked_rule (scene m depth h f) h.event state z) m.rules) q)
 
-  pub bound_is : (o : Object) → Contains (bound_by (setting_in r.setting) ts) o ↔ Binds m depth f h o
+  -- the number is that of the first alternative by which it is taken
+  pub is_by_first : (asked : Bool) (state : ℕ) (a : Asker) (x : Fired) → first_taken (setting_in r.setting) (event_of r.event) asked state a all ≡ Some (applied_of x)
+      → IsByFirst (scene m depth h f) h.event a x
+  is_by_first asked state a x e =
+      let there = untested (nat_eq state stop || not asked) (first state a) (applied_of x) e in
+      taken_by_first (scene m depth h f) h.event state a m.rules (applied_of x) (sym (first-is state a) ∙ there.1)
+
+  pub bound_is : (o : Object) → Contains (bound_by (setting_in r.setting) all) o ↔ Binds m depth f h o
   bound_is o =
-      let list : bound_by (setting_in r.setting) ts ≡ bound_by (scene m depth h f) (applied_at (scene m depth h f) h.event m.rules) =
-      ap (λ z. bound_by z ts) of.setting ∙ ap (bound_by (scene m depth h f)) of.applied in
+      let list : bound_by (setting_in r.setting) all ≡ bound_by (scene m depth h f) (applied_at (scene m depth h f) h.event m.rules) =
+      ap (λ z. bound_by z all) of.setting ∙ ap (bound_by (scene m depth h f)) of.applied in
       subst (λ (z : List Object). Contains z o ↔ Binds m depth f h o) (sym list) (exactly_bound m depth h f o)
+
+-- what is known of the one that is picked, by what it stands for
+pub picked_rule : (o : Option (Bor Fired)) (y : Option Applied) → option_map (λ (t : Bor Fired). applied_of t.now) o ≡ y → option_map (λ (t : Bor Fired). taken_of t.now) o ≡ rule_taken y
+picked_rule None y e = ap rule_taken e
+picked_rule (Some t) y e = ap rule_taken e
+
+pub picked_first : (o : Option (Bor Fired)) (y : Option Applied) (P : Fired → Type 0) → option_map (λ (t : Bor Fired). applied_of t.now) o ≡ y
+    → ((x : Fired) → y ≡ Some (applied_of x) → P x) → IfSome o (λ (t : Bor Fired). P t.now)
+picked_first None y P e k = tt
+picked_first (Some t) y P e k = k t.now (sym e)
 
 -- the list of them
 pub all_bound : {A E : Type 0} (r : EventRules) (xs : List Fired) (s : Result (Vec Object A) E) → xs ≡ r.applied.items
-    → IfOk s (λ list. list.items ≡ bound_by (setting_in r.setting) (map taken_of xs))
+    → IfOk s (λ list. list.items ≡ bound_by (setting_in r.setting) (map applied_of xs))
     → IfOk s (λ list. (m : Machine) (depth : ℕ) (h : Happening) (f : Function) → AreOfEvent m depth h f r → (o : Object) → Contains list.items o ↔ Binds m depth f h o)
 all_bound r xs (Err e) same h = tt
 all_bound r xs (Ok list) same k = λ m depth h f of o.
-    let items : list.items ≡ bound_by (setting_in r.setting) (map taken_of r.applied.items) = k ∙ ap (λ z. bound_by (setting_in r.setting) (map taken_of z)) same in
+    let items : list.items ≡ bound_by (setting_in r.setting) (map applied_of r.applied.items) = k ∙ ap (λ z. bound_by (setting_in r.setting) (map applied_of z)) same in
     subst (λ (z : List Object). Contains z o ↔ Binds m depth f h o) (sym items) (bound_is m depth h f r of o)
 
 -- the states behind what is taken

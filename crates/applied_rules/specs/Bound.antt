@@ -1,8 +1,9 @@
 -- THE OBJECTS THAT RULES BIND: what their state variables have taken.
 use Rattle.std.specs.Prelude.{ℕ, List, flat_map}
 use Rattle.std.specs.Option.{option_to_list}
+use Rattle.applied_rules.specs.Applied.{Applied}
 use Rattle.c_objects.specs.Objects.{Object}
-use Rattle.checker_model.specs.Choices.{Taken, rule_variables}
+use Rattle.checker_model.specs.Choices.{rule_variables}
 use Rattle.hole_matching.specs.Alternatives.{bound_object}
 use Rattle.hole_matching.specs.Holes.{Setting}
 use Rattle.hole_matching.specs.Matching.{Binding}
@@ -14,8 +15,8 @@ object_of g b v = option_to_list (bound_object g v b)
 abbrev pub objects_of : Setting → Binding → List ℕ → List Object
 objects_of g b vs = flat_map (object_of g b) vs
 
-abbrev pub bound_with : Setting → Taken → List Object
-bound_with g t = objects_of g t.binding (rule_variables t.rule.source t.rule.dest)
+abbrev pub bound_with : Setting → Applied → List Object
+bound_with g x = objects_of g x.taken.binding (rule_variables x.taken.rule.source x.taken.rule.dest)
 
-abbrev pub bound_by : Setting → List Taken → List Object
-bound_by g ts = flat_map (bound_with g) ts
+abbrev pub bound_by : Setting → List Applied → List Object
+bound_by g xs = flat_map (bound_with g) xs

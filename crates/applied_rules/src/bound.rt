@@ -3,7 +3,7 @@
 ghost use Rattle.std.specs.Prelude.{◌≡◌, ◌↔◌, ◌++◌, ℕ, map, IfOk, Contains};
 ghost use Rattle.std.specs.Option.{option_to_list};
 ghost use Rattle.applied_rules.specs.Bound.{objects_of, bound_with, bound_by};
-ghost use Rattle.applied_rules.specs.Events.{AreOfEvent};
+ghost use Rattle.applied_rules.specs.Events.{applied_of, AreOfEvent};
 ghost use Rattle.c_objects.specs.Objects.{Object as Seen};
 ghost use Rattle.checker_model.specs.Choices.{Binds, variable_of, led_variables};
 ghost use Rattle.checker_model.specs.Happenings.{Function, Happening};
@@ -12,7 +12,6 @@ ghost use Rattle.hole_bindings.specs.Settings.{setting_in};
 ghost use Rattle.hole_matching.specs.Alternatives.{bound_object};
 ghost use Rattle.metal_machines.specs.Machine.{Machine as Form};
 ghost use Rattle.metal_tree.specs.Views.{target_view, dest_view};
-ghost use Rattle.rule_choices.specs.Values.{taken_of};
 
 use crate::rules::EventRules;
 use event_rules::{bound_object, variable_of};
@@ -72,7 +71,7 @@ fn add_targets(
 
 // Adds what the state variables of a rule have taken.
 fn add_fired(setting: &Setting, fired: &Fired, objects: &mut Vec<Object>) -> Result<(), AllocError>
-    ensures { IfOk result (λ _. objects.new.items ≡ objects.old.items ++ bound_with (setting_in setting.now) (taken_of fired.now)) }
+    ensures { IfOk result (λ _. objects.new.items ≡ objects.old.items ++ bound_with (setting_in setting.now) (applied_of fired.now)) }
 {
     match fired.rule.source {
         Source::Global(_) => add_targets(setting, &fired.rule.dest, &fired.binding, objects),
@@ -82,7 +81,7 @@ fn add_fired(setting: &Setting, fired: &Fired, objects: &mut Vec<Object>) -> Res
 
 // The objects that these alternatives bind.
 fn bound_by(alloc: Global, setting: &Setting, applied: &[Fired]) -> Result<Vec<Object>, AllocError>
-    ensures { IfOk result (λ list. list.items ≡ bound_by (setting_in setting.now) (map taken_of applied.now)) }
+    ensures { IfOk result (λ list. list.items ≡ bound_by (setting_in setting.now) (map applied_of applied.now)) }
 {
     let mut objects = Vec::new(alloc);
     for fired in applied {

@@ -1,14 +1,16 @@
 //! Which of the rules of an event is taken, and the states behind it.
 
-ghost use Rattle.std.specs.Prelude.{◌≡◌, ℕ, map};
+ghost use Rattle.std.specs.Prelude.{◌≡◌, ℕ, map, IfSome};
 ghost use Rattle.std.specs.Option.{option_map};
-ghost use Rattle.applied_rules.specs.Events.{AreOfEvent};
+ghost use Rattle.applied_rules.specs.Events.{applied_of, AreOfEvent};
 ghost use Rattle.applied_rules.specs.Firsts.{takes, picked, first_taken};
-ghost use Rattle.checker_model.specs.Choices.{first_some, taken, taken_global, next_global, chosen};
+ghost use Rattle.checker_model.specs.Choices.{first_some, scene, taken, taken_global, next_global, chosen};
 ghost use Rattle.checker_model.specs.Happenings.{Function, Happening};
 ghost use Rattle.flow_graph.specs.Values.{event_of};
 ghost use Rattle.hole_bindings.specs.Settings.{setting_in};
 ghost use Rattle.metal_machines.specs.Machine.{Machine as Form};
+ghost use Rattle.rule_choices.specs.Asked.{GlobalState, ObjectIn};
+ghost use Rattle.rule_choices.specs.Firsts.{IsByFirst};
 ghost use Rattle.rule_choices.specs.Values.{asker_of, taken_of};
 
 use crate::rules::EventRules;
@@ -34,7 +36,7 @@ impl<'m, 'a> EventRules<'m, 'a> {
 
     // The first that who is asked takes.
     fn first(&self, global: u16, asked: Asked) -> Option<&Fired<'m, 'a>>
-        ensures { option_map (λ t. taken_of t.now) result ≡ first_some (picked (setting_in self.now.setting) (event_of self.now.event) global (asker_of asked.entry)) (map taken_of self.now.applied.items) }
+        ensures { option_map (λ t. applied_of t.now) result ≡ first_some (picked (setting_in self.now.setting) (event_of self.now.event) global (asker_of asked.entry)) (map applied_of self.now.applied.items) }
     {
         for fired in self.applied.as_slice() {
             if self.takes(global, asked, fired) {
@@ -46,7 +48,7 @@ impl<'m, 'a> EventRules<'m, 'a> {
 
     // The first that who is asked takes, if it is asked here and the global state isn't `stop`.
     fn first_taken(&self, is_asked: bool, global: u16, asked: Asked) -> Option<&Fired<'m, 'a>>
-        ensures { option_map (λ t. taken_of t.now) result ≡ first_taken (setting_in self.now.setting) (event_of self.now.event) is_asked global (asker_of asked.entry) (map taken_of self.now.applied.items) }
+        ensures { option_map (λ t. applied_of t.now) result ≡ first_taken (setting_in self.now.setting) (event_of self.now.event) is_asked global (asker_of asked.entry) (map applied_of self.now.applied.items) }
     {
         if global == STOP || !is_asked {
             return None;
@@ -54,15 +56,17 @@ impl<'m, 'a> EventRules<'m, 'a> {
         self.first(global, asked)
     }
 
-    /// The rule that the global state takes.
+    /// The rule that the global state takes, by the first of its alternatives.
     pub fn taken_global(&self, is_root: bool, global: u16) -> Option<&Fired<'m, 'a>>
-        ensures { (m : Form) (depth : ℕ) (h : Happening) (f : Function) → AreOfEvent m depth h f self.now → option_map (λ t. taken_of t.now) result ≡ taken_global m depth h f is_root global }
+        ensures taken { (m : Form) (depth : ℕ) (h : Happening) (f : Function) → AreOfEvent m depth h f self.now → option_map (λ t. taken_of t.now) result ≡ taken_global m depth h f is_root global }
+        ensures first { (m : Form) (depth : ℕ) (h : Happening) (f : Function) → AreOfEvent m depth h f self.now → IfSome result (λ t. IsByFirst (scene m depth h f) h.event GlobalState t.now) }
     {
         let asked = is_global_asked(&self.event, is_root);
         self.first_taken(asked, global, Asked::Global)
     }
 
-    /// The rule that an object takes, by its state behind the event's move; `None` where that is unknown.
+    /// The rule that an object takes, by its state behind the event's move, `None` where that is unknown; it takes it by the first of its
+    /// alternatives that binds the object.
     pub fn taken(
         &self,
         is_root: bool,
@@ -70,7 +74,8 @@ impl<'m, 'a> EventRules<'m, 'a> {
         object: &Object,
         state: Option<(u8, u16)>,
     ) -> Option<&Fired<'m, 'a>>
-        ensures { (m : Form) (depth : ℕ) (h : Happening) (f : Function) → AreOfEvent m depth h f self.now → option_map (λ t. taken_of t.now) result ≡ taken m depth h f is_root global object.now state }
+        ensures taken { (m : Form) (depth : ℕ) (h : Happening) (f : Function) → AreOfEvent m depth h f self.now → option_map (λ t. taken_of t.now) result ≡ taken m depth h f is_root global object.now state }
+        ensures first { (m : Form) (depth : ℕ) (h : Happening) (f : Function) → AreOfEvent m depth h f self.now → IfSome result (λ t. IsByFirst (scene m depth h f) h.event (ObjectIn object.now state) t.now) }
     {
         let asked = is_asked(&self.event, is_root, object);
         self.first_taken(asked, global, asked_object(object, state))

@@ -2,12 +2,11 @@
 
 ghost use Rattle.std.specs.Prelude.{◌≡◌, ◌≤◌, ◌++◌, map, IfOk};
 ghost use Rattle.applied_rules.specs.Applied.{applied_alternative, applied_rule, applied_at};
-ghost use Rattle.applied_rules.specs.Events.{AreOfEvent};
+ghost use Rattle.applied_rules.specs.Events.{applied_of, AreOfEvent};
 ghost use Rattle.flow_graph.specs.Values.{event_of};
 ghost use Rattle.hole_bindings.specs.Settings.{setting_in};
 ghost use Rattle.metal_tree.specs.Views.{items_view, rule_view, rule_views};
 ghost use Rattle.metal_tree.specs.Whole.{machine_view};
-ghost use Rattle.rule_choices.specs.Values.{taken_of};
 ghost use Rattle.state_tuples.specs.Values.{happening_in, function_of};
 
 use crate::rules::EventRules;
@@ -28,7 +27,7 @@ fn add_alternative<'m, 'a>(
     alternative: &Alternative,
     applied: &mut Vec<Fired<'m, 'a>>,
 ) -> Result<(), AllocError>
-    ensures { IfOk result (λ _. map taken_of applied.new.items ≡ map taken_of applied.old.items ++ applied_alternative (setting_in setting.now) (event_of event.now) (rule_view rule.now) (items_view alternative.now)) }
+    ensures { IfOk result (λ _. map applied_of applied.new.items ≡ map applied_of applied.old.items ++ applied_alternative (setting_in setting.now) (event_of event.now) (rule_view rule.now) (number, items_view alternative.now)) }
 {
     if let Some(binding) = alternative_applies(setting, event, &rule.dest, alternative.items) {
         applied.push(Fired {
@@ -47,7 +46,7 @@ fn add_rule<'m, 'a>(
     rule: &'m Rule<'m>,
     applied: &mut Vec<Fired<'m, 'a>>,
 ) -> Result<(), AllocError>
-    ensures { IfOk result (λ _. map taken_of applied.new.items ≡ map taken_of applied.old.items ++ applied_rule (setting_in setting.now) (event_of event.now) (rule_view rule.now)) }
+    ensures { IfOk result (λ _. map applied_of applied.new.items ≡ map applied_of applied.old.items ++ applied_rule (setting_in setting.now) (event_of event.now) (rule_view rule.now)) }
 {
     for (number, alternative) in rule.pattern.alternatives.iter().enumerate() {
         add_alternative(setting, event, rule, number, alternative, applied)?;
@@ -62,7 +61,7 @@ fn applied_at<'m, 'a>(
     event: &Event<'a>,
     rules: &'m [Rule<'m>],
 ) -> Result<Vec<Fired<'m, 'a>>, AllocError>
-    ensures { IfOk result (λ list. map taken_of list.items ≡ applied_at (setting_in setting.now) (event_of event.now) (rule_views rules.now)) }
+    ensures { IfOk result (λ list. map applied_of list.items ≡ applied_at (setting_in setting.now) (event_of event.now) (rule_views rules.now)) }
 {
     let mut applied = Vec::new(alloc);
     for rule in rules {

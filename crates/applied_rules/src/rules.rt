@@ -5,7 +5,7 @@ use hole_bindings::Setting;
 use state_tuples::Fired;
 
 /// The alternatives of a checker's rules that apply at an event, in the order of the rules and then of their alternatives, each with its
-/// binding. They are matched once; which of them is taken is asked for each state.
+/// number in its rule and its binding. They are matched once; which of them is taken is asked for each state.
 #[derive(Drop)]
 pub struct EventRules<'m, 'a> {
     /// The checker's holes and variables, the unit and the function in which the event stands.

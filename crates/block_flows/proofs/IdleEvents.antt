@@ -8,15 +8,16 @@ use Rattle.std.proofs.lemmas.List.Elements.{All-contains}
 use Rattle.std.proofs.lemmas.List.Sums.{AllPass-from_list_all}
 use Rattle.applied_rules.proofs.OfEvents.{global_is, object_is}
 use Rattle.applied_rules.specs.declared.rules.EventRules.{EventRules}
-use Rattle.applied_rules.specs.Events.{AreOfEvent}
-use Rattle.applied_rules.specs.Firsts.{first_taken}
+use Rattle.applied_rules.specs.Applied.{Applied}
+use Rattle.applied_rules.specs.Events.{applied_of, AreOfEvent}
+use Rattle.applied_rules.specs.Firsts.{first_taken, rule_taken}
 use Rattle.block_flows.proofs.Fires.{fire, fires}
 use Rattle.block_flows.specs.Firings.{acting, TakenHere, fire_of}
 use Rattle.block_flows.specs.IdleEvents.{is_idle, is_within, leaves_all, AreLeft}
 use Rattle.c_objects.specs.Objects.{Object, is_object}
 use Rattle.c_paths.specs.Events.{Event}
 use Rattle.c_typing.specs.Options.{if_there}
-use Rattle.checker_model.specs.Choices.{State, Taken, stop, is_asked, is_global_asked, target_at, global_behind, object_behind, taken, taken_global, next_global, chosen}
+use Rattle.checker_model.specs.Choices.{State, stop, is_asked, is_global_asked, target_at, global_behind, object_behind, taken, taken_global, next_global, chosen}
 use Rattle.checker_model.specs.Happenings.{Function, Happening}
 use Rattle.checker_model.specs.Moves.{Move, move_of}
 use Rattle.checker_model.specs.Reports.{Checker}
@@ -28,7 +29,6 @@ use Rattle.least_set.specs.Logs.{IsExactly, SomeGives}
 use Rattle.objects.specs.Units.{facts_in}
 use Rattle.path_theory.specs.Facts.{HasObject}
 use Rattle.rule_choices.specs.Asked.{Asker, GlobalState, ObjectIn}
-use Rattle.rule_choices.specs.Values.{taken_of}
 use Rattle.state_tuples.specs.declared.tuple.Tuple.{Tuple}
 use Rattle.synonyms_kills.proofs.CopiedStates.{are_targets}
 use Rattle.synonyms_kills.specs.Targets.{AreTargets, targets}
@@ -62,10 +62,10 @@ missing None h = refl
 missing (Some x) h = cc
 
 -- of no rules none is taken
-first-none : (g : Setting) (e : Event) (asked : Bool) (state : ℕ) (a : Asker) (ts : List Taken) → ts ≡ [] → first_taken g e asked state a ts ≡ None
-first-none g e asked state a ts n = ap (first_taken g e asked state a) n ∙ either (nat_eq state stop || not asked) None
+first-none : (g : Setting) (e : Event) (asked : Bool) (state : ℕ) (a : Asker) (xs : List Applied) → xs ≡ [] → rule_taken (first_taken g e asked state a xs) ≡ None
+first-none g e asked state a xs n = ap (λ z. rule_taken (first_taken g e asked state a z)) n ∙ ap rule_taken (either (nat_eq state stop || not asked) None)
   where
-    either : (b : Bool) (o : Option Taken) → cond b o o ≡ o
+    either : (b : Bool) (o : Option Applied) → cond b o o ≡ o
     either true o = refl
     either false o = refl
 
@@ -77,18 +77,18 @@ module _ (c : Checker) (h : Happening) (f : Function) (k : Bool) (followed : Lis
   parts : ((length r.applied.items == 0) ≡ true) × (is_none moves ≡ true)
   parts = and_parts (length r.applied.items == 0) (is_none moves) idle
 
-  no-rules : map taken_of r.applied.items ≡ []
-  no-rules = ap (map taken_of) (empty r.applied.items parts.0)
+  no-rules : map applied_of r.applied.items ≡ []
+  no-rules = ap (map applied_of) (empty r.applied.items parts.0)
 
   taken-none : (g : ℕ) (o : Object) (x : Option State) → taken c.machine c.depth h f k g o x ≡ None
   taken-none g o x =
       sym (object_is c.machine c.depth h f r of k (is_asked (event_of r.event) k o) g (ObjectIn o x) o x refl refl)
-      ∙ first-none (setting_in r.setting) (event_of r.event) (is_asked (event_of r.event) k o) g (ObjectIn o x) (map taken_of r.applied.items) no-rules
+      ∙ first-none (setting_in r.setting) (event_of r.event) (is_asked (event_of r.event) k o) g (ObjectIn o x) (map applied_of r.applied.items) no-rules
 
   global-none : (g : ℕ) → taken_global c.machine c.depth h f k g ≡ None
   global-none g =
       sym (global_is c.machine c.depth h f r of k (is_global_asked (event_of r.event) k) g refl)
-      ∙ first-none (setting_in r.setting) (event_of r.event) (is_global_asked (event_of r.event) k) g GlobalState (map taken_of r.applied.items) no-rules
+      ∙ first-none (setting_in r.setting) (event_of r.event) (is_global_asked (event_of r.event) k) g GlobalState (map applied_of r.applied.items) no-rules
 
   -- the states stay
   same-global : (g : ℕ) → next_global c.machine c.depth h f k g ≡ g

@@ -5,8 +5,8 @@ use Rattle.std.specs.Prelude.{is_some, is_none}
 use Rattle.std.proofs.lemmas.Bool.{and_parts}
 use Rattle.applied_rules.proofs.OfEvents.{global_is, object_is}
 use Rattle.applied_rules.specs.declared.rules.EventRules.{EventRules}
-use Rattle.applied_rules.specs.Events.{AreOfEvent}
-use Rattle.applied_rules.specs.Firsts.{takes, picked, first_taken}
+use Rattle.applied_rules.specs.Events.{applied_of, AreOfEvent}
+use Rattle.applied_rules.specs.Firsts.{takes, picked, first_taken, rule_taken}
 use Rattle.block_flows.specs.Events.{AreOfEvents}
 use Rattle.block_flows.specs.Firings.{acting, ObjectActs, GlobalActs}
 use Rattle.block_flows.specs.QuietEvents.{is_silent, is_quiet, are_quiet}
@@ -32,22 +32,22 @@ no-action None h = refl
 no-action (Some x) h = cc
 
 -- of rules without an action none with one is the first
-first-acts-none : (g : Setting) (e : Event) (state : ℕ) (a : Asker) (xs : List Fired) → list_all is_silent xs ≡ true → acting (first_some (picked g e state a) (map taken_of xs)) ≡ None
+first-acts-none : (g : Setting) (e : Event) (state : ℕ) (a : Asker) (xs : List Fired) → list_all is_silent xs ≡ true → acting (rule_taken (first_some (picked g e state a) (map applied_of xs))) ≡ None
 first-acts-none g e state a [] q = refl
 first-acts-none g e state a (x ∷ xs) q =
     let p = and_parts (is_silent x) (list_all is_silent xs) q in
     by (takes g e state a (taken_of x)) p.0 (first-acts-none g e state a xs p.1)
   where
-    by : (b : Bool) → is_silent x ≡ true → acting (first_some (picked g e state a) (map taken_of xs)) ≡ None
-        → acting (or_else (cond b (Some (taken_of x)) None) (first_some (picked g e state a) (map taken_of xs))) ≡ None
+    by : (b : Bool) → is_silent x ≡ true → acting (rule_taken (first_some (picked g e state a) (map applied_of xs))) ≡ None
+        → acting (rule_taken (or_else (cond b (Some (applied_of x)) None) (first_some (picked g e state a) (map applied_of xs)))) ≡ None
     by false s r = r
     by true s r = ap (λ z. cond z (Some (taken_of x)) None) (no-action (taken_of x).rule.action s)
 
 taken-acts-none : (g : Setting) (e : Event) (asked : Bool) (state : ℕ) (a : Asker) (xs : List Fired) → list_all is_silent xs ≡ true
-    → acting (first_taken g e asked state a (map taken_of xs)) ≡ None
+    → acting (rule_taken (first_taken g e asked state a (map applied_of xs))) ≡ None
 taken-acts-none g e asked state a xs q = by (nat_eq state stop || not asked)
   where
-    by : (b : Bool) → acting (cond b None (first_some (picked g e state a) (map taken_of xs))) ≡ None
+    by : (b : Bool) → acting (rule_taken (cond b None (first_some (picked g e state a) (map applied_of xs)))) ≡ None
     by true = refl
     by false = first-acts-none g e state a xs q
 

@@ -1,9 +1,9 @@
 use Rattle.std.proofs.Common.{◌≡◌, map, take}
 use Rattle.applied_rules.specs.Bound.{bound_by}
+use Rattle.applied_rules.specs.Events.{applied_of}
 use Rattle.hole_bindings.specs.Settings.{setting_in}
-use Rattle.rule_choices.specs.Values.{taken_of}
 use Rattle.applied_rules.proofs.bound.bound_by.Given as goal
 
 -- the objects of those that were passed
 abbrev pub invariant-loop-fired : goal.invariant-loop-fired
-invariant-loop-fired l = l.objects.items ≡ bound_by (setting_in l.setting) (map taken_of (take l.fired-index l.applied))
+invariant-loop-fired l = l.objects.items ≡ bound_by (setting_in l.setting) (map applied_of (take l.fired-index l.applied))

@@ -8,7 +8,7 @@ pub returns-in-Some : goal.returns-in-Some
 returns-in-Some c = λ m depth h f of.
     c.global_behind.ensures
     ∙ ap (λ z. global_behind z c.args.global) c.target_at.ensures
-    ∙ global_behind_is m depth h f c.args.self.now of c.args.is_root c.args.global (Some (taken_of c.in-Some.taken.now)) (c.in-Some.ensures m depth h f of)
+    ∙ global_behind_is m depth h f c.args.self.now of c.args.is_root c.args.global (Some (taken_of c.in-Some.taken.now)) (c.in-Some.ensures.taken m depth h f of)
 
 pub returns-in-None : goal.returns-in-None
-returns-in-None c = λ m depth h f of. global_behind_is m depth h f c.args.self.now of c.args.is_root c.args.global None (c.in-None.ensures m depth h f of)
+returns-in-None c = λ m depth h f of. global_behind_is m depth h f c.args.self.now of c.args.is_root c.args.global None (c.in-None.ensures.taken m depth h f of)

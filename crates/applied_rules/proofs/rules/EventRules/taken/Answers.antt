@@ -1,10 +1,19 @@
-use Rattle.std.proofs.Common.{◌∙◌}
-use Rattle.applied_rules.proofs.OfEvents.{object_is}
+use Rattle.std.proofs.Common.{subst, ◌∙◌}
+use Rattle.applied_rules.proofs.OfEvents.{object_is, is_by_first, picked_rule, picked_first}
+use Rattle.checker_model.specs.Choices.{scene}
+use Rattle.rule_choices.specs.Asked.{Asker, ObjectIn}
+use Rattle.rule_choices.specs.Firsts.{IsByFirst}
 use Rattle.rule_choices.specs.Values.{asker_of}
 use Rattle.applied_rules.proofs.rules.EventRules.taken.Goals as goal
 
-pub returns : goal.returns
-returns c = λ m depth h f of.
-    c.first_taken.ensures
+pub returns-clause-taken : goal.returns-clause-taken
+returns-clause-taken c = λ m depth h f of.
+    picked_rule _ _ c.first_taken.ensures
     ∙ object_is m depth h f c.args.self.now of c.args.is_root c.is_asked-asked.result c.args.global (asker_of c.asked_object.result) c.args.object.now c.args.state
     c.is_asked-asked.ensures c.asked_object.ensures
+
+pub returns-clause-first : goal.returns-clause-first
+returns-clause-first c = λ m depth h f of.
+    picked_first _ _ (IsByFirst (scene m depth h f) h.event (ObjectIn c.args.object.now c.args.state)) c.first_taken.ensures
+    (λ x e. subst (λ (a : Asker). IsByFirst (scene m depth h f) h.event a x) c.asked_object.ensures
+    (is_by_first m depth h f c.args.self.now of c.is_asked-asked.result c.args.global (asker_of c.asked_object.result) x e))

@@ -1,6 +1,15 @@
 use Rattle.std.proofs.Common.{◌∙◌}
-use Rattle.applied_rules.proofs.OfEvents.{global_is}
+use Rattle.applied_rules.proofs.OfEvents.{global_is, is_by_first, picked_rule, picked_first}
+use Rattle.checker_model.specs.Choices.{scene}
+use Rattle.rule_choices.specs.Asked.{GlobalState}
+use Rattle.rule_choices.specs.Firsts.{IsByFirst}
 use Rattle.applied_rules.proofs.rules.EventRules.taken_global.Goals as goal
 
-pub returns : goal.returns
-returns c = λ m depth h f of. c.first_taken.ensures ∙ global_is m depth h f c.args.self.now of c.args.is_root c.is_global_asked-asked.result c.args.global c.is_global_asked-asked.ensures
+pub returns-clause-taken : goal.returns-clause-taken
+returns-clause-taken c = λ m depth h f of.
+    picked_rule _ _ c.first_taken.ensures ∙ global_is m depth h f c.args.self.now of c.args.is_root c.is_global_asked-asked.result c.args.global c.is_global_asked-asked.ensures
+
+pub returns-clause-first : goal.returns-clause-first
+returns-clause-first c = λ m depth h f of.
+    picked_first _ _ (IsByFirst (scene m depth h f) h.event GlobalState) c.first_taken.ensures
+    (λ x e. is_by_first m depth h f c.args.self.now of c.is_global_asked-asked.result c.args.global GlobalState x e)
