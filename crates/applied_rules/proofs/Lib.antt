@@ -1,5 +1,6 @@
 pub mod Lists
 pub mod Numbered
 pub mod MatchedOnce
+pub mod Takers
 pub mod BoundObjects
 pub mod OfEvents

@@ -93,13 +93,15 @@ module _ (g : Setting) (e : Event) (state : ℕ) (a : Asker) where
         let same : taken_with r found.0 ≡ t = cc in
         sym (ap (λ (z : Taken). z.rule) same)
 
-    by-first : (x : Applied) → numbered_rule ≡ Some x → IsFirst (by_items g e a x.taken.rule) x.taken.rule.alternatives x.number
+    by-first : (x : Applied) → numbered_rule ≡ Some x
+        → (may_take e state a x.taken.rule ≡ true) × IsFirst (by_items g e a x.taken.rule) x.taken.rule.alternatives x.number
     by-first x h =
         let there = tested (may_take e state a r) (first_some (numbered (by_items g e a r)) (enumerate_from 0 r.alternatives)) x h in
         let s : Stands (by_items g e a r) 0 r.alternatives x = stands (by_items g e a r) 0 r.alternatives x there.1 in
         let same : r ≡ x.taken.rule = sym (of-rule s.item x.taken s.gives) in
         let number : s.position ≡ x.number = (let is : x.number ≡ 0 + s.position = s.number in omega (arith, is)) in
-        subst (λ (z : Rule). IsFirst (by_items g e a z) z.alternatives x.number) same (subst (λ (k : ℕ). IsFirst (by_items g e a r) r.alternatives k) number s.first)
+        let first = subst (λ (k : ℕ). IsFirst (by_items g e a r) r.alternatives k) number s.first in
+        subst (λ (z : Rule). (may_take e state a z ≡ true) × IsFirst (by_items g e a z) z.alternatives x.number) same (there.0, first)
 
   matched : (rs : List Rule) → first_some (picked g e state a) (applied_at g e rs) ≡ first_some numbered_rule rs
   matched [] = refl
@@ -118,7 +120,7 @@ module _ (g : Setting) (e : Event) (state : ℕ) (a : Asker) where
   pub matched_once : (rs : List Rule) → rule_taken (first_some (picked g e state a) (applied_at g e rs)) ≡ first_some (asked_rule g e state a) rs
   matched_once rs = ap rule_taken (matched rs) ∙ same-rules rs
 
-  -- and by the first of the rule's alternatives by which it may
+  -- one that it may take, and by the first of its alternatives by which it can
   pub taken_by_first : (rs : List Rule) (x : Applied) → first_some (picked g e state a) (applied_at g e rs) ≡ Some x
-      → IsFirst (by_items g e a x.taken.rule) x.taken.rule.alternatives x.number
+      → (may_take e state a x.taken.rule ≡ true) × IsFirst (by_items g e a x.taken.rule) x.taken.rule.alternatives x.number
   taken_by_first rs x h = let found = one-gives numbered_rule rs x (sym (matched rs) ∙ h) in by-first found.0 x found.1

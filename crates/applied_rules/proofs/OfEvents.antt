@@ -4,10 +4,12 @@ use Rattle.std.specs.Prelude.{◌↔◌, Vec, Result, Ok, Err, IfOk, IfSome}
 use Rattle.std.specs.Option.{option_map}
 use Rattle.applied_rules.proofs.BoundObjects.{exactly_bound}
 use Rattle.applied_rules.proofs.MatchedOnce.{matched_once, taken_by_first}
+use Rattle.applied_rules.proofs.Takers.{object-takes}
 use Rattle.applied_rules.specs.Applied.{Applied, applied_at}
 use Rattle.applied_rules.specs.Bound.{bound_by}
 use Rattle.applied_rules.specs.Events.{applied_of, AreOfEvent}
 use Rattle.applied_rules.specs.Firsts.{picked, first_taken, rule_taken}
+use Rattle.applied_rules.specs.Takers.{IsFirstFor}
 use Rattle.applied_rules.specs.declared.rules.EventRules.{EventRules}
 use Rattle.c_objects.specs.Objects.{Object}
 use Rattle.c_typing.specs.Options.{if_there}
@@ -17,7 +19,7 @@ use Rattle.checker_model.specs.Happenings.{Function, Happening}
 use Rattle.flow_graph.specs.Values.{event_of}
 use Rattle.hole_bindings.specs.Settings.{setting_in}
 use Rattle.metal_machines.specs.Machine.{Machine}
-use Rattle.rule_choices.specs.Asked.{Asker, GlobalState, ObjectIn, asked_rule}
+use Rattle.rule_choices.specs.Asked.{Asker, GlobalState, ObjectIn, asked_rule, may_take}
 use Rattle.rule_choices.specs.declared.fired.Fired.{Fired}
 use Rattle.rule_choices.specs.Firsts.{IsByFirst}
 use Rattle.rule_choices.specs.Values.{taken_of}
@@ -58,11 +60,21 @@ module _ (m : Machine) (depth : ℕ) (h : Happening) (f : Function) (r : EventRu
       (rule-is state a ∙ ap (λ z. first_some (asked_rule (scene m depth h f) h.event state z) m.rules) q)
 
   -- the number is that of the first alternative by which it is taken
-  pub is_by_first : (asked : Bool) (state : ℕ) (a : Asker) (x : Fired) → first_taken (setting_in r.setting) (event_of r.event) asked state a all ≡ Some (applied_of x)
-      → IsByFirst (scene m depth h f) h.event a x
+  is_by_first : (asked : Bool) (state : ℕ) (a : Asker) (x : Fired) → first_taken (setting_in r.setting) (event_of r.event) asked state a all ≡ Some (applied_of x)
+      → (may_take h.event state a (taken_of x).rule ≡ true) × IsByFirst (scene m depth h f) h.event a x
   is_by_first asked state a x e =
       let there = untested (nat_eq state stop || not asked) (first state a) (applied_of x) e in
       taken_by_first (scene m depth h f) h.event state a m.rules (applied_of x) (sym (first-is state a) ∙ there.1)
+
+  pub global_by_first : (asked : Bool) (state : ℕ) (x : Fired) → first_taken (setting_in r.setting) (event_of r.event) asked state GlobalState all ≡ Some (applied_of x)
+      → IsFirstFor (scene m depth h f) h.event None x
+  global_by_first asked state x e = (is_by_first asked state GlobalState x e).1
+
+  pub object_by_first : (asked : Bool) (state : ℕ) (a : Asker) (o : Object) (q : Option State) (x : Fired) → a ≡ ObjectIn o q
+      → first_taken (setting_in r.setting) (event_of r.event) asked state a all ≡ Some (applied_of x) → IsFirstFor (scene m depth h f) h.event (Some o) x
+  object_by_first asked state a o q x same e =
+      let there = subst (λ (z : Asker). (may_take h.event state z (taken_of x).rule ≡ true) × IsByFirst (scene m depth h f) h.event z x) same (is_by_first asked state a x e) in
+      subst (λ (z : Asker). IsByFirst (scene m depth h f) h.event z x) (object-takes h.event state o q (taken_of x).rule there.0) there.1
 
   pub bound_is : (o : Object) → Contains (bound_by (setting_in r.setting) all) o ↔ Binds m depth f h o
   bound_is o =

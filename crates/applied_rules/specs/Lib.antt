@@ -1,4 +1,5 @@
 pub mod Applied
 pub mod Events
 pub mod Firsts
+pub mod Takers
 pub mod Bound

@@ -1,16 +1,15 @@
 //! Which of the rules of an event is taken, and the states behind it.
 
-ghost use Rattle.std.specs.Prelude.{◌≡◌, ℕ, map, IfSome};
+ghost use Rattle.std.specs.Prelude.{◌≡◌, ℕ, map, Some, None, IfSome};
 ghost use Rattle.std.specs.Option.{option_map};
 ghost use Rattle.applied_rules.specs.Events.{applied_of, AreOfEvent};
 ghost use Rattle.applied_rules.specs.Firsts.{takes, picked, first_taken};
+ghost use Rattle.applied_rules.specs.Takers.{IsFirstFor};
 ghost use Rattle.checker_model.specs.Choices.{first_some, scene, taken, taken_global, next_global, chosen};
 ghost use Rattle.checker_model.specs.Happenings.{Function, Happening};
 ghost use Rattle.flow_graph.specs.Values.{event_of};
 ghost use Rattle.hole_bindings.specs.Settings.{setting_in};
 ghost use Rattle.metal_machines.specs.Machine.{Machine as Form};
-ghost use Rattle.rule_choices.specs.Asked.{GlobalState, ObjectIn};
-ghost use Rattle.rule_choices.specs.Firsts.{IsByFirst};
 ghost use Rattle.rule_choices.specs.Values.{asker_of, taken_of};
 
 use crate::rules::EventRules;
@@ -56,17 +55,17 @@ impl<'m, 'a> EventRules<'m, 'a> {
         self.first(global, asked)
     }
 
-    /// The rule that the global state takes, by the first of its alternatives.
+    /// The rule that the global state takes, by the first of its alternatives by which it can.
     pub fn taken_global(&self, is_root: bool, global: u16) -> Option<&Fired<'m, 'a>>
         ensures taken { (m : Form) (depth : ℕ) (h : Happening) (f : Function) → AreOfEvent m depth h f self.now → option_map (λ t. taken_of t.now) result ≡ taken_global m depth h f is_root global }
-        ensures first { (m : Form) (depth : ℕ) (h : Happening) (f : Function) → AreOfEvent m depth h f self.now → IfSome result (λ t. IsByFirst (scene m depth h f) h.event GlobalState t.now) }
+        ensures first { (m : Form) (depth : ℕ) (h : Happening) (f : Function) → AreOfEvent m depth h f self.now → IfSome result (λ t. IsFirstFor (scene m depth h f) h.event None t.now) }
     {
         let asked = is_global_asked(&self.event, is_root);
         self.first_taken(asked, global, Asked::Global)
     }
 
-    /// The rule that an object takes, by its state behind the event's move, `None` where that is unknown; it takes it by the first of its
-    /// alternatives that binds the object.
+    /// The rule that an object takes, by its state behind the event's move, `None` where that is unknown. It takes it by the first of its
+    /// alternatives by which it can.
     pub fn taken(
         &self,
         is_root: bool,
@@ -75,7 +74,7 @@ impl<'m, 'a> EventRules<'m, 'a> {
         state: Option<(u8, u16)>,
     ) -> Option<&Fired<'m, 'a>>
         ensures taken { (m : Form) (depth : ℕ) (h : Happening) (f : Function) → AreOfEvent m depth h f self.now → option_map (λ t. taken_of t.now) result ≡ taken m depth h f is_root global object.now state }
-        ensures first { (m : Form) (depth : ℕ) (h : Happening) (f : Function) → AreOfEvent m depth h f self.now → IfSome result (λ t. IsByFirst (scene m depth h f) h.event (ObjectIn object.now state) t.now) }
+        ensures first { (m : Form) (depth : ℕ) (h : Happening) (f : Function) → AreOfEvent m depth h f self.now → IfSome result (λ t. IsFirstFor (scene m depth h f) h.event (Some object.now) t.now) }
     {
         let asked = is_asked(&self.event, is_root, object);
         self.first_taken(asked, global, asked_object(object, state))

@@ -1,10 +1,11 @@
 -- Which rules with an action are taken while a tuple crosses the events of a block. A report is that of such a rule.
-use Rattle.std.specs.Prelude.{◌≡◌, ℕ, Bool, cond, is_some, List, Option, None, Some}
+use Rattle.std.specs.Prelude.{◌≡◌, ℕ, Bool, cond, is_some, List, slice_get, Option, None, Some}
 use Rattle.std.specs.Option.{option_map}
+use Rattle.applied_rules.specs.Takers.{IsFirstFor}
 use Rattle.c_objects.specs.Objects.{Object}
 use Rattle.c_typing.specs.Options.{if_there, ◌>?◌}
 use Rattle.checker_model.specs.Checkers.{model, origins}
-use Rattle.checker_model.specs.Choices.{Taken, taken, taken_global}
+use Rattle.checker_model.specs.Choices.{Taken, scene, taken, taken_global}
 use Rattle.checker_model.specs.Happenings.{Function, Happening}
 use Rattle.checker_model.specs.Reports.{Checker}
 use Rattle.event_walks.specs.Happenings.{ToObjects, ToGlobals, HappensHere, HappensAt}
@@ -54,3 +55,11 @@ fires_here c h f is_root t =
 -- what is noted of it
 abbrev pub fire_of : Checker → Happening → Function → Bool → ℕ → Tuple → Option Fire
 fire_of c h f is_root number t = option_map (λ r. record { event = number; object = t.object; taken = r }) (fires_here c h f is_root t)
+
+-- THE ALTERNATIVE of a rule that is taken at the event with this number is the first by which it can be
+abbrev pub IsFirstHere : Checker → Happening → Function → ℕ → Firing → Type 0
+IsFirstHere c h f number x = (x.event ≡ number) × IsFirstFor (scene c.machine c.depth h f) h.event x.object x.taken.now
+
+-- the same at one of these events
+abbrev pub IsFirstAmong : Checker → List Happening → Function → Firing → Type 0
+IsFirstAmong c hs f x = (h : Happening) × (slice_get hs x.event ≡ Some h) × IsFirstFor (scene c.machine c.depth h f) h.event x.object x.taken.now

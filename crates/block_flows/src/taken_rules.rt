@@ -1,11 +1,13 @@
 //! Which rules with an action are taken while a tuple crosses the events of a block.
 
-ghost use Rattle.std.specs.Prelude.{◌≡◌, ◌+◌, List, map, IfOk};
-ghost use Rattle.std.specs.List.{filter_map};
+ghost use Rattle.std.specs.Prelude.{◌≡◌, ◌+◌, List, map, Some, IfOk, IfSome};
+ghost use Rattle.std.specs.List.{All, filter_map};
 ghost use Rattle.std.specs.Option.{option_map};
 ghost use Rattle.applied_rules.specs.Events.{AreOfEvent};
+ghost use Rattle.applied_rules.specs.Takers.{IsFirstFor};
 ghost use Rattle.block_flows.specs.Events.{AreOfEvents};
-ghost use Rattle.block_flows.specs.Firings.{acting, fires_here, fire_of, fire_in, TakenHere, TakenAt};
+ghost use Rattle.block_flows.specs.Firings.{acting, fires_here, fire_of, fire_in, TakenHere, TakenAt, IsFirstHere, IsFirstAmong};
+ghost use Rattle.checker_model.specs.Choices.{scene};
 ghost use Rattle.checker_model.specs.Happenings.{Function, Happening};
 ghost use Rattle.checker_model.specs.Reports.{Checker};
 ghost use Rattle.least_set.specs.Logs.{IsExactly, SomeGives};
@@ -35,7 +37,8 @@ pub struct Firing<'r, 'm, 'a> {
 
 // Only a rule with an action.
 fn acting<'r, 'm, 'a>(taken: Option<&'r Fired<'m, 'a>>) -> Option<&'r Fired<'m, 'a>>
-    ensures { option_map (λ t. taken_of t.now) result ≡ acting (option_map (λ t. taken_of t.now) taken.entry) }
+    ensures rule { option_map (λ t. taken_of t.now) result ≡ acting (option_map (λ t. taken_of t.now) taken.entry) }
+    ensures same { IfSome result (λ t. taken.entry ≡ Some t) }
 {
     let taken = taken?;
     match &taken.rule.action {
@@ -50,7 +53,8 @@ fn acted<'r, 'm, 'a>(
     is_root: bool,
     tuple: &Tuple,
 ) -> Option<&'r Fired<'m, 'a>>
-    ensures { (c : Checker) (h : Happening) (f : Function) → AreOfEvent c.machine c.depth h f rules.now → option_map (λ t. taken_of t.now) result ≡ fires_here c h f is_root tuple.now }
+    ensures rule { (c : Checker) (h : Happening) (f : Function) → AreOfEvent c.machine c.depth h f rules.now → option_map (λ t. taken_of t.now) result ≡ fires_here c h f is_root tuple.now }
+    ensures first { (c : Checker) (h : Happening) (f : Function) → AreOfEvent c.machine c.depth h f rules.now → IfSome result (λ t. IsFirstFor (scene c.machine c.depth h f) h.event tuple.now.object t.now) }
 {
     match &tuple.object {
         Some(object) => acting(rules.taken(is_root, tuple.global, object, tuple.state)),
@@ -66,7 +70,8 @@ fn fired_each<'r, 'm, 'a>(
     is_root: bool,
     tuples: &[Tuple],
 ) -> Result<Vec<Firing<'r, 'm, 'a>>, AllocError>
-    ensures { IfOk result (λ list. (c : Checker) (h : Happening) (f : Function) → AreOfEvent c.machine c.depth h f rules.now → map fire_in list.items ≡ filter_map (fire_of c h f is_root number) tuples.now) }
+    ensures rules { IfOk result (λ list. (c : Checker) (h : Happening) (f : Function) → AreOfEvent c.machine c.depth h f rules.now → map fire_in list.items ≡ filter_map (fire_of c h f is_root number) tuples.now) }
+    ensures first { IfOk result (λ list. (c : Checker) (h : Happening) (f : Function) → AreOfEvent c.machine c.depth h f rules.now → All (IsFirstHere c h f number) list.items) }
 {
     let mut list = Vec::new(alloc);
     for tuple in tuples {
@@ -91,7 +96,8 @@ fn fired_from<'r, 'm, 'a>(
     tuple: &Tuple,
     followed: &[Object],
 ) -> Result<Vec<Firing<'r, 'm, 'a>>, AllocError>
-    ensures { IfOk result (λ list. (c : Checker) (h : Happening) (f : Function) → AreOfEvent c.machine c.depth h f rules.now → AreObjects c.depth followed.now → IsExactly (map fire_in list.items) (TakenHere c h f is_root followed.now number tuple.now)) }
+    ensures rules { IfOk result (λ list. (c : Checker) (h : Happening) (f : Function) → AreOfEvent c.machine c.depth h f rules.now → AreObjects c.depth followed.now → IsExactly (map fire_in list.items) (TakenHere c h f is_root followed.now number tuple.now)) }
+    ensures first { IfOk result (λ list. (c : Checker) (h : Happening) (f : Function) → AreOfEvent c.machine c.depth h f rules.now → All (IsFirstHere c h f number) list.items) }
 {
     let setting = &rules.setting;
     let before = moved(
@@ -114,7 +120,8 @@ fn fired_here<'r, 'm, 'a>(
     tuples: &[Tuple],
     followed: &[Object],
 ) -> Result<Vec<Firing<'r, 'm, 'a>>, AllocError>
-    ensures { IfOk result (λ list. (c : Checker) (h : Happening) (f : Function) → AreOfEvent c.machine c.depth h f rules.now → AreObjects c.depth followed.now → IsExactly (map fire_in list.items) (SomeGives (TakenHere c h f is_root followed.now number) tuples.now)) }
+    ensures rules { IfOk result (λ list. (c : Checker) (h : Happening) (f : Function) → AreOfEvent c.machine c.depth h f rules.now → AreObjects c.depth followed.now → IsExactly (map fire_in list.items) (SomeGives (TakenHere c h f is_root followed.now number) tuples.now)) }
+    ensures first { IfOk result (λ list. (c : Checker) (h : Happening) (f : Function) → AreOfEvent c.machine c.depth h f rules.now → All (IsFirstHere c h f number) list.items) }
 {
     let mut list = Vec::new(alloc);
     for tuple in tuples {
@@ -132,7 +139,8 @@ fn fired_on_the_way<'r, 'm, 'a>(
     tuple: &Tuple,
     followed: &[Object],
 ) -> Result<Vec<Firing<'r, 'm, 'a>>, AllocError>
-    ensures { IfOk result (λ list. (c : Checker) (f : Function) (hs : List Happening) → AreOfEvents c.machine c.depth f hs rules.now → AreObjects c.depth followed.now → IsExactly (map fire_in list.items) (TakenAt c hs f is_root followed.now tuple.now)) }
+    ensures rules { IfOk result (λ list. (c : Checker) (f : Function) (hs : List Happening) → AreOfEvents c.machine c.depth f hs rules.now → AreObjects c.depth followed.now → IsExactly (map fire_in list.items) (TakenAt c hs f is_root followed.now tuple.now)) }
+    ensures first { IfOk result (λ list. (c : Checker) (f : Function) (hs : List Happening) → AreOfEvents c.machine c.depth f hs rules.now → All (IsFirstAmong c hs f) list.items) }
 {
     let mut now = first(alloc, tuple)?;
     let mut list = Vec::new(alloc);
@@ -151,7 +159,8 @@ fn fired_on_the_way<'r, 'm, 'a>(
 
 /// The rules with an action that are taken while this tuple crosses a block's events, in a root's own frame or in a called one: by which
 /// object, or by the global state, and at which event. The rules are those of the events in their order; those that are followed are
-/// objects at the depth of the rules. A report on the way is that of one of these.
+/// objects at the depth of the rules. A report on the way is that of one of these. The alternative of each is the first of its rule's by
+/// which the rule can be taken there.
 pub fn firings<'r, 'm, 'a>(
     alloc: Global,
     rules: &'r [EventRules<'m, 'a>],
@@ -159,7 +168,8 @@ pub fn firings<'r, 'm, 'a>(
     tuple: &Tuple,
     followed: &[Object],
 ) -> Result<Vec<Firing<'r, 'm, 'a>>, AllocError>
-    ensures { IfOk result (λ list. (c : Checker) (f : Function) (hs : List Happening) → AreOfEvents c.machine c.depth f hs rules.now → AreObjects c.depth followed.now → IsExactly (map fire_in list.items) (TakenAt c hs f is_root followed.now tuple.now)) }
+    ensures rules { IfOk result (λ list. (c : Checker) (f : Function) (hs : List Happening) → AreOfEvents c.machine c.depth f hs rules.now → AreObjects c.depth followed.now → IsExactly (map fire_in list.items) (TakenAt c hs f is_root followed.now tuple.now)) }
+    ensures first { IfOk result (λ list. (c : Checker) (f : Function) (hs : List Happening) → AreOfEvents c.machine c.depth f hs rules.now → All (IsFirstAmong c hs f) list.items) }
 {
     if are_quiet(rules) {
         return Ok(Vec::new(alloc));

@@ -1,7 +1,7 @@
 use Rattle.std.proofs.Common.{◌≡◌, map, take}
-use Rattle.std.specs.List.{filter_map}
+use Rattle.std.specs.List.{All, filter_map}
 use Rattle.applied_rules.specs.Events.{AreOfEvent}
-use Rattle.block_flows.specs.Firings.{fire_of, fire_in}
+use Rattle.block_flows.specs.Firings.{fire_of, fire_in, IsFirstHere}
 use Rattle.checker_model.specs.Happenings.{Function, Happening}
 use Rattle.checker_model.specs.Reports.{Checker}
 use Rattle.block_flows.proofs.taken_rules.fired_each.Given as goal
@@ -9,4 +9,4 @@ use Rattle.block_flows.proofs.taken_rules.fired_each.Given as goal
 -- the tuples that were gone through
 abbrev pub invariant-loop-tuple : goal.invariant-loop-tuple
 invariant-loop-tuple l = (c : Checker) (h : Happening) (f : Function) → AreOfEvent c.machine c.depth h f l.rules
-    → map fire_in l.list.items ≡ filter_map (fire_of c h f l.is_root l.number) (take l.tuple-index l.tuples)
+    → (map fire_in l.list.items ≡ filter_map (fire_of c h f l.is_root l.number) (take l.tuple-index l.tuples)) × All (IsFirstHere c h f l.number) l.list.items

@@ -9,8 +9,8 @@ use Rattle.tuple_flows.proofs.Events.{moved-there}
 use Rattle.tuple_flows.proofs.Lists.{if-ok}
 use Rattle.block_flows.proofs.taken_rules.fired_from.Goals as goal
 
-pub returns : goal.returns
-returns c =
+pub returns-clause-rules : goal.returns-clause-rules
+returns-clause-rules c =
     let r = c.args.rules.now in
     let t = c.args.tuple.now in
     let followed = c.args.followed.now in
@@ -22,4 +22,7 @@ returns c =
     subst (λ l. IsExactly l (TakenHere k h f c.args.is_root followed c.args.number t))
     (sym (made k h f a ∙ ap (filter_map (fire_of k h f c.args.is_root c.args.number)) c.as_slice.ensures.value))
     (fires k f c.args.is_root followed h c.args.number t before moved))
-    c.fired_each.ensures
+    c.fired_each.ensures.rules
+
+pub returns-clause-first : goal.returns-clause-first
+returns-clause-first c = c.fired_each.ensures.first

@@ -1,6 +1,7 @@
 use Rattle.std.proofs.Common.{map, take}
+use Rattle.std.specs.List.{All}
 use Rattle.applied_rules.specs.Events.{AreOfEvent}
-use Rattle.block_flows.specs.Firings.{fire_in, TakenHere}
+use Rattle.block_flows.specs.Firings.{fire_in, TakenHere, IsFirstHere}
 use Rattle.checker_model.specs.Happenings.{Function, Happening}
 use Rattle.checker_model.specs.Reports.{Checker}
 use Rattle.least_set.specs.Logs.{IsExactly, SomeGives}
@@ -9,5 +10,7 @@ use Rattle.block_flows.proofs.taken_rules.fired_here.Given as goal
 
 -- what is taken from the tuples that were gone through
 abbrev pub invariant-loop-tuple : goal.invariant-loop-tuple
-invariant-loop-tuple l = (c : Checker) (h : Happening) (f : Function) → AreOfEvent c.machine c.depth h f l.rules → AreObjects c.depth l.followed
-    → IsExactly (map fire_in l.list.items) (SomeGives (TakenHere c h f l.is_root l.followed l.number) (take l.tuple-index l.tuples))
+invariant-loop-tuple l = (
+    (c : Checker) (h : Happening) (f : Function) → AreOfEvent c.machine c.depth h f l.rules → AreObjects c.depth l.followed
+        → IsExactly (map fire_in l.list.items) (SomeGives (TakenHere c h f l.is_root l.followed l.number) (take l.tuple-index l.tuples))
+  ) × ((c : Checker) (h : Happening) (f : Function) → AreOfEvent c.machine c.depth h f l.rules → All (IsFirstHere c h f l.number) l.list.items)

@@ -1,6 +1,7 @@
 use Rattle.std.proofs.Common.{List, drop, map}
+use Rattle.std.specs.List.{All}
 use Rattle.block_flows.specs.Events.{AreOfEvents}
-use Rattle.block_flows.specs.Firings.{fire_in}
+use Rattle.block_flows.specs.Firings.{fire_in, IsFirstAmong}
 use Rattle.block_flows.proofs.Fires.{IsNoted}
 use Rattle.checker_model.specs.Happenings.{Function, Happening}
 use Rattle.checker_model.specs.Reports.{Checker}
@@ -9,5 +10,7 @@ use Rattle.block_flows.proofs.taken_rules.fired_on_the_way.Given as goal
 
 -- what is taken at the events that were gone through is noted
 abbrev pub invariant-loop-number : goal.invariant-loop-number
-invariant-loop-number l = (c : Checker) (f : Function) (hs : List Happening) → AreOfEvents c.machine c.depth f hs l.rules → AreObjects c.depth l.followed
-    → IsNoted c f l.is_root l.followed hs (drop l.number hs) l.number l.tuple l.now.keys (map fire_in l.list.items)
+invariant-loop-number l = (
+    (c : Checker) (f : Function) (hs : List Happening) → AreOfEvents c.machine c.depth f hs l.rules → AreObjects c.depth l.followed
+        → IsNoted c f l.is_root l.followed hs (drop l.number hs) l.number l.tuple l.now.keys (map fire_in l.list.items)
+  ) × ((c : Checker) (f : Function) (hs : List Happening) → AreOfEvents c.machine c.depth f hs l.rules → All (IsFirstAmong c hs f) l.list.items)

@@ -43,7 +43,7 @@ returns c =
     let there = ap (λ l. slice_get l e.block) (sym c.as_slice.ensures.value) ∙ sym c.item.ensures ∙ ap option_copied c.in-Some-item.is in
     let are = subst (λ (l : List EventRules). AreOfEvents (checker_in t).machine t.depth fn hs l) (sym c.as_slice-rules.ensures.value) (rules-are t e f p u at c.in-Some-item.block.now there) in
     let taken = TakenAt (checker_in t) hs fn e.is_root f.objects.now e.tuple in
-    let exact = subst (λ (l : List Firing). IsExactly (map fire_in l) taken) (sym c.as_slice-2.ensures.value) (c.in_ok-taken.ensures (checker_in t) fn hs are p.plain) in
+    let exact = subst (λ (l : List Firing). IsExactly (map fire_in l) taken) (sym c.as_slice-2.ensures.value) (c.in_ok-taken.ensures.rules (checker_in t) fn hs are p.plain) in
     let rule = taken-rule (record { machine = t.machine; number = t.number; names = t.names }) t.depth fn e.is_root f.objects.now hs e.tuple in
     edge-shows t e f p u at list.items
     (shown-here (checker_in t) fn e.is_root f.objects.now hs e.tuple fires list.items exact

@@ -1,8 +1,7 @@
-use Rattle.std.proofs.Common.{subst, ◌∙◌}
-use Rattle.applied_rules.proofs.OfEvents.{object_is, is_by_first, picked_rule, picked_first}
+use Rattle.std.proofs.Common.{◌∙◌, Some}
+use Rattle.applied_rules.proofs.OfEvents.{object_is, object_by_first, picked_rule, picked_first}
+use Rattle.applied_rules.specs.Takers.{IsFirstFor}
 use Rattle.checker_model.specs.Choices.{scene}
-use Rattle.rule_choices.specs.Asked.{Asker, ObjectIn}
-use Rattle.rule_choices.specs.Firsts.{IsByFirst}
 use Rattle.rule_choices.specs.Values.{asker_of}
 use Rattle.applied_rules.proofs.rules.EventRules.taken.Goals as goal
 
@@ -14,6 +13,6 @@ returns-clause-taken c = λ m depth h f of.
 
 pub returns-clause-first : goal.returns-clause-first
 returns-clause-first c = λ m depth h f of.
-    picked_first _ _ (IsByFirst (scene m depth h f) h.event (ObjectIn c.args.object.now c.args.state)) c.first_taken.ensures
-    (λ x e. subst (λ (a : Asker). IsByFirst (scene m depth h f) h.event a x) c.asked_object.ensures
-    (is_by_first m depth h f c.args.self.now of c.is_asked-asked.result c.args.global (asker_of c.asked_object.result) x e))
+    picked_first _ _ (IsFirstFor (scene m depth h f) h.event (Some c.args.object.now)) c.first_taken.ensures
+    (λ x e. object_by_first m depth h f c.args.self.now of c.is_asked-asked.result c.args.global (asker_of c.asked_object.result) c.args.object.now c.args.state x
+    c.asked_object.ensures e)

@@ -1,8 +1,7 @@
-use Rattle.std.proofs.Common.{◌∙◌}
-use Rattle.applied_rules.proofs.OfEvents.{global_is, is_by_first, picked_rule, picked_first}
+use Rattle.std.proofs.Common.{◌∙◌, None}
+use Rattle.applied_rules.proofs.OfEvents.{global_is, global_by_first, picked_rule, picked_first}
+use Rattle.applied_rules.specs.Takers.{IsFirstFor}
 use Rattle.checker_model.specs.Choices.{scene}
-use Rattle.rule_choices.specs.Asked.{GlobalState}
-use Rattle.rule_choices.specs.Firsts.{IsByFirst}
 use Rattle.applied_rules.proofs.rules.EventRules.taken_global.Goals as goal
 
 pub returns-clause-taken : goal.returns-clause-taken
@@ -11,5 +10,5 @@ returns-clause-taken c = λ m depth h f of.
 
 pub returns-clause-first : goal.returns-clause-first
 returns-clause-first c = λ m depth h f of.
-    picked_first _ _ (IsByFirst (scene m depth h f) h.event GlobalState) c.first_taken.ensures
-    (λ x e. is_by_first m depth h f c.args.self.now of c.is_global_asked-asked.result c.args.global GlobalState x e)
+    picked_first _ _ (IsFirstFor (scene m depth h f) h.event None) c.first_taken.ensures
+    (λ x e. global_by_first m depth h f c.args.self.now of c.is_global_asked-asked.result c.args.global x e)
