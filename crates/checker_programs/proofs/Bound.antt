@@ -1,7 +1,8 @@
 -- An object that takes a rule while it is unknown is bound by an alternative of that rule.
-use Rattle.std.proofs.Common.{◌≡◌, inl, inr, ℕ, List, [], ◌∷◌, ◌++◌, Bool, true, false, Option, None, Some, refl, ◌∙◌, sym, ap, subst, cond, not, ◌||◌, nat_eq}
+use Rattle.std.proofs.Common.{◌≡◌, inl, inr, ℕ, List, [], ◌∷◌, Bool, true, false, Option, None, Some, refl, ◌∙◌, sym, ap, subst, cond, not, ◌||◌, nat_eq}
 use Rattle.std.specs.Option.{option_to_list}
 use Rattle.c_objects.specs.Objects.{Object}
+use Rattle.c_paths.proofs.Listed.{among_front, among_back}
 use Rattle.c_paths.specs.Events.{Event, Evaluated, Declared, Branched, Exited}
 use Rattle.objects.specs.Equality.{same_object, same_object-true}
 use Rattle.c_paths.specs.Membership.{Among}
@@ -28,20 +29,11 @@ first-found {A = A} {B = B} f (x ∷ xs) y h = by (first-found f xs y) (f x) ref
 among-one : (t : Target) (v : ℕ) → variable_of t ≡ Some v → Among v (option_to_list (variable_of t))
 among-one t v e = subst (λ (z : Option ℕ). Among v (option_to_list z)) (sym e) (inl refl)
 
-among-front : (xs ys : List ℕ) (v : ℕ) → Among v xs → Among v (xs ++ ys)
-among-front [] ys v h = absurd h
-among-front (x ∷ xs) ys v (inl e) = inl e
-among-front (x ∷ xs) ys v (inr h) = inr (among-front xs ys v h)
-
-among-behind : (xs ys : List ℕ) (v : ℕ) → Among v ys → Among v (xs ++ ys)
-among-behind [] ys v h = h
-among-behind (x ∷ xs) ys v h = inr (among-behind xs ys v h)
-
 led-true : (a b : Target) (v : ℕ) → variable_of a ≡ Some v → Among v (led_variables (ByTruth a b))
-led-true a b v k = among-front (option_to_list (variable_of a)) (option_to_list (variable_of b)) v (among-one a v k)
+led-true a b v k = among_front v (option_to_list (variable_of a)) (option_to_list (variable_of b)) (among-one a v k)
 
 led-false : (a b : Target) (v : ℕ) → variable_of b ≡ Some v → Among v (led_variables (ByTruth a b))
-led-false a b v k = among-behind (option_to_list (variable_of a)) (option_to_list (variable_of b)) v (among-one b v k)
+led-false a b v k = among_back v (option_to_list (variable_of a)) (option_to_list (variable_of b)) (among-one b v k)
 
 led-among : (e : Event) (d : Dest) (v : ℕ) → variable_of (target_at e d) ≡ Some v → Among v (led_variables d)
 led-among e (Always t) v k = among-one t v k

@@ -20,11 +20,11 @@ pub trait Steps {
     // from a member follows another
     ghost goes: { Self → Self.Member → Self.Member → Type 0 };
 
-    /// The base. The log begins with its members, in this order.
+    /// The members of the base. The log begins with them.
     fn begin(&self, alloc: Global) -> Result<Vec<Self::Member>, AllocError>
         ensures exact { IfOk result (λ v. IsExactly v.items (base self.now)) };
 
-    /// The members that follow from this one, in the order in which the log is to have those that are new.
+    /// The members that follow from this one.
     fn next(&self, alloc: Global, member: &Self::Member) -> Result<Vec<Self::Member>, AllocError>
         ensures exact { IfOk result (λ v. IsExactly v.items (goes self.now member.now)) };
 }

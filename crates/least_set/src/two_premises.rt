@@ -55,7 +55,7 @@ pub trait Rules {
     // from a waiter, and an end of the context that it waits at, follows a member
     ghost wakes: { Self → Self.Waiter → Self.Member → Self.Member → Type 0 };
 
-    /// The base. The log begins with its members, in this order.
+    /// The members of the base. The log begins with them.
     fn begin(&self, alloc: Global) -> Result<Vec<Self::Member>, AllocError>
         ensures exact { IfOk result (λ v. IsExactly v.items (base self.now)) };
 
@@ -112,7 +112,7 @@ pub trait CachingRules {
     // from a waiter, and an end of the context that it waits at, follows a member
     ghost wakes: { Self.Source → Self.Waiter → Self.Member → Self.Member → Type 0 };
 
-    /// The base. The log begins with its members, in this order.
+    /// The members of the base. The log begins with them.
     fn begin(&self, alloc: Global) -> Result<Vec<Self::Member>, AllocError>
         ensures exact { IfOk result (λ v. IsExactly v.items (base (source self.now))) };
 

@@ -13,7 +13,7 @@ pub struct Report {
     pub place: Place,
     /// The presumed name of the file.
     pub file: Text,
-    /// The presumed line, from 1.
+    /// The presumed line: lines count from 1, and from the number that a line marker gives, which may be 0.
     pub line: u32,
     /// The column in bytes, from 1.
     pub col: u32,
