@@ -4,6 +4,7 @@ use Rattle.std.specs.Borrow.{Bor, MutBor}
 use Rattle.std.specs.Slice.Iter.{iter_mut_rest, iter_mut_steps}
 use Rattle.std.specs.declared.slice.IterMut.{IterMut}
 use Rattle.mx_base.specs.Names.{AddsAtMost, HasNoRepeats}
+use Rattle.metal_building.specs.Places.{HasPlaces}
 use Rattle.metal_tree.specs.Whole.{machine_view}
 use Rattle.metal_tree.specs.declared.machine.Machine.{Machine}
 use Rattle.mx_io.specs.Reads.{Stands}
@@ -129,17 +130,20 @@ checker_fits told left names word size m l = omega (arith, l.fits, l.sized)
 pub source_fits : (told : Option (List ℕ)) (left number : ℕ) (names : List (List ℕ)) (word : List ℕ) (size : ℕ) (t : _) → HasLoadedSource told left number names word size t → size ≤ left
 source_fits told left number names word size t l = omega (arith, l.fits, l.sized)
 
--- the last one that was put behind has its position as number
+-- what is known of each by its position is known where one more was put behind
+at-push : {X : Type 0} (P : ℕ → X → Type 0) (old : List X) (x y : X) (i : ℕ) → ((j : ℕ) (z : X) → slice_get old j ≡ Some z → P j z) → P (length old) x → slice_get (old ++ x ∷ []) i ≡ Some y → P i y
+at-push P [] x y zero h e s = let g : x ≡ y = cc in subst (P zero) g e
+at-push P [] x y (suc i) h e s = let none : ⊥ = cc in absurd none
+at-push P (w ∷ ws) x y zero h e s = h zero y s
+at-push P (w ∷ ws) x y (suc i) h e s = at-push (λ j. P (suc j)) ws x y i (λ j z q. h (suc j) z q) e s
+
+-- each unit has its position as number
 pub numbered-push : (old new : List TypedUnit) (u : TypedUnit) → ((i : ℕ) (v : TypedUnit) → slice_get old i ≡ Some v → v.unit.file ≡ i) → u.unit.file ≡ length old → new ≡ old ++ u ∷ []
     → (i : ℕ) (v : TypedUnit) → slice_get new i ≡ Some v → v.unit.file ≡ i
-numbered-push old new u h e items i v s = from 0 old (λ j w k. h j w k ∙ sym (zero-plus j)) (e ∙ sym (zero-plus (length old))) i (subst (λ l. slice_get l i ≡ Some v) items s) ∙ zero-plus i
-  where
-    zero-plus : (n : ℕ) → 0 + n ≡ n
-    zero-plus n = omega arith
+numbered-push old new u h e items i v s = at-push (λ j (w : TypedUnit). w.unit.file ≡ j) old u v i h e (subst (λ l. slice_get l i ≡ Some v) items s)
 
-    from : (n : ℕ) (us : List TypedUnit) → ((j : ℕ) (w : TypedUnit) → slice_get us j ≡ Some w → w.unit.file ≡ n + j) → u.unit.file ≡ n + length us → (i : ℕ) → slice_get (us ++ u ∷ []) i ≡ Some v → v.unit.file ≡ n + i
-    from n [] k e zero s = let g : u ≡ v = cc in ap (λ (w : TypedUnit). w.unit.file) (sym g) ∙ e
-    from n [] k e (suc i) s = cc
-    from n (w ∷ us) k e zero s = k 0 v s
-    from n (w ∷ us) k e (suc i) s =
-        from (n + 1) us (λ j x q. k (suc j) x q ∙ omega arith) (e ∙ omega arith) i s ∙ omega arith
+-- the rules of each checker stand in the file with its position as number
+pub places-push : (old new : List Machine) (m : Machine) (number : ℕ) → ((i : ℕ) (n : Machine) → slice_get old i ≡ Some n → HasPlaces i n.rules.now) → HasPlaces number m.rules.now → number ≡ length old → new ≡ old ++ m ∷ []
+    → (i : ℕ) (n : Machine) → slice_get new i ≡ Some n → HasPlaces i n.rules.now
+places-push old new m number h p e items i n s =
+    at-push (λ j (o : Machine). HasPlaces j o.rules.now) old m n i h (subst (λ j. HasPlaces j m.rules.now) e p) (subst (λ l. slice_get l i ≡ Some n) items s)

@@ -1,9 +1,11 @@
 //! The checkers of a request, read and judged one after the other.
 
-ghost use Rattle.std.specs.Prelude.{◌≡◌, ◌≤◌, ◌^◌, ◌+◌, ◌*◌, length, IfOk, IfErr, OnOk};
+ghost use Rattle.std.specs.Prelude.{◌≡◌, ◌≤◌, ◌^◌, ◌+◌, ◌*◌, ℕ, Some, length, slice_get, IfOk, IfErr, OnOk};
 ghost use Rattle.mx_base.specs.Names.{AddsAtMost, HasNoRepeats};
 ghost use Rattle.checker_front_end.specs.Checkers.{IsChecker};
+ghost use Rattle.metal_building.specs.Places.{HasPlaces};
 ghost use Rattle.metal_tree.specs.Whole.{machine_view};
+ghost use Rattle.metal_tree.specs.declared.machine.Machine.{Machine as MachineValue};
 ghost use Rattle.request_files.specs.InTurn.{AnswersUnread, AreReadCheckers};
 ghost use Rattle.request_files.specs.Meanings.{AreFirst};
 ghost use Rattle.request_files.specs.Stages.{AnswersStopped, HasLoadedChecker, IsUnread, failed_after_stop};
@@ -42,6 +44,7 @@ fn read_machine<'a>(
     requires size { length bytes.now ≤ 16777216 }
     requires room { length names.old ≤ 2 ^ 30 }
     ensures ok { IfOk result (λ m. IsChecker word.now names.new bytes.now (machine_view m)) }
+    ensures places { IfOk result (λ m. HasPlaces number m.rules.now) }
     ensures stopped { IfErr result (λ e. IsUnread (checker_turn number word.now) bytes.now e) }
     ensures adds { AddsAtMost names.old names.new (2 * length bytes.now + 1) }
     ensures distinct { HasNoRepeats names.new }
@@ -71,6 +74,7 @@ pub(crate) fn load_checker<'a, F: Files>(
     requires left { left ≤ 33554432 }
     requires room { length names.old ≤ 2 ^ 30 }
     ensures ok { IfOk result (λ l. HasLoadedChecker (F.contents files.old word.now) left names.new word.now l.size (machine_view l.machine)) }
+    ensures places { IfOk result (λ l. HasPlaces number l.machine.rules.now) }
     ensures stopped { IfErr result (λ e. AnswersStopped (F.contents files.old word.now) left (checker_turn number word.now) e) }
     ensures adds { IfOk result (λ l. AddsAtMost names.old names.new (2 * l.size + 1)) }
     ensures distinct { OnOk result (HasNoRepeats names.new) }
@@ -91,7 +95,7 @@ pub(crate) fn load_checker<'a, F: Files>(
     }
 }
 
-/// The machines of checkers, and how many bytes may still come.
+/// The machines of checkers, each with its position as the file of its rules' places, and how many bytes may still come.
 #[derive(Drop)]
 pub struct CheckersRead<'a> {
     pub machines: Vec<Machine<'a>>,
@@ -116,6 +120,7 @@ pub fn read_checkers<'a, F: Files>(
     requires enough { length words.now ≤ length places.old }
     requires room { length names.old ≤ 2 ^ 28 }
     ensures read { IfOk result (λ r. AreReadCheckers (F.contents files.old) left (words_of words.now) (words_of words.now) names.new (machines_of r.machines.items) r.left) }
+    ensures places { IfOk result (λ r. (i : ℕ) (m : MachineValue) → slice_get r.machines.items i ≡ Some m → HasPlaces i m.rules.now) }
     ensures unread { IfErr result (λ e. AnswersUnread (F.contents files.old) left (numbered CheckerFile 0 (words_of words.now)) (F.failed files.old) (F.failed files.new) e) }
     ensures none_failed { IfOk result (λ r. F.failed files.new ≡ F.failed files.old) }
     ensures same { F.contents files.new ≡ F.contents files.old }

@@ -2,6 +2,8 @@
 
 ghost use Rattle.std.specs.Prelude.{◌≡◌, ◌≤◌, ◌^◌, ℕ, Some, length, slice_get, IfOk, IfErr, OnOk};
 ghost use Rattle.mx_base.specs.Names.{HasNoRepeats};
+ghost use Rattle.metal_building.specs.Places.{HasPlaces};
+ghost use Rattle.metal_tree.specs.declared.machine.Machine.{Machine as MachineValue};
 ghost use Rattle.request_files.specs.InTurn.{AnswersRequest, AreReadFiles};
 ghost use Rattle.request_files.specs.Turns.{turns};
 ghost use Rattle.request_files.specs.Views.{machines_of, texts_of, words_of};
@@ -44,6 +46,7 @@ pub fn read_files<'a, F: Files>(
     requires enough_for_sources { length sources.now ≤ length source_places.old }
     requires room { length names.old ≤ 2 ^ 20 }
     ensures read { IfOk result (λ r. AreReadFiles (F.contents files.old) (words_of checkers.now) (words_of sources.now) names.new (machines_of r.checkers.machines.items) (texts_of r.sources.units.items)) }
+    ensures places { IfOk result (λ r. (i : ℕ) (m : MachineValue) → slice_get r.checkers.machines.items i ≡ Some m → HasPlaces i m.rules.now) }
     ensures numbered { IfOk result (λ r. (i : ℕ) (u : UnitValue) → slice_get r.sources.units.items i ≡ Some u → u.unit.file ≡ i) }
     ensures unread { IfErr result (λ e. AnswersRequest (F.contents files.old) (turns (words_of checkers.now) (words_of sources.now)) (F.failed files.old) (F.failed files.new) e) }
     ensures none_failed { IfOk result (λ r. F.failed files.new ≡ F.failed files.old) }

@@ -1,7 +1,7 @@
 use Rattle.std.proofs.Common.{◌≡◌, ◌+◌, ◌*◌, ◌∙◌, [], ◌∷◌, length, length-append, ap, arith}
 use Rattle.metal_tree.specs.Whole.{machine_view}
 use Rattle.request_files.specs.Turns.{CheckerFile}
-use Rattle.request_files.proofs.Looping.{not_read, checker_faulty, checkers_more, checker_fits, room_left, place_taken}
+use Rattle.request_files.proofs.Looping.{not_read, checker_faulty, checkers_more, checker_fits, room_left, places-push, place_taken}
 use Rattle.request_files.proofs.Turns.{first-adds, first-then, adds_few}
 use Rattle.request_files.proofs.checkers.read_checkers.Goals as goal
 
@@ -30,6 +30,8 @@ loop-word-preserved g c =
       read = checkers_more (g.F.Files.contents c.args.files.now) (g.F.Files.contents c.loop-word.files) c.args.left c.args.words.now c.loop-word.word-index c.len-position.result c.loop-word.rest _ (omega (arith, c.loop-word-test.true))
           (omega (arith, here.count, c.loop-word.machines.ok.0, c.len-position.ensures)) here.contents c.loop-word.names c.load_checker.new.names size c.loop-word.machines.items c.push.new.self.items c.in-Ok.loaded.machine here.read
           c.in-Ok.ensures.ok c.in-Ok.ensures.adds c.in-Ok.ensures.distinct c.in-Ok-push.ensures.items;
+      numbered = places-push c.loop-word.machines.items c.push.new.self.items c.in-Ok.loaded.machine _ here.numbered c.in-Ok.ensures.places
+          (omega (arith, here.count, c.loop-word.machines.ok.0, c.len-position.ensures, c.requires.few, c.loop-word-test.true)) c.in-Ok-push.ensures.items;
       count = omega (arith, here.count, ap length c.in-Ok-push.ensures.items, length-append c.loop-word.machines.items (c.in-Ok.loaded.machine ∷ []));
       places = place_taken c.loop-word.free c.next.new.self c.next.result (length c.args.words.now) c.loop-word.word-index c.next.ensures.steps here.places;
       bound = omega (arith, here.bound);

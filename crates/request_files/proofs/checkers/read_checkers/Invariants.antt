@@ -1,6 +1,8 @@
 -- the checkers so far were read without a fault
-use Rattle.std.proofs.Common.{◌≡◌, ◌≤◌, ◌+◌, ◌*◌, take, length}
+use Rattle.std.proofs.Common.{◌≡◌, ◌≤◌, ◌+◌, ◌*◌, ℕ, Some, take, length, slice_get}
 use Rattle.std.specs.Slice.Iter.{iter_mut_rest}
+use Rattle.metal_building.specs.Places.{HasPlaces}
+use Rattle.metal_tree.specs.declared.machine.Machine.{Machine}
 use Rattle.request_files.specs.InTurn.{AreReadCheckers}
 use Rattle.request_files.specs.Meanings.{AreFirst}
 use Rattle.request_files.specs.Views.{machines_of, words_of}
@@ -11,6 +13,7 @@ invariant-loop-word g l =
     let files = g.F.Files in
     record {
       read : AreReadCheckers (files.contents l.fn.files) l.fn.left (words_of l.words) (take l.word-index (words_of l.words)) l.names (machines_of l.machines.items) l.rest;
+      numbered : (i : ℕ) (m : Machine) → slice_get l.machines.items i ≡ Some m → HasPlaces i m.rules.now;
       count : length l.machines.items ≡ l.word-index;
       places : length l.words ≤ l.word-index + length (iter_mut_rest l.free);
       bound : l.rest ≤ l.fn.left;

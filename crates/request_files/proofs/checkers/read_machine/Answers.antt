@@ -1,4 +1,5 @@
-use Rattle.std.proofs.Common.{◌≡◌, ◌+◌, ◌*◌, length, sym, ap, subst, arith}
+use Rattle.std.proofs.Common.{◌≡◌, ◌+◌, ◌*◌, ◌∙◌, length, sym, ap, subst, arith}
+use Rattle.metal_building.specs.Places.{HasPlaces}
 use Rattle.metal_reader.specs.Faults.{IsLexed}
 use Rattle.request_files.proofs.Refusing.{checker_tokens_known, machine_known, unread_machine}
 use Rattle.request_files.proofs.Turns.{adds_both}
@@ -12,6 +13,11 @@ in_checker-requires-in-Err-read_checker c =
     let lexed = c.read_checker.ensures.lexed c.args.number c.args.word.now c.args.bytes.now
     (subst (λ l. IsLexed c.args.number c.args.word.now c.read_tokens.new.names c.args.bytes.now l) (sym c.insert-kept.ensures.value) c.in-Ok.ensures.tokens) in
     machine_known c.args.number c.read_checker.new.names c.args.word.now c.args.bytes.now c.requires.size c.insert-kept.result.now c.in-Err-read_checker.refusal lexed c.in-Err-read_checker.ensures.refused
+
+-- the tokens' end stands in the file with this number
+pub returns-in-Ok-read_checker-clause-places : goal.returns-in-Ok-read_checker-clause-places
+returns-in-Ok-read_checker-clause-places c =
+    subst (λ file. HasPlaces file c.in-Ok-read_checker.machine.rules.now) (ap (λ l. l.end.place.file) c.insert-kept.ensures.value ∙ c.in-Ok.ensures.tokens.tokens.end.file) c.in-Ok-read_checker.ensures.places
 
 pub returns-in-Ok-read_checker-clause-adds : goal.returns-in-Ok-read_checker-clause-adds
 returns-in-Ok-read_checker-clause-adds c =
