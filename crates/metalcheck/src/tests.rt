@@ -1,5 +1,6 @@
 //! Whole runs over files and sinks in memory.
 
+use crate::styles::run_in_styles;
 use c_tree::Place;
 use command::{Request, Status, read_words, run};
 use mx_base::Text;
@@ -69,6 +70,15 @@ fn old_report(alloc: Global) -> Result<Report, AllocError> {
     })
 }
 
+/// Files in memory with these texts; the reads of these numbers fail.
+fn files_of(alloc: Global, texts: &[(&str, &[u8])], reads: &[u64]) -> Result<MemFiles, AllocError> {
+    let mut files = MemFiles::new(alloc, reads)?;
+    for (name, bytes) in texts {
+        files.add(name, bytes)?;
+    }
+    Ok(files)
+}
+
 /// Runs the words over these files, with a table that holds a report and an empty list of lines of JSON. A write takes at most ten
 /// bytes.
 fn run_in(
@@ -78,10 +88,7 @@ fn run_in(
     outside: Outside,
 ) -> Result<Outcome, AllocError> {
     let words = words_of(alloc, words)?;
-    let mut files = MemFiles::new(alloc, outside.reads)?;
-    for (name, bytes) in texts {
-        files.add(name, bytes)?;
-    }
+    let mut files = files_of(alloc, texts, outside.reads)?;
     let mut table = Table::new(alloc);
     table.take(&old_report(alloc)?)?;
     let mut reporters: Vec<Box<dyn Reporter>> = Vec::new(alloc);
@@ -97,6 +104,24 @@ fn run_in(
         &mut errs,
         &mut reporters,
     );
+    Ok(Outcome {
+        status,
+        out: Vec::from_slice(alloc, out.bytes())?,
+        errs: Vec::from_slice(alloc, errs.bytes())?,
+    })
+}
+
+/// Runs the words over these files in the styles of the program. A write takes at most ten bytes.
+fn run_as_program(
+    alloc: Global,
+    words: &[&str],
+    texts: &[(&str, &[u8])],
+) -> Result<Outcome, AllocError> {
+    let words = words_of(alloc, words)?;
+    let mut files = files_of(alloc, texts, &[])?;
+    let mut out = MemSink::new(alloc, 10, &[], 1000)?;
+    let mut errs = MemSink::new(alloc, 10, &[], 1000)?;
+    let status = run_in_styles(alloc, &words, &mut files, &mut out, &mut errs);
     Ok(Outcome {
         status,
         out: Vec::from_slice(alloc, out.bytes())?,
@@ -200,15 +225,28 @@ const ROWS: &[Row] = &[
     },
 ];
 
+/// The files that a row is run over.
+fn texts_of(row: &Row) -> [(&'static str, &'static [u8]); 3] {
+    [
+        ("free.metal", FREE),
+        ("a.c", row.source),
+        ("b.c", b"void g(void){ }".as_slice()),
+    ]
+}
+
 #[test]
 fn runs_end_and_write_what_is_due(rt: HostRuntime) -> Result<(), Fail> {
     for row in ROWS {
-        let texts = [
-            ("free.metal", FREE),
-            ("a.c", row.source),
-            ("b.c", b"void g(void){ }".as_slice()),
-        ];
-        let it = run_in(rt.alloc(), row.words, &texts, HONEST)?;
+        let it = run_in(rt.alloc(), row.words, &texts_of(row), HONEST)?;
+        expect_end(&rt, &it, row.status, row.out, row.errs);
+    }
+    Ok(())
+}
+
+#[test]
+fn the_program_runs_in_both_styles(rt: HostRuntime) -> Result<(), Fail> {
+    for row in ROWS {
+        let it = run_as_program(rt.alloc(), row.words, &texts_of(row))?;
         expect_end(&rt, &it, row.status, row.out, row.errs);
     }
     Ok(())
