@@ -1,5 +1,5 @@
 -- What is said of a run with two reporters of these styles, said without what they held and hold.
-use Rattle.std.proofs.Common.{◌≡◌, ◌⊎◌, inl, inr, ℕ, zero, suc, ◌<◌, List, [], ◌∷◌, Option, None, Some, map, slice_get, codes, ap, refl, sym, ◌∙◌, subst, arith}
+use Rattle.std.proofs.Common.{◌≡◌, ◌⊎◌, inl, inr, ℕ, zero, suc, ◌<◌, List, [], ◌∷◌, ◌++◌, Option, None, Some, map, slice_get, codes, ap, refl, sym, ◌∙◌, subst, arith}
 use Rattle.std.proofs.lemmas.List.Quantifiers.{position-Some}
 use Rattle.std.specs.Str.{bytes_eq}
 use Rattle.command.specs.Commands.{Command, GiveNone, IsCommand, IsPlace}
@@ -58,6 +58,10 @@ module _ (told : List ℕ → Option (List ℕ)) (words : List (List ℕ)) (befo
 
   misuses-gone : Misuses words held old new out errs → Misuses words both_styles old new out errs
   misuses-gone m = record { cause = m.cause; nothing = m.nothing; printed = m.printed; out_still = m.out_still; errs_still = m.errs_still; kept = refl }
+
+-- a list to which two were put
+pub two_pushed : {B : Type 0} (none one two : List B) (first second : B) → none ≡ [] → one ≡ none ++ first ∷ [] → two ≡ one ++ second ∷ [] → two ≡ first ∷ second ∷ []
+two_pushed none one two first second a b c = c ∙ ap (λ z. z ++ second ∷ []) (b ∙ ap (λ z. z ++ first ∷ []) a)
 
 -- two boxes of these styles
 pub names_of : {B : Type 0} (called : B → List ℕ) (items : List B) (first second : B) → items ≡ first ∷ second ∷ [] → called first ≡ codes "table" → called second ≡ codes "json" → map called items ≡ style_names

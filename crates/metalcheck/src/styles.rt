@@ -23,17 +23,7 @@ fn table_and_json(alloc: Global) -> Result<(Box<Table>, Box<JsonLines>), AllocEr
     Ok((table, json))
 }
 
-/// A list of two, in this order.
-fn both<T: Drop>(alloc: Global, first: T, second: T) -> Result<Vec<T>, AllocError>
-    ensures { IfOk result (λ all. all.items ≡ first ∷ second ∷ []) }
-{
-    let mut all = Vec::new(alloc);
-    all.push(first)?;
-    all.push(second)?;
-    Ok(all)
-}
-
-/// A list of the two reporters.
+/// The reporters of the two styles, in the order of their names.
 fn list_of(
     alloc: Global,
     table: Box<dyn Reporter>,
@@ -44,7 +34,10 @@ fn list_of(
     ensures names { IfOk result (λ all. map (λ b. called b) all.items ≡ style_names) }
     ensures styles { IfOk result (λ all. (reports : List Report) → map (λ b. rendered b reports) all.items ≡ styles reports) }
 {
-    both(alloc, table, json)
+    let mut all = Vec::new(alloc);
+    all.push(table)?;
+    all.push(json)?;
+    Ok(all)
 }
 
 /// Runs the command, where `--format` chooses from the styles `table` and `json`: what `run` does with a reporter of each.
