@@ -12,5 +12,5 @@ use Rattle.block_flows.proofs.taken_rules.fired_on_the_way.Given as goal
 abbrev pub invariant-loop-number : goal.invariant-loop-number
 invariant-loop-number l = (
     (c : Checker) (f : Function) (hs : List Happening) → AreOfEvents c.machine c.depth f hs l.rules → AreObjects c.depth l.followed
-        → IsNoted c f l.is_root l.followed hs (drop l.number hs) l.number l.tuple l.now.keys (map fire_in l.list.items)
-  ) × ((c : Checker) (f : Function) (hs : List Happening) → AreOfEvents c.machine c.depth f hs l.rules → All (IsFirstAmong c hs f) l.list.items)
+    → IsNoted c f l.is_root l.followed hs (drop l.number hs) l.number l.tuple l.now.keys (map fire_in l.list.items)
+    ) × ((c : Checker) (f : Function) (hs : List Happening) → AreOfEvents c.machine c.depth f hs l.rules → All (IsFirstAmong c hs f) l.list.items)
