@@ -56,7 +56,7 @@ at_node tree low high ts rest (OfBoth (OfBoth {middle = m} {us = us} a s) k) = a
 
 whole : (n : Node) (first : Place) (shape : Shape) (low middle high : ℕ) (ts rest : List Token)
     → Stands (at first) low low ts ts → Stands (shape_line shape) low middle ts rest → n ≡ node middle first shape → high ≡ middle + 1 → StandsOver n low high ts rest
-whole n first shape low middle high ts rest a s e h = rw (e, h) (OfBoth (OfBoth a s) (OfNumber {low = middle} {id = middle} (omega arith)))
+whole n first shape low middle high ts rest a s e h = rw (e, h) (OfBoth (OfBoth a s) OfNumber)
 
 pub made_part : (r : Read) (first : Place) (shape : Shape) (low old new : ℕ) (ts rest : List Token)
     → IsMade r old new first shape rest → Stands (at first) low low ts ts → Stands (shape_line shape) low old ts rest → StandsOver (node_of r.tree) low new ts r.rest.now

@@ -31,7 +31,7 @@ braces_behind ns comma low high ts us rest p (OfBoth (OfBoth l e) c) = OfBoth (O
 -- the identifier of a declared token, which stands elsewhere
 named : (n : Node) (token : Token) (found : Option Token) (old new : ℕ) (ts : List Token) → found ≡ Some token → n ≡ node old token.place (nodes.Primary (nodes.Ident token)) → new ≡ old + 1
     → Stands (names found n) old new ts ts
-named n token found old new ts f e h = rw (f, e, h) (OfName {low = old} {id = old} (omega arith))
+named n token found old new ts f e h = rw (f, e, h) OfName
 
 pub name-stands : (r : Read) (token : Token) (found : Option Token) (old new : ℕ) (ts rest : List Token) → found ≡ Some token → IsMade r old new token.place (nodes.Primary (nodes.Ident token)) rest
     → Stands (names found (node_of r.tree)) old new ts ts

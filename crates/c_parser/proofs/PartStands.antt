@@ -12,8 +12,8 @@ stands_longer (kept t) low high ts rest us OfKept = OfKept
 stands_longer (all_kept vs) low high ts rest us OfAll = subst (λ x. Stands (all_kept vs) low low x (rest ++ us)) (sym (append_assoc vs rest us)) OfAll
 stands_longer (fixed s) low high ts rest us (OfFixed e) = OfFixed e
 stands_longer (at p) low high ts rest us OfPlace = OfPlace
-stands_longer (numbered id) low high ts rest us (OfNumber h) = OfNumber h
-stands_longer (names token n) low high ts rest us (OfName h) = OfName h
+stands_longer (numbered id) low high ts rest us OfNumber = OfNumber
+stands_longer (names token n) low high ts rest us OfName = OfName
 stands_longer (l ⨾ m) low high ts rest us (OfBoth {middle = middle} {us = vs} a b) = OfBoth (stands_longer l low middle ts vs us a) (stands_longer m middle high vs rest us b)
 
 -- a tree over a chunk stands in all tokens from its beginning up to its end

@@ -15,6 +15,6 @@ numbers (kept t) low high ts rest OfKept = omega arith
 numbers (all_kept us) low high ts rest OfAll = omega arith
 numbers (fixed s) low high ts rest (OfFixed e) = omega arith
 numbers (at p) low high ts rest OfPlace = omega arith
-numbers (numbered id) low high ts rest (OfNumber h) = (h, omega arith)
-numbers (names token n) low high ts rest (OfName h) = (h, omega arith)
+numbers (numbered id) low high ts rest OfNumber = (omega arith, omega arith)
+numbers (names token n) low high ts rest OfName = (omega arith, omega arith)
 numbers (l ⨾ m) low high ts rest (OfBoth {middle = middle} {us = us} h k) = rises_then (numbers_of l) (numbers_of m) low middle high (numbers l low middle ts us h) (numbers m middle high us rest k)

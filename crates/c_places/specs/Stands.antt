@@ -5,16 +5,16 @@ use Rattle.c_tree.specs.Symbol.{Symbol, symbol_of}
 use Rattle.c_tree.specs.Node.{Node, node, Primary, Ident}
 use Rattle.c_places.specs.Lines.{Line, nothing, kept, all_kept, fixed, at, numbered, names, ◌⨾◌, line_of}
 
--- `Stands l low high ts rest`: the line is that of the tokens `ts` up to `rest`; its numbers go up, the first is at least
--- `low`, and `high` is behind the last.
+-- `Stands l low high ts rest`: the line is that of the tokens `ts` up to `rest`; its nodes have numbers one after the other, in the order
+-- in which they end, from `low` on, and `high` is behind the last.
 pub data Stands : Line → ℕ → ℕ → List Token → List Token → Type 0 where
   OfNothing : {low : ℕ} {ts : List Token} → Stands nothing low low ts ts
   OfKept : {low : ℕ} {t : Token} {ts : List Token} → Stands (kept t) low low (t ∷ ts) ts
   OfAll : {low : ℕ} {us ts : List Token} → Stands (all_kept us) low low (us ++ ts) ts
   OfFixed : {low : ℕ} {s : Symbol} {t : Token} {ts : List Token} → symbol_of t ≡ s → Stands (fixed s) low low (t ∷ ts) ts
   OfPlace : {low : ℕ} {t : Token} {ts : List Token} → Stands (at t.place) low low (t ∷ ts) (t ∷ ts)
-  OfNumber : {low id : ℕ} {ts : List Token} → low ≤ id → Stands (numbered id) low (id + 1) ts ts
-  OfName : {low id : ℕ} {t : Token} {ts : List Token} → low ≤ id → Stands (names (Some t) (node id t.place (Primary (Ident t)))) low (id + 1) ts ts
+  OfNumber : {low : ℕ} {ts : List Token} → Stands (numbered low) low (low + 1) ts ts
+  OfName : {low : ℕ} {t : Token} {ts : List Token} → Stands (names (Some t) (node low t.place (Primary (Ident t)))) low (low + 1) ts ts
   OfBoth : {l m : Line} {low middle high : ℕ} {ts us rest : List Token} → Stands l low middle ts us → Stands m middle high us rest → Stands (l ⨾ m) low high ts rest
 
 -- The node stands over these tokens up to the rest.

@@ -12,7 +12,7 @@ ghost use Rattle.c_typing.specs.Scopes as names;
 ghost use Rattle.c_typing.specs.ScopesByCase.{scoped, scoped_each};
 ghost use Rattle.c_typing.specs.TablesByCase.{filled, filled_each};
 ghost use Rattle.c_typing.specs.TypesByCase.{typed, typed_each};
-ghost use Rattle.c_typing.specs.Unit.{IsFirstFault, places_of};
+ghost use Rattle.c_typing.specs.Unit.{IsFirstFault, places_of, table_by};
 ghost use Rattle.typed_unit.specs.Functions.{function_of};
 ghost use Rattle.typed_unit.specs.Places.{StandOver};
 ghost use Rattle.typed_unit.specs.Tables.{table_of};
@@ -123,6 +123,7 @@ pub fn type_unit<'a>(
     requires placed { StandInFile unit.file unit.tokens.now }
     requires standing { StandOver (nodes_of unit.chunks) unit.tokens.now }
     ensures unit { IfOk result (λ typed. typed.unit ≡ unit.entry) }
+    ensures table { IfOk result (λ typed. table_of typed.table ≡ table_by (nodes_of unit.entry.chunks)) }
     ensures fine { IfOk result (λ _. first_fault (places_of (nodes_of unit.entry.chunks)) ≡ None) }
     ensures functions { IfOk result (λ typed. map function_of typed.functions.items ≡ functions_by.functions_of (nodes_of unit.entry.chunks)) }
     ensures refused { IfErr result (λ e. (f : Fault) → fault_of e ≡ Some f → IsFirstFault (nodes_of unit.entry.chunks) f) }

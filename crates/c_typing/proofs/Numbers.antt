@@ -37,8 +37,8 @@ over (kept t) low high ts rest K OfKept k = k
 over (all_kept us) low high ts rest K OfAll k = k
 over (fixed s) low high ts rest K (OfFixed e) k = k
 over (at p) low high ts rest K OfPlace k = k
-over (numbered i) low high ts rest K (OfNumber h) k = (h, k)
-over (names t n) low high ts rest K (OfName {id = id} h) k = (id + 1, (h, refl), k)
+over (numbered i) low high ts rest K OfNumber k = (omega arith, k)
+over (names t n) low high ts rest K OfName k = (low + 1, (omega arith, refl), k)
 over (l ⨾ m) low high ts rest K (OfBoth {middle = middle} {us = us} h j) k = over l low middle ts us (λ n. Then m n K) h (over m middle high us rest K j k)
 
 record Apart (low : ℕ) (e : Visit) (high : ℕ) : Type 0 where

@@ -61,7 +61,7 @@ right-at unit table v r e t m k = among table (Out v r e) (places_of unit) t.rig
 same-visit : (unit : Nodes) → (typed_each at_start Plain unit >>= λ _. Ok Void) ≡ (visited_all plainly at_start (visits_of unit) >>= λ _. Ok Void)
 same-visit unit = each-flat plainly plain at_start unit none (Ok Void) (λ _. Ok Void) (λ _. refl)
 
-same-table : (unit : Nodes) → fill_all plainly at_start (visits_of unit) [] ≡ filled_each at_start Plain unit []
+pub same-table : (unit : Nodes) → fill_all plainly at_start (visits_of unit) [] ≡ filled_each at_start Plain unit []
 same-table unit = tables.each-flat plainly plain at_start unit none []
 
 fine-visit : (found : Result CType Fault) (a : Result (List CType) Fault) (t : CType) → (found >>= λ _. Ok Void) ≡ (a >>= λ _. Ok Void) → found ≡ Ok t → (ts : List CType) × (a ≡ Ok ts)

@@ -3,6 +3,7 @@ use Rattle.std.specs.Prelude.{◌≡◌, ℕ, List, [], None, Some, ◌⊎◌}
 use Rattle.c_tree.specs.Node.{Nodes}
 use Rattle.c_typing.specs.Definition.{Meeting, meetings_all_then, first_fault, Table, AreRight}
 use Rattle.c_typing.specs.Faults.{Fault}
+use Rattle.c_typing.specs.Order.{fill_all}
 use Rattle.c_typing.specs.Parts.{Slot, plain, Visit, visit, Parts, none, part, each}
 use Rattle.c_typing.specs.Roles.{Role, Plain}
 use Rattle.c_typing.specs.Scopes.{at_start}
@@ -17,6 +18,10 @@ plainly slot = Plain
 -- all places of a unit in the order of visits
 abbrev pub places_of : Nodes → List Meeting
 places_of unit = meetings_all_then plainly at_start (visits_of unit) []
+
+-- THE TABLE of a unit: what is kept of its nodes, filled in the order of visits, and nothing else
+abbrev pub table_by : Nodes → Table
+table_by unit = fill_all plainly at_start (visits_of unit) []
 
 -- A unit without a fault is typed by a table that has its type and its variable at the number of each expression, type name
 -- and declared name.

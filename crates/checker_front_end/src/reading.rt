@@ -1,16 +1,21 @@
 //! A checker's tokens, and its machine.
 
-ghost use Rattle.std.specs.Prelude.{◌≡◌, ◌+◌, ◌<◌, ◌≤◌, ◌^◌, ℕ, List, length, IfOk, IfErr};
-ghost use Rattle.mx_base.specs.Names.{AddsAtMost, HasNoRepeats};
+ghost use Rattle.std.specs.Prelude.{◌≡◌, ◌⊎◌, ◌+◌, ◌<◌, ◌≤◌, ◌^◌, ℕ, List, length, IfOk, IfErr, MatchResult};
+ghost use Rattle.mx_base.specs.Names.{AddsAtMost, HasNoRepeats, names_after};
 ghost use Rattle.c_tree.specs.Symbol.{symbols_of};
+ghost use Rattle.c_reading.specs.Pieces.{Piece as ReadPiece};
+ghost use Rattle.c_reading.specs.Reading.{IsReading};
+ghost use Rattle.c_reading.specs.declared.mode.Mode.TheVariants.{Metal};
+ghost use Rattle.c_lexer.specs.Naming.{named_by};
 ghost use Rattle.metal_grammar.specs.Definition.{IsMachine};
 ghost use Rattle.metal_tree.specs.Whole.{machine_view};
+ghost use Rattle.metal_written.specs.Strings.{with_strings};
 ghost use Rattle.metal_written.specs.Texts.{AreBelow};
 ghost use Rattle.metal_building.specs.Places.{HasPlaces};
 ghost use Rattle.metal_reader.specs.Faults.{IsLexed};
 ghost use Rattle.checker_front_end.specs.Checkers.{HasNoTokens, HasNoMachine};
 ghost use Rattle.checker_front_end.specs.declared.fault.Faulty.{Faulty as Found};
-ghost use Rattle.checker_front_end.specs.declared.fault.Refusal.TheVariants.{Faulty as FaultyAt};
+ghost use Rattle.checker_front_end.specs.declared.fault.Refusal.TheVariants.{Faulty as FaultyAt, NoMemory};
 
 use crate::fault::Refusal;
 use crate::locating::{unmade, unread};
@@ -39,6 +44,8 @@ pub fn read_tokens(
     ensures few { IfOk result (λ tokens. length tokens.all ≤ length bytes.now) }
     ensures below { IfOk result (λ tokens. AreBelow (length names.new) tokens.all) }
     ensures adds { AddsAtMost names.old names.new (length bytes.now + 1) }
+    ensures named { IfOk result (λ _. (pieces : List ReadPiece) → IsReading Metal word.now pieces bytes.now →
+        names.new ≡ named_by (names_after names.old word.now) pieces) }
     ensures distinct { HasNoRepeats names.new }
 {
     match lex(alloc, bytes, Mode::Metal, file, word, names) {
@@ -67,6 +74,7 @@ pub fn read_checker<'a>(
     // The tokens are still those of the bytes, with more names.
     ensures lexed { (file : ℕ) (word bytes : List ℕ) → IsLexed file word names.old bytes tokens.now → IsLexed file word names.new bytes tokens.now }
     ensures adds { AddsAtMost names.old names.new (length tokens.now.all) }
+    ensures named { MatchResult result (λ _. names.new ≡ with_strings names.old (symbols_of tokens.now.all)) (λ e. (e ≡ NoMemory) ⊎ (names.new ≡ with_strings names.old (symbols_of tokens.now.all))) }
     ensures distinct { HasNoRepeats names.new }
 {
     match read_machine(arena, alloc, tokens, names) {

@@ -81,8 +81,8 @@ behind file (fixed s) a b ts rest (OfFixed {t = t} e) low high f r =
     let h = r.0 in
     record { middle = t.place.token + 1; up = omega (arith, h); keeps = tt; of_file = f.1; rises = r.1 }
 behind file (at p) a b ts rest OfPlace low high f r = record { middle = low; up = omega arith; keeps = tt; of_file = f; rises = r }
-behind file (numbered i) a b ts rest (OfNumber l) low high f r = record { middle = low; up = omega arith; keeps = tt; of_file = f; rises = r }
-behind file (names t n) a b ts rest (OfName l) low high f r = record { middle = low; up = omega arith; keeps = tt; of_file = f; rises = r }
+behind file (numbered i) a b ts rest OfNumber low high f r = record { middle = low; up = omega arith; keeps = tt; of_file = f; rises = r }
+behind file (names t n) a b ts rest OfName low high f r = record { middle = low; up = omega arith; keeps = tt; of_file = f; rises = r }
 behind file (l ⨾ m) a b ts rest (OfBoth {middle = c} {us = us} s t) low high f r =
     let x = behind file l a c ts us s low high f r in
     let y = behind file m c b us rest t x.middle high x.of_file x.rises in

@@ -1,12 +1,18 @@
 //! A C file's tokens, and its unit with types.
 
-ghost use Rattle.std.specs.Prelude.{◌≡◌, ◌+◌, ◌<◌, ◌≤◌, ◌^◌, ◌⊎◌, length, map, IfOk, IfErr};
-ghost use Rattle.mx_base.specs.Names.{AddsAtMost, HasNoRepeats};
+ghost use Rattle.std.specs.Prelude.{◌≡◌, ◌+◌, ◌<◌, ◌≤◌, ◌^◌, ◌⊎◌, List, length, map, IfOk, IfErr};
+ghost use Rattle.mx_base.specs.Names.{AddsAtMost, HasNoRepeats, names_after};
 ghost use Rattle.c_tree.specs.declared.place.Place.{Place as PlaceValue};
 ghost use Rattle.c_tree.specs.Views.{nodes_of};
+ghost use Rattle.c_reading.specs.Pieces.{Piece as ReadPiece};
+ghost use Rattle.c_reading.specs.Reading.{IsReading};
+ghost use Rattle.c_reading.specs.declared.mode.Mode.TheVariants.{C};
+ghost use Rattle.c_lexer.specs.Naming.{named_by};
 ghost use Rattle.c_lexer.specs.Tokens.{TokenList};
 ghost use Rattle.c_typing.specs.Functions.{functions_of};
+ghost use Rattle.c_typing.specs.Unit.{table_by};
 ghost use Rattle.typed_unit.specs.Functions.{function_of};
+ghost use Rattle.typed_unit.specs.Tables.{table_of};
 ghost use Rattle.c_types.specs.Faults.{fault_of};
 ghost use Rattle.front_end.specs.Refusals.{kind_and_spot, unread_as, unparsed_as, untyped_as};
 ghost use Rattle.front_end.specs.Sources.{AreTokensOf, AreTypedTrees, HasNoTokens, HasNoTrees, HasNoTypes, stands_at};
@@ -102,6 +108,8 @@ pub fn read_tokens(
     ensures refused { IfErr result (λ e. (found : Found) → e ≡ FaultyAt found → HasNoTokens word.now names.new bytes.now found) }
     ensures few { IfOk result (λ tokens. length tokens.all ≤ length bytes.now) }
     ensures adds { AddsAtMost names.old names.new (length bytes.now + 1) }
+    ensures named { IfOk result (λ _. (pieces : List ReadPiece) → IsReading C word.now pieces bytes.now →
+        names.new ≡ named_by (names_after names.old word.now) pieces) }
     ensures distinct { HasNoRepeats names.new }
 {
     match lex(alloc, bytes, Mode::C, file, word, names) {
@@ -121,6 +129,7 @@ pub fn read_typed<'a>(
 ) -> Result<TypedUnit<'a>, Refusal>
     requires { length tokens.now.all ≤ 16777216 }
     ensures typed { IfOk result (λ typed. AreTypedTrees tokens.now.all (nodes_of typed.unit.chunks)) }
+    ensures table { IfOk result (λ typed. table_of typed.table ≡ table_by (nodes_of typed.unit.chunks)) }
     ensures functions { IfOk result (λ typed. map function_of typed.functions.items ≡ functions_of (nodes_of typed.unit.chunks)) }
     ensures tokens { IfOk result (λ typed. typed.unit.tokens.now ≡ tokens.now.all) }
     ensures file { IfOk result (λ typed. typed.unit.file ≡ tokens.now.end.place.file) }

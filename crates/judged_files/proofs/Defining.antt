@@ -33,8 +33,8 @@ singles-few (kept t) low high ts rest OfKept = omega arith
 singles-few (all_kept us) low high ts rest OfAll = omega (arith, length-append us rest)
 singles-few (fixed s) low high ts rest (OfFixed e) = omega arith
 singles-few (at p) low high ts rest OfPlace = omega arith
-singles-few (numbered i) low high ts rest (OfNumber l) = omega arith
-singles-few (names t n) low high ts rest (OfName l) = omega arith
+singles-few (numbered i) low high ts rest OfNumber = omega arith
+singles-few (names t n) low high ts rest OfName = omega arith
 singles-few (l ⨾ m) low high ts rest (OfBoth {middle = middle} {us = us} s t) =
     let a = singles-few l low middle ts us s in
     let b = singles-few m middle high us rest t in
@@ -120,8 +120,8 @@ keeps P (kept t) low high ts rest OfKept h = h
 keeps P (all_kept us) low high ts rest OfAll h = (tt, each-behind P us rest h)
 keeps P (fixed s) low high ts rest (OfFixed e) h = (tt, h.1)
 keeps P (at p) low high ts rest OfPlace h = (tt, h)
-keeps P (numbered i) low high ts rest (OfNumber l) h = (tt, h)
-keeps P (names t n) low high ts rest (OfName l) h = (tt, h)
+keeps P (numbered i) low high ts rest OfNumber h = (tt, h)
+keeps P (names t n) low high ts rest OfName h = (tt, h)
 keeps P (l ⨾ m) low high ts rest (OfBoth {middle = middle} {us = us} s t) h =
     let x = keeps P l low middle ts us s h in
     let y = keeps P m middle high us rest t x.1 in

@@ -1,6 +1,6 @@
 //! Reads a checker from its tokens or its bytes.
 
-ghost use Rattle.std.specs.Prelude.{◌≡◌, ◌+◌, ◌*◌, ◌<◌, ◌≤◌, ◌^◌, None, List, length, IfOk, IfErr};
+ghost use Rattle.std.specs.Prelude.{◌≡◌, ◌⊎◌, ◌+◌, ◌*◌, ◌<◌, ◌≤◌, ◌^◌, None, List, length, IfOk, IfErr, MatchResult};
 ghost use Rattle.mx_base.specs.Names.{AddsAtMost, HasNoRepeats};
 ghost use Rattle.c_tree.specs.Symbol.{Symbol, symbol_of, symbols_of};
 ghost use Rattle.c_lexer.specs.Tokens.{TokenList};
@@ -9,12 +9,14 @@ ghost use Rattle.metal_grammar.specs.Grammar.{IsText};
 ghost use Rattle.metal_tree.specs.Whole.{machine_view};
 ghost use Rattle.metal_reader.specs.Faults.{Refuses as RefusesText, RefusesBytes, IsLexed};
 ghost use Rattle.metal_building.specs.Places.{HasPlaces};
+ghost use Rattle.metal_written.specs.Strings.{with_strings};
 ghost use Rattle.metal_written.specs.Texts.{AreBelow, AreRight};
 ghost use Rattle.metal_grammar.specs.FirstFault.{fault_of, fault_of_rules};
 ghost use Rattle.metal_grammar.specs.Known.{StringsAreKnown};
 ghost use Rattle.metal_grammar.specs.Rules as grammar;
 ghost use Rattle.metal_grammar.specs.Meaning as meaning;
 ghost use Rattle.metal_faults.specs.FirstFaults.{Says, faults_before_rules};
+ghost use Rattle.metal_faults.specs.declared.fault.MetalFault.TheVariants.{NoMemory};
 ghost use Rattle.metal_written.specs.Sizes.{ClausesHaveSizes, size_of_all};
 ghost use Rattle.metal_written.specs.Written.{clause_views};
 
@@ -115,6 +117,7 @@ pub fn read_machine<'a>(
     ensures places { IfOk result (λ machine. HasPlaces tokens.now.end.place.file machine.rules.now) }
     ensures refused { IfErr result (λ fault. RefusesText names.new (symbols_of tokens.now.all) tokens.now.end.place.file fault) }
     ensures adds { AddsAtMost names.old names.new (length tokens.now.all) }
+    ensures named { MatchResult result (λ _. names.new ≡ with_strings names.old (symbols_of tokens.now.all)) (λ fault. (fault ≡ NoMemory) ⊎ (names.new ≡ with_strings names.old (symbols_of tokens.now.all))) }
     ensures distinct { HasNoRepeats names.new }
 {
     let all = tokens.all();

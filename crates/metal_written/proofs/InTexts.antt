@@ -14,6 +14,7 @@ use Rattle.c_tree.specs.declared.token.TokenKind.TheVariants as kinds
 use Rattle.c_tree.specs.Symbol.{Symbol, Word, Reserved, Sign, IntLiteral, FloatLiteral, CharLiteral, StringLiteral, symbol_as, symbol_of, symbols_of}
 use Rattle.metal_grammar.specs.Words.{Spelling, spelled, name_spelled, all_but_last}
 use Rattle.metal_grammar.specs.Known.{IsName, SymbolIsKnown, StringsAreKnown}
+use Rattle.metal_written.specs.Strings.{with_string, with_strings}
 use Rattle.metal_written.specs.Texts.{same_key, contents_behind, IsRight, AreBelow}
 
 equal : (a b : ℕ) → nat_eq a b ≡ true → a ≡ b
@@ -162,6 +163,26 @@ pub first-all : (s : Spelling) (ts : List Token) (i : ℕ) → length ts ≤ i �
 first-all s [] i h k = tt
 first-all s (t ∷ ts) zero h k = absurd (omega arith)
 first-all s (t ∷ ts) (suc i) h k = (k.0, first-all s ts i (omega arith) k.1)
+
+-- the names with the contents of the strings among the first i tokens
+abbrev pub strings_first : Spelling → ℕ → List Token → Spelling
+strings_first names zero ts = names
+strings_first names (suc i) [] = names
+strings_first names (suc i) (t ∷ ts) = strings_first (with_string names (symbol_of t)) i ts
+
+strings-push : (names : Spelling) (ts : List Token) (i : ℕ) (d : Token) → i < length ts → with_string (strings_first names i ts) (symbol_of (get_or ts i d)) ≡ strings_first names (suc i) ts
+strings-push names [] i d h = absurd (omega arith)
+strings-push names (t ∷ ts) zero d h = refl
+strings-push names (t ∷ ts) (suc i) d h = strings-push (with_string names (symbol_of t)) ts i d (omega arith)
+
+pub strings-next : (old names new : Spelling) (ts : List Token) (i : ℕ) (d : Token) → i < length ts → names ≡ strings_first old i ts → new ≡ with_string names (symbol_of (get_or ts i d)) → new ≡ strings_first old (i + 1) ts
+strings-next old names new ts i d h e f = f ∙ ap (λ ns. with_string ns (symbol_of (get_or ts i d))) e ∙ strings-push old ts i d h ∙ ap (λ j. strings_first old j ts) (sym (add-one i))
+
+pub strings-all : (names : Spelling) (ts : List Token) (i : ℕ) → length ts ≤ i → strings_first names i ts ≡ with_strings names (symbols_of ts)
+strings-all names [] zero h = refl
+strings-all names [] (suc i) h = refl
+strings-all names (t ∷ ts) zero h = absurd (omega arith)
+strings-all names (t ∷ ts) (suc i) h = strings-all (with_string names (symbol_of t)) ts i (omega arith)
 
 -- tokens below more names
 pub below-grows : (m n : ℕ) (ts : List Token) → m ≤ n → AreBelow m ts → AreBelow n ts

@@ -5,3 +5,4 @@ pub mod Kinds
 pub mod Placed
 pub mod Messages
 pub mod Texts
+pub mod Strings

@@ -3,9 +3,10 @@
 
 ghost use Rattle.std.specs.Prelude.{◌≡◌, ◌+◌, ◌<◌, ◌^◌, length, IfOk};
 ghost use Rattle.c_tree.specs.Symbol.{symbol_of, symbols_of};
-ghost use Rattle.mx_base.specs.Names.{AddsAtMost, HasNoRepeats};
+ghost use Rattle.mx_base.specs.Names.{AddsAtMost, HasNoRepeats, names_after};
 ghost use Rattle.metal_grammar.specs.Words.{Spelling, contents_of, name_spelled};
 ghost use Rattle.metal_grammar.specs.Known.{IsName, SymbolIsKnown, StringsAreKnown};
+ghost use Rattle.metal_written.specs.Strings.{with_string, with_strings};
 ghost use Rattle.metal_written.specs.Texts.{AreBelow, AreRight};
 ghost use Rattle.metal_written.specs.Written.{literal_view};
 
@@ -57,6 +58,7 @@ impl Texts {
         ensures adds { AddsAtMost names.old names.new 1 }
         ensures distinct { HasNoRepeats names.new }
         ensures known { IfOk result (λ _. IsName names.new (contents_of names.new (literal_view literal))) }
+        ensures named { IfOk result (λ _. names.new ≡ names_after names.old (contents_of names.old (literal_view literal))) }
     {
         let contents = Text::from_bytes(alloc, contents_of(names, literal))?;
         let number = names.intern(contents.as_bytes())?;
@@ -80,6 +82,7 @@ impl Texts {
         ensures adds { AddsAtMost names.old names.new 1 }
         ensures distinct { HasNoRepeats names.new }
         ensures known { IfOk result (λ _. SymbolIsKnown names.new (symbol_of token.now)) }
+        ensures named { IfOk result (λ _. names.new ≡ with_string names.old (symbol_of token.now)) }
     {
         match token.kind {
             TokenKind::Str { wide } => {
@@ -105,6 +108,7 @@ impl Texts {
         ensures adds { AddsAtMost names.old names.new (length tokens.now) }
         ensures distinct { HasNoRepeats names.new }
         ensures known { IfOk result (λ _. StringsAreKnown names.new (symbols_of tokens.now)) }
+        ensures named { IfOk result (λ _. names.new ≡ with_strings names.old (symbols_of tokens.now)) }
     {
         let mut texts = Texts::new(alloc);
         let _count = names.len();

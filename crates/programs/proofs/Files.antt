@@ -40,8 +40,8 @@ keeps file (kept t) low high ts rest OfKept h = (h.0, h.1)
 keeps file (all_kept us) low high ts rest OfAll h = (tt, of-rest file us rest h)
 keeps file (fixed s) low high ts rest (OfFixed e) h = (tt, h.1)
 keeps file (at p) low high ts rest OfPlace h = (tt, h)
-keeps file (numbered i) low high ts rest (OfNumber l) h = (tt, h)
-keeps file (names t n) low high ts rest (OfName l) h = (tt, h)
+keeps file (numbered i) low high ts rest OfNumber h = (tt, h)
+keeps file (names t n) low high ts rest OfName h = (tt, h)
 keeps file (l ⨾ m) low high ts rest (OfBoth {middle = middle} {us = us} s t) h =
     let x = keeps file l low middle ts us s h in
     let y = keeps file m middle high us rest t x.1 in

@@ -4,6 +4,7 @@ use Rattle.c_typing.specs.Roles.{Plain}
 use Rattle.c_typing.specs.Scopes.{Scopes, at_start}
 use Rattle.c_typing.specs.TablesByCase.{filled_each}
 use Rattle.c_typing.specs.TypesByCase.{typed_each}
+use Rattle.c_typing.proofs.Units.{same-table}
 use Rattle.typed_unit.specs.Tables.{table_of}
 use Rattle.c_types.proofs.UnitSteps.{unit-fine, unit-typed}
 use Rattle.c_types.proofs.units.type_unit.Goals as goal
@@ -25,3 +26,8 @@ returns-clause-fine c =
     let unit = nodes_of c.args.unit.chunks in
     unit-fine unit c.args.unit.tokens.now _ c.units_by_case.ensures c.numbers_differ.ensures c.requires.standing
     (sym (ap (λ (v : Scopes). typed_each v Plain unit) c.new-scopes.ensures) ∙ c.in-Ok.ensures.gives)
+
+pub returns-clause-table : goal.returns-clause-table
+returns-clause-table c =
+    let unit = nodes_of c.args.unit.chunks in
+    ap table_of c.new.ensures.table ∙ c.in-Ok.ensures.table ∙ ap (λ (v : Scopes). filled_each v Plain unit (table_of c.new-table.result)) c.new-scopes.ensures ∙ ap (filled_each at_start Plain unit) c.new-table.ensures ∙ sym (same-table unit)

@@ -1,6 +1,9 @@
-use Rattle.std.proofs.Common.{◌∙◌, sym}
+use Rattle.std.proofs.Common.{◌≡◌, ◌∙◌, ◌⊎◌, inl, inr, ap, sym}
 use Rattle.c_tree.specs.Symbol.{symbols_of}
 use Rattle.metal_reader.proofs.Lexed.{still_lexed}
+use Rattle.metal_faults.specs.declared.fault.MetalFault.TheVariants as faults
+use Rattle.checker_front_end.specs.Refusals.{unmade_as}
+use Rattle.checker_front_end.specs.declared.fault.Refusal.TheVariants.{NoMemory}
 use Rattle.checker_front_end.proofs.Refusing.{no_machine, text_of}
 use Rattle.checker_front_end.proofs.reading.read_checker.Goals as goal
 
@@ -20,3 +23,10 @@ returns-in-Ok-clause-lexed c = λ file word bytes w.
 pub returns-in-Err-clause-lexed : goal.returns-in-Err-clause-lexed
 returns-in-Err-clause-lexed c = λ file word bytes w.
     still_lexed file word c.args.names.now c.read_machine.new.names _ bytes c.args.tokens.now c.in-Err.ensures.adds (w.pieces, w.reading, w.tokens)
+
+pub returns-in-Err-clause-named : goal.returns-in-Err-clause-named
+returns-in-Err-clause-named c = by c.in-Err.ensures.named
+  where
+    by : {N : Type 0} → (c.in-Err.fault ≡ faults.NoMemory) ⊎ N → (c.unmade.result ≡ NoMemory) ⊎ N
+    by (inl e) = inl (c.unmade.ensures ∙ ap (unmade_as c.args.tokens.now) e)
+    by (inr n) = inr n

@@ -1,6 +1,8 @@
-use Rattle.std.proofs.Common.{◌∙◌, [], sym, subst, inl, inr}
+use Rattle.std.proofs.Common.{◌≡◌, ◌∙◌, [], sym, subst, inl, inr}
 use Rattle.c_tree.specs.Views.{nodes_of}
 use Rattle.c_places.specs.Lines.{row_line}
+use Rattle.c_typing.specs.Unit.{table_by}
+use Rattle.typed_unit.specs.Tables.{table_of}
 use Rattle.c_places.specs.Stands.{Stands}
 use Rattle.front_end.specs.Sources.{AreTypedTrees}
 use Rattle.front_end.proofs.Refusing.{no_trees, trees_are, typed_trees, no_types}
@@ -21,3 +23,7 @@ returns-in-Err-type_unit-clause-refused c = λ found e.
 
 pub type_unit-requires-clause-standing : goal.type_unit-requires-clause-standing
 type_unit-requires-clause-standing c = let s = c.in-Ok.ensures.stands in (s.0, subst (λ ts. Stands (row_line (nodes_of c.in-Ok.unit.chunks)) 0 s.0 ts []) (sym c.in-Ok.ensures.tokens) s.2)
+
+pub returns-in-Ok-type_unit-clause-table : goal.returns-in-Ok-type_unit-clause-table
+returns-in-Ok-type_unit-clause-table c =
+    subst (λ u. table_of c.in-Ok-type_unit.typed.table ≡ table_by (nodes_of u.chunks)) (sym c.in-Ok-type_unit.ensures.unit) c.in-Ok-type_unit.ensures.table

@@ -1,6 +1,6 @@
-use Rattle.std.proofs.Common.{ℕ, cond, ◌∙◌, subst, sym}
+use Rattle.std.proofs.Common.{ℕ, cond, ap, ◌∙◌, subst, sym}
 use Rattle.indexmap.specs.IndexMap.{get}
-use Rattle.mx_base.specs.Names.{IsNumberOf}
+use Rattle.mx_base.specs.Names.{IsNumberOf, names_after}
 use Rattle.mx_base.proofs.NameLaws.{adds_none}
 use Rattle.metal_written.specs.Texts.{same_key, contents_behind, IsRight}
 use Rattle.metal_written.proofs.InTexts.{all-grow, all-added, right-made, right-known}
@@ -28,3 +28,6 @@ returns-clause-known c =
     let own : IsNumberOf c.intern.new.self (contents_behind old key) c.in_ok-number.number
     = subst (λ t. IsNumberOf c.intern.new.self t c.in_ok-number.number) (c.as_bytes.ensures ∙ c.in_ok-contents.ensures ∙ c.contents_of.ensures) c.in_ok-number.ensures.own in
     right-known c.intern.new.self key c.in_ok-number.number (right-made old c.intern.new.self 1 key c.in_ok-number.number c.in_ok-number.ensures.adds c.requires.below own)
+
+pub returns-clause-named : goal.returns-clause-named
+returns-clause-named c = c.in_ok-number.ensures.names ∙ ap (names_after c.args.names.now) (c.as_bytes.ensures ∙ c.in_ok-contents.ensures ∙ c.contents_of.ensures)
