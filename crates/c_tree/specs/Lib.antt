@@ -8,3 +8,4 @@ pub mod Height
 pub mod Phrase
 pub mod Tokens
 pub mod TokenPlaces
+pub mod Compared

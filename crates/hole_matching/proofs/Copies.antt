@@ -6,7 +6,7 @@ use Rattle.c_tree.specs.declared.operator.UnaryOp.TheVariants as unary
 use Rattle.c_tree.specs.declared.token.Token.{Token}
 use Rattle.c_tree.specs.declared.token.TokenKind.{TokenKind}
 use Rattle.c_tree.specs.declared.token.TokenKind.TheVariants as kinds
-use Rattle.tree_equality.specs.Compared as forms
+use Rattle.c_tree.specs.Compared as forms
 use Rattle.c_tree.specs.Forget.{syntax_of, syntaxes_of, primary_syntax, operation_syntax}
 use Rattle.c_tree.specs.Node.{Node, node, Primary, Operation, PrimaryShape, OperationShape, Ident, Constant, StrConst, Paren, VaArg, Offsetof, Hole, Nodes, no_more, more}
 use Rattle.c_tree.specs.Node as nodes

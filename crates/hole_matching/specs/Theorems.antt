@@ -1,7 +1,7 @@
 -- The theorems of this crate as statements, which contracts can name.
 use Rattle.std.specs.Prelude.{◌≡◌, ◌↔◌, ⊤, List, [], Some}
 use Rattle.c_objects.specs.Facts.{Facts}
-use Rattle.tree_equality.specs.Compared as forms
+use Rattle.c_tree.specs.Compared as forms
 use Rattle.c_tree.specs.Forget.{syntax_of}
 use Rattle.c_tree.specs.Node.{Node}
 use Rattle.metal_machines.specs.Machine.{Item}

@@ -3,7 +3,7 @@ use Rattle.std.proofs.Common.{◌≡◌, ◌⊎◌, inl, inr, Bool, true, false,
 use Rattle.std.specs.Prelude.{cond}
 use Rattle.c_tree.specs.declared.operator.AssignOp.TheVariants as assign
 use Rattle.c_tree.specs.Syntax.{Syntax, Primary, Operation, Initializer, PrimarySyntax, OperationSyntax, InitializerSyntax, Ident, Constant, StrConst, Paren, VaArg, Offsetof, Hole, Assign, Init, Braces, Designated}
-use Rattle.tree_equality.specs.Compared.{compared, compared_primary, compared_initializer, compared_init, is_braces, primary_is_paren}
+use Rattle.c_tree.specs.Compared.{compared, compared_primary, compared_initializer, compared_init, is_braces, primary_is_paren}
 
 -- what isn't in parentheses stays a primary expression
 pub primary_stays : (k : PrimarySyntax) → primary_is_paren k ≡ false → (x : PrimarySyntax) × (compared_primary k ≡ Primary x)

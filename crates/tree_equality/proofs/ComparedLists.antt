@@ -3,7 +3,7 @@ use Rattle.std.proofs.Common.{◌≡◌, List, [], ◌∷◌, length, ap, refl, 
 use Rattle.c_tree.specs.declared.tree.Tree.{Tree}
 use Rattle.c_tree.specs.declared.tree.Trees.{Trees, out-Trees}
 use Rattle.c_tree.specs.Forget.{syntaxes_of, list_view, view_all}
-use Rattle.tree_equality.specs.Compared.{compared_all}
+use Rattle.c_tree.specs.Compared.{compared_all}
 use Rattle.c_tree.proofs.Rows.{nodes_out}
 
 same_length : (xs ys : List Tree) → compared_all (view_all xs) ≡ compared_all (view_all ys) → length xs ≡ length ys

@@ -1,1 +1,1 @@
-pub mod Compared
+pub use Rattle.c_tree.specs.Compared

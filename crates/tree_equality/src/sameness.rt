@@ -3,7 +3,7 @@
 ghost use Rattle.std.specs.Prelude.{◌≡◌, ◌↔◌, IsTrue, false};
 ghost use Rattle.c_tree.specs.Symbol.{symbol_of};
 ghost use Rattle.c_tree.specs.Forget.{view, maybe_view, list_view, kind_view, primary_view, operation_view, initializer_view, specifier_view, declarator_view, part_view, outer_view, statement_view, iteration_view, jump_view};
-ghost use Rattle.tree_equality.specs.Compared.{compared, compared_maybe, compared_all, compared_constant, operation_compared, pointed_to, is_braces, is_paren, primary_is_paren, compared_primary, compared_operation, compared_initializer, compared_specifier, compared_declarator, compared_part, compared_outer, compared_statement, compared_iteration, compared_jump};
+ghost use Rattle.c_tree.specs.Compared.{compared, compared_maybe, compared_all, compared_constant, operation_compared, pointed_to, is_braces, is_paren, primary_is_paren, compared_primary, compared_operation, compared_initializer, compared_specifier, compared_declarator, compared_part, compared_outer, compared_statement, compared_iteration, compared_jump};
 
 use crate::equality::{equal_optional, equal_tree};
 use c_tree::{

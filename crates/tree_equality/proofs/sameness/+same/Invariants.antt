@@ -14,7 +14,7 @@ use Rattle.c_tree.specs.declared.statement.Statement.{size-Statement}
 use Rattle.c_tree.specs.declared.statement.Iteration.{size-Iteration}
 use Rattle.c_tree.specs.declared.statement.Jump.{size-Jump}
 use Rattle.c_tree.specs.Forget.{view_all, list_view}
-use Rattle.tree_equality.specs.Compared.{compared_all}
+use Rattle.c_tree.specs.Compared.{compared_all}
 use Rattle.tree_equality.proofs.sameness.+same.Given as goal
 
 -- what is left decides
