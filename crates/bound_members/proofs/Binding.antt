@@ -19,7 +19,8 @@ use Rattle.c_typing.specs.Functions.{Defined}
 use Rattle.checker_model.specs.Choices.{Binds}
 use Rattle.checker_model.specs.Happenings.{Function, Happening}
 use Rattle.checker_model.specs.Reports.{Checker}
-use Rattle.checker_programs.specs.Texts.{Text, functions_in, function_of, happening}
+use Rattle.checker_programs.specs.Texts.{functions_in, function_of, happening}
+use Rattle.typed_unit.specs.Texts.{Text}
 use Rattle.flow_graph.specs.Seen.{graph_in}
 use Rattle.function_tables.specs.declared.table.BlockTable.{BlockTable}
 use Rattle.function_tables.specs.declared.table.FunctionTable.{FunctionTable}

@@ -9,7 +9,8 @@ use Rattle.c_typing.specs.Functions.{Defined}
 use Rattle.checker_model.specs.Choices.{Binds}
 use Rattle.checker_model.specs.Happenings.{Function, Happening}
 use Rattle.checker_model.specs.Reports.{Checker}
-use Rattle.checker_programs.specs.Texts.{Text, function_of, happening}
+use Rattle.checker_programs.specs.Texts.{function_of, happening}
+use Rattle.typed_unit.specs.Texts.{Text}
 use Rattle.metal_machines.specs.Machine.{Machine}
 use Rattle.reached_blocks.specs.Reached.{Happens}
 use Rattle.relevant_steps.specs.Steps.{Member, Base}

@@ -4,7 +4,7 @@ ghost use Rattle.std.specs.Prelude.{ℕ, List, IfOk};
 ghost use Rattle.bound_members.specs.Bound.{BoundIn};
 ghost use Rattle.c_paths.specs.Graphs.{Block};
 ghost use Rattle.c_typing.specs.Functions.{Defined};
-ghost use Rattle.checker_programs.specs.Texts.{Text};
+ghost use Rattle.typed_unit.specs.Texts.{Text};
 ghost use Rattle.function_tables.specs.Tables.{AreBlockTables};
 ghost use Rattle.least_set.specs.Logs.{Adds, SomeGives};
 ghost use Rattle.metal_machines.specs.Machine.{Machine};

@@ -7,8 +7,8 @@ use Rattle.c_paths.specs.SoundGraphs.{IsSoundGraph}
 use Rattle.c_typing.specs.Functions.{Defined}
 use Rattle.checker_graphs.specs.Graphs.{IsFlowGraphIn, AreGraphs, AreFirstGraphs}
 use Rattle.checker_graphs.proofs.Units.{facts-are, definition-is, functions-are}
-use Rattle.checker_programs.specs.Texts.{Text, functions_in, with_close}
-use Rattle.checker_programs.specs.Units.{texts_of}
+use Rattle.checker_programs.specs.Texts.{functions_in, with_close}
+use Rattle.typed_unit.specs.Texts.{Text, texts_of}
 use Rattle.flow_graph.specs.Bodies.{HasTraces}
 use Rattle.function_graphs.specs.Bodies.{definition_in}
 use Rattle.function_graphs.specs.Known.{facts_in}

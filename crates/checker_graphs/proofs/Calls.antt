@@ -10,7 +10,8 @@ use Rattle.checker_graphs.specs.Graphs.{function_at, AreApartPlaces}
 use Rattle.checker_graphs.proofs.Numbers.{one-number}
 use Rattle.checker_model.specs.Happenings.{Function}
 use Rattle.checker_programs.specs.Roots.{followed_into, IsRoot, IsRootFunction}
-use Rattle.checker_programs.specs.Texts.{Text, functions_in, function_of, table_of, site}
+use Rattle.checker_programs.specs.Texts.{functions_in, function_of, table_of, site}
+use Rattle.typed_unit.specs.Texts.{Text}
 use Rattle.metal_machines.specs.Machine.{Machine}
 use Rattle.programs.specs.Bodies.{is_in_file, is_external, first_position, body_of}
 use Rattle.programs.specs.Calls.{called_name}

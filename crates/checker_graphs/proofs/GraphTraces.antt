@@ -16,7 +16,8 @@ use Rattle.checker_model.specs.Reports.{Checker}
 use Rattle.checker_programs.specs.Paths.{program}
 use Rattle.checker_programs.specs.Relevant.{Relevant}
 use Rattle.checker_programs.specs.Roots.{followed_into, IsRootFunction}
-use Rattle.checker_programs.specs.Texts.{Text, functions_in, function_of, table_of, empty, with_close, definition_of, flow_facts, happening, site}
+use Rattle.checker_programs.specs.Texts.{functions_in, function_of, table_of, empty, with_close, definition_of, flow_facts, happening, site}
+use Rattle.typed_unit.specs.Texts.{Text}
 use Rattle.checker_programs.proofs.Closed.{closed}
 use Rattle.function_graphs.specs.Known.{facts_of}
 use Rattle.report_model.specs.declared.report.Report.{Report}

@@ -9,7 +9,8 @@ use Rattle.c_typing.specs.Functions.{Defined}
 use Rattle.c_typing.specs.Options.{if_there, ◌>?◌}
 use Rattle.checker_graphs.specs.Graphs.{number_of, function_at, graph_at, AreApartPlaces}
 use Rattle.checker_model.specs.Happenings.{Function}
-use Rattle.checker_programs.specs.Texts.{Text, functions_in, function_of, same_place, defines, defined_as, empty, with_close, definition_of, flow_facts}
+use Rattle.checker_programs.specs.Texts.{functions_in, function_of, same_place, defines, defined_as, empty, with_close, definition_of, flow_facts}
+use Rattle.typed_unit.specs.Texts.{Text}
 
 both-true : (a b : Bool) → a && b ≡ true → (a ≡ true) × (b ≡ true)
 both-true true true h = (refl, refl)

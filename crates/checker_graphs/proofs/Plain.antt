@@ -8,7 +8,8 @@ use Rattle.c_paths.proofs.BuiltGraphs.{built_traces}
 use Rattle.c_paths.proofs.SoundDrafts.{built_graph_sound}
 use Rattle.c_typing.specs.Functions.{Defined}
 use Rattle.checker_graphs.specs.Graphs.{IsFlowGraphIn, AreGraphs}
-use Rattle.checker_programs.specs.Texts.{Text, functions_in, function_of, with_close, flow_facts}
+use Rattle.checker_programs.specs.Texts.{functions_in, function_of, with_close, flow_facts}
+use Rattle.typed_unit.specs.Texts.{Text}
 
 one-graph : (g h : Graph) → Some g ≡ Some h → g ≡ h
 one-graph g h e = cc

@@ -8,7 +8,7 @@ use Rattle.checker_graphs.proofs.Numbers.{graph-at, definition-at, one-number}
 use Rattle.checker_graphs.proofs.Units.{functions-are, definition-is, apart-texts}
 use Rattle.checker_model.specs.Happenings.{Function}
 use Rattle.checker_programs.specs.Texts.{functions_in, function_of, definition_of}
-use Rattle.checker_programs.specs.Units.{texts_of}
+use Rattle.typed_unit.specs.Texts.{texts_of}
 use Rattle.function_graphs.specs.Bodies.{definition_in}
 use Rattle.programs.specs.Definitions.{AreNumbered, definitions, trees_in}
 use Rattle.typed_unit.specs.declared.typed_unit.TypedUnit.{TypedUnit}

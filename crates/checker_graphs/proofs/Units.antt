@@ -17,8 +17,8 @@ use Rattle.c_typing.specs.Scopes.{Scopes, at_start}
 use Rattle.checker_graphs.specs.Graphs.{AreApartPlaces}
 use Rattle.checker_graphs.proofs.Rising.{apart-places}
 use Rattle.checker_model.specs.Happenings as happenings
-use Rattle.checker_programs.specs.Texts.{Text, functions_in, function_of, table_of, tokens_of, objects_in, with_close, flow_facts, happening, callee_of}
-use Rattle.checker_programs.specs.Units.{text_of, texts_of}
+use Rattle.checker_programs.specs.Texts.{functions_in, function_of, table_of, tokens_of, objects_in, with_close, flow_facts, happening, callee_of}
+use Rattle.typed_unit.specs.Texts.{Text, text_of, texts_of}
 use Rattle.function_graphs.specs.Bodies.{tokens_in, definition_in}
 use Rattle.function_graphs.specs.Closing.{closing_brace}
 use Rattle.function_graphs.specs.Known.{facts_of, facts_in}

@@ -12,7 +12,8 @@ use Rattle.checker_model.specs.Checkers.{model}
 use Rattle.checker_model.specs.Happenings.{Function}
 use Rattle.checker_model.specs.Reports.{Checker}
 use Rattle.checker_programs.specs.Roots.{followed_into, IsRootFunction}
-use Rattle.checker_programs.specs.Texts.{Text, functions_in, function_of, same_place, defines, with_close, definition_of, flow_facts, happening, site}
+use Rattle.checker_programs.specs.Texts.{functions_in, function_of, same_place, defines, with_close, definition_of, flow_facts, happening, site}
+use Rattle.typed_unit.specs.Texts.{Text}
 use Rattle.flow_graph.specs.Bodies.{HasTraces}
 use Rattle.path_theory.specs.FlowGraphs.{FlowGraphs}
 

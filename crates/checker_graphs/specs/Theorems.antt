@@ -9,8 +9,8 @@ use Rattle.checker_model.specs.Happenings.{Function}
 use Rattle.checker_model.specs.Reports.{Checker}
 use Rattle.checker_programs.specs.Paths.{program}
 use Rattle.checker_programs.specs.Relevant.{Relevant}
-use Rattle.checker_programs.specs.Texts.{Text, functions_in, function_of, with_close, definition_of}
-use Rattle.checker_programs.specs.Units.{texts_of}
+use Rattle.checker_programs.specs.Texts.{functions_in, function_of, with_close, definition_of}
+use Rattle.typed_unit.specs.Texts.{Text, texts_of}
 use Rattle.report_model.specs.declared.report.Report.{Report}
 use Rattle.path_theory.specs.FlowGraphs.{supergraph}
 use Rattle.path_theory.specs.Paths.{Reported}

@@ -15,7 +15,8 @@ use Rattle.checker_model.proofs.MovedObjects.{move-is, actuals-are}
 use Rattle.checker_model.proofs.Sources.{given, source-object, into-object, out-object}
 use Rattle.checker_programs.specs.Paths.{program}
 use Rattle.checker_programs.specs.Relevant.{Relevant, Bound, Taken, Given, PassedBy, PassedOn, HandedBy, HandedBack}
-use Rattle.checker_programs.specs.Texts.{Text, objects_in, site}
+use Rattle.checker_programs.specs.Texts.{objects_in, site}
+use Rattle.typed_unit.specs.Texts.{Text}
 use Rattle.checker_programs.proofs.Bound.{chosen-binds, fires-binds}
 use Rattle.hole_matching.specs.Alternatives.{object_taken}
 use Rattle.hole_matching.specs.Holes.{Setting}

@@ -4,4 +4,3 @@ pub mod Paths
 pub mod Relevant
 pub mod Reported
 pub mod Theorems
-pub mod Units

@@ -4,7 +4,8 @@ use Rattle.c_paths.specs.Bodies.{step_bodies}
 use Rattle.checker_model.specs.Checkers.{model}
 use Rattle.checker_model.specs.Reports.{Checker}
 use Rattle.checker_programs.specs.Roots.{followed_into, IsRootFunction}
-use Rattle.checker_programs.specs.Texts.{Text, definition_of, flow_facts, happening, site}
+use Rattle.checker_programs.specs.Texts.{definition_of, flow_facts, happening, site}
+use Rattle.typed_unit.specs.Texts.{Text}
 use Rattle.path_theory.specs.Marks.{Bodies, under}
 use Rattle.path_theory.specs.Supergraph.{Supergraph}
 

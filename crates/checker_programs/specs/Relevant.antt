@@ -8,7 +8,7 @@ use Rattle.checker_model.specs.Choices.{Binds}
 use Rattle.checker_model.specs.Happenings.{Function, Happening, Site}
 use Rattle.checker_model.specs.Reports.{Checker}
 use Rattle.checker_programs.specs.Paths.{program}
-use Rattle.checker_programs.specs.Texts.{Text}
+use Rattle.typed_unit.specs.Texts.{Text}
 use Rattle.path_theory.specs.Relevant.{EventOf, CallOf}
 
 module _ (c : Checker) (ts : List Text) where

@@ -5,7 +5,7 @@ use Rattle.c_paths.specs.Membership.{Among}
 use Rattle.checker_model.specs.Checkers.{model}
 use Rattle.checker_model.specs.Reports.{Checker}
 use Rattle.checker_programs.specs.Paths.{program}
-use Rattle.checker_programs.specs.Texts.{Text}
+use Rattle.typed_unit.specs.Texts.{Text}
 use Rattle.report_model.specs.declared.report.Report.{Report}
 use Rattle.report_model.specs.Order.{report_cmp}
 use Rattle.path_theory.specs.Paths.{Reported}

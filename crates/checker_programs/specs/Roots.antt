@@ -9,7 +9,8 @@ use Rattle.c_typing.specs.Functions.{Defined}
 use Rattle.c_typing.specs.Options.{◌>?◌}
 use Rattle.call_graph.specs.Followed.{machine_calls, followed}
 use Rattle.checker_model.specs.Happenings.{Function, Site}
-use Rattle.checker_programs.specs.Texts.{Text, functions_in, function_of, flow_facts, table_of}
+use Rattle.checker_programs.specs.Texts.{functions_in, function_of, flow_facts, table_of}
+use Rattle.typed_unit.specs.Texts.{Text}
 use Rattle.metal_machines.specs.Machine.{Machine}
 
 -- the function into which a call is followed

@@ -18,11 +18,7 @@ use Rattle.function_graphs.specs.Known.{facts_of}
 use Rattle.path_subjects.specs.Subjects.{first_of}
 use Rattle.programs.specs.Calls.{body_called}
 use Rattle.programs.specs.Definitions.{definitions}
-
-pub record Text : Type 0 where
-  pub trees : Nodes
-  pub table : Table
-  pub tokens : List Token
+use Rattle.typed_unit.specs.Texts.{Text}
 
 -- the functions that the units define, in source order
 abbrev pub functions_in : List Text → List Defined

@@ -6,7 +6,7 @@ use Rattle.checker_model.specs.Happenings.{Function}
 use Rattle.checker_model.specs.Reports.{Checker}
 use Rattle.checker_programs.specs.Paths.{program}
 use Rattle.checker_programs.specs.Relevant.{Relevant}
-use Rattle.checker_programs.specs.Texts.{Text}
+use Rattle.typed_unit.specs.Texts.{Text}
 use Rattle.path_theory.specs.Relevant.{IsClosed}
 
 abbrev pub RelevantObjectsAreClosed : Type 0

@@ -6,7 +6,7 @@ use Rattle.std.proofs.lemmas.List.Elements.{Contains-append_left, Contains-appen
 use Rattle.c_paths.proofs.Listed.{among_front, among_back, among_either}
 use Rattle.checker_model.specs.Reports.{Checker}
 use Rattle.checker_programs.specs.Reported.{AreReports, IsReported}
-use Rattle.checker_programs.specs.Texts.{Text}
+use Rattle.typed_unit.specs.Texts.{Text}
 use Rattle.checker_reports.specs.Checkers.{numbered_from, checkers_in}
 use Rattle.metal_machines.specs.Machine.{Machine}
 use Rattle.metal_tree.specs.Whole.{machine_view}

@@ -2,7 +2,7 @@
 
 ghost use Rattle.std.specs.Prelude.{◌≤◌, ◌<◌, ◌↔◌, ◌⊎◌, Contains, IfOk, OnOk, length, map, get_or};
 ghost use Rattle.checker_programs.specs.Reported.{AreReports, IsReported};
-ghost use Rattle.checker_programs.specs.Units.{texts_of};
+ghost use Rattle.typed_unit.specs.Texts.{texts_of};
 ghost use Rattle.checker_reports.specs.Checkers.{checkers_in};
 ghost use Rattle.metal_tree.specs.Whole.{machine_view};
 ghost use Rattle.report_model.specs.declared.report.Report as report;

@@ -11,7 +11,7 @@ use Rattle.checker_graphs.proofs.Units.{happening-is}
 use Rattle.checker_model.specs.Happenings.{Function, Happening}
 use Rattle.checker_model.specs.Reports.{Checker, report_of}
 use Rattle.checker_programs.specs.Texts.{happening}
-use Rattle.checker_programs.specs.Units.{texts_of}
+use Rattle.typed_unit.specs.Texts.{texts_of}
 use Rattle.edge_reports.specs.Said.{happening_at, said_by}
 use Rattle.hole_messages.specs.Sources.{maybe_object}
 use Rattle.metal_machines.specs.Machine.{Machine}

@@ -9,7 +9,8 @@ use Rattle.checker_model.specs.Checkers.{model, origins}
 use Rattle.checker_model.specs.Happenings.{Function, Happening}
 use Rattle.checker_model.specs.Reports.{Checker}
 use Rattle.checker_programs.specs.Relevant.{Relevant}
-use Rattle.checker_programs.specs.Texts.{Text, function_of, happening}
+use Rattle.checker_programs.specs.Texts.{function_of, happening}
+use Rattle.typed_unit.specs.Texts.{Text}
 use Rattle.edge_reports.proofs.AtEvents.{of-unit}
 use Rattle.edge_reports.proofs.CrossedReports.{ShowsHere, nothing-here}
 use Rattle.edge_reports.specs.Said.{happening_at}

@@ -6,7 +6,7 @@ use Rattle.std.specs.Coded.{Coded-set, codes}
 use Rattle.c_typing.specs.Functions.{Defined}
 use Rattle.checker_graphs.proofs.Units.{functions-are, place-filed}
 use Rattle.checker_programs.specs.Texts.{functions_in}
-use Rattle.checker_programs.specs.Units.{texts_of}
+use Rattle.typed_unit.specs.Texts.{texts_of}
 use Rattle.programs.specs.Definitions.{definitions, trees_in}
 use Rattle.typed_unit.specs.declared.functions.TypedFunction.{TypedFunction}
 use Rattle.typed_unit.specs.declared.typed_unit.TypedUnit.{TypedUnit}

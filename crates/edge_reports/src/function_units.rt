@@ -3,7 +3,7 @@
 ghost use Rattle.std.specs.Prelude.{◌≡◌, None, Some, IfSome, slice_get};
 ghost use Rattle.c_typing.specs.Functions.{Defined};
 ghost use Rattle.checker_programs.specs.Texts.{functions_in};
-ghost use Rattle.checker_programs.specs.Units.{texts_of};
+ghost use Rattle.typed_unit.specs.Texts.{texts_of};
 
 use programs::{FnId, Program};
 use typed_unit::TypedUnit;

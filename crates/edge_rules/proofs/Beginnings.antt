@@ -11,7 +11,8 @@ use Rattle.checker_model.specs.Checkers.{model, origins}
 use Rattle.checker_model.specs.Happenings.{Function}
 use Rattle.checker_model.specs.Reports.{Checker}
 use Rattle.checker_programs.specs.Relevant.{Relevant}
-use Rattle.checker_programs.specs.Texts.{Text, function_of, functions_in}
+use Rattle.checker_programs.specs.Texts.{function_of, functions_in}
+use Rattle.typed_unit.specs.Texts.{Text}
 use Rattle.flow_graph.specs.Seen.{graph_in}
 use Rattle.least_set.specs.Logs.{IsExactly, SomeGives}
 use Rattle.path_edges.specs.declared.edges.Edge.{Edge}

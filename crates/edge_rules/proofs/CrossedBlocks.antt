@@ -8,7 +8,8 @@ use Rattle.checker_model.specs.Checkers.{model, origins}
 use Rattle.checker_model.specs.Happenings.{Function, Happening}
 use Rattle.checker_model.specs.Reports.{Checker}
 use Rattle.checker_programs.specs.Relevant.{Relevant}
-use Rattle.checker_programs.specs.Texts.{Text, function_of, happening}
+use Rattle.checker_programs.specs.Texts.{function_of, happening}
+use Rattle.typed_unit.specs.Texts.{Text}
 use Rattle.edge_steps.proofs.FollowedObjects.{crosses-over}
 use Rattle.flow_graph.specs.Seen.{graph_in}
 use Rattle.least_set.specs.Logs.{IsExactly}

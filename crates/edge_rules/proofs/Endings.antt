@@ -7,7 +7,8 @@ use Rattle.c_paths.specs.Graphs.{Block, Ending, ToAny, Calls, Stops}
 use Rattle.checker_graphs.specs.Graphs.{function_at, graph_at}
 use Rattle.checker_model.specs.Happenings.{Function}
 use Rattle.checker_model.specs.Reports.{Checker}
-use Rattle.checker_programs.specs.Texts.{Text, function_of}
+use Rattle.checker_programs.specs.Texts.{function_of}
+use Rattle.typed_unit.specs.Texts.{Text}
 use Rattle.flow_graph.specs.Seen.{graph_in}
 use Rattle.path_edges.specs.declared.edges.Context.{Context}
 use Rattle.path_edges.specs.declared.edges.Edge.{Edge}

@@ -17,7 +17,8 @@ use Rattle.checker_model.specs.Happenings.{Function}
 use Rattle.checker_model.specs.Reports.{Checker}
 use Rattle.checker_programs.specs.Relevant.{Relevant}
 use Rattle.checker_programs.specs.Roots.{followed_into}
-use Rattle.checker_programs.specs.Texts.{Text, function_of, site}
+use Rattle.checker_programs.specs.Texts.{function_of, site}
+use Rattle.typed_unit.specs.Texts.{Text}
 use Rattle.edge_rules.specs.Entries.{IsEntry}
 use Rattle.edge_steps.specs.Steps.{StandsBehind, IsNext, Onward, Inward, edge_at, frame_edge}
 use Rattle.edge_steps.proofs.FollowedObjects.{call-over}

@@ -15,7 +15,8 @@ use Rattle.checker_model.specs.Happenings.{Function, Site}
 use Rattle.checker_model.specs.Reports.{Checker}
 use Rattle.checker_programs.specs.Relevant.{Relevant}
 use Rattle.checker_programs.specs.Roots.{followed_into}
-use Rattle.checker_programs.specs.Texts.{Text, site}
+use Rattle.checker_programs.specs.Texts.{site}
+use Rattle.typed_unit.specs.Texts.{Text}
 use Rattle.least_set.specs.Logs.{IsExactly}
 use Rattle.path_edges.specs.declared.edges.Edge.{Edge}
 use Rattle.path_edges.specs.Edges.{edge_in, tuple_in, context_in}

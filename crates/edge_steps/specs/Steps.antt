@@ -14,7 +14,8 @@ use Rattle.checker_model.specs.Happenings.{Function}
 use Rattle.checker_model.specs.Reports.{Checker}
 use Rattle.checker_programs.specs.Relevant.{Relevant}
 use Rattle.checker_programs.specs.Roots.{followed_into}
-use Rattle.checker_programs.specs.Texts.{Text, site}
+use Rattle.checker_programs.specs.Texts.{site}
+use Rattle.typed_unit.specs.Texts.{Text}
 use Rattle.least_set.specs.declared.two_premises.Wait.{Wait}
 use Rattle.path_edges.specs.declared.edges.Context.{Context}
 use Rattle.path_edges.specs.declared.edges.Edge.{Edge}

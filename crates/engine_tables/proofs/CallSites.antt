@@ -15,7 +15,7 @@ use Rattle.checker_graphs.proofs.Units.{callee-is, functions-are, objects-are, p
 use Rattle.checker_model.specs.Calls.{actuals_of}
 use Rattle.checker_model.specs.Happenings.{Site}
 use Rattle.checker_programs.specs.Texts.{callee_of, function_of, functions_in, site}
-use Rattle.checker_programs.specs.Units.{texts_of}
+use Rattle.typed_unit.specs.Texts.{texts_of}
 use Rattle.programs.specs.Calls.{body_called, table_in}
 use Rattle.programs.specs.Definitions.{definitions, trees_in}
 use Rattle.refine_restore.specs.declared.site.Site as code

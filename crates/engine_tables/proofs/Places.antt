@@ -20,7 +20,8 @@ use Rattle.call_graph.specs.Followed.{followed}
 use Rattle.checker_model.specs.Happenings.{Function, Happening}
 use Rattle.checker_programs.specs.Relevant.{Relevant}
 use Rattle.checker_programs.specs.Roots.{followed_into}
-use Rattle.checker_programs.specs.Texts.{Text, functions_in, function_of, happening, site, table_of}
+use Rattle.checker_programs.specs.Texts.{functions_in, function_of, happening, site, table_of}
+use Rattle.typed_unit.specs.Texts.{Text}
 use Rattle.flow_graph.specs.Seen.{graph_in}
 use Rattle.function_tables.specs.declared.table.BlockTable.{BlockTable}
 use Rattle.function_tables.specs.declared.table.FunctionTable.{FunctionTable}

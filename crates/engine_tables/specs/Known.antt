@@ -7,8 +7,8 @@ use Rattle.c_typing.specs.Functions.{Defined}
 use Rattle.checker_model.specs.Reports.{Checker}
 use Rattle.checker_programs.specs.Relevant.{Relevant}
 use Rattle.checker_programs.specs.Roots.{IsRoot}
-use Rattle.checker_programs.specs.Texts.{Text, functions_in, function_of}
-use Rattle.checker_programs.specs.Units.{texts_of}
+use Rattle.checker_programs.specs.Texts.{functions_in, function_of}
+use Rattle.typed_unit.specs.Texts.{Text, texts_of}
 use Rattle.flow_graph.specs.Seen.{graph_in}
 use Rattle.function_tables.specs.Tables.{AreTables}
 use Rattle.least_set.specs.Logs.{IsExactly}

@@ -10,8 +10,8 @@ use Rattle.c_typing.specs.Options.{◌>?◌}
 use Rattle.call_graph.specs.Followed.{followed}
 use Rattle.checker_graphs.proofs.Units.{functions-are, table-is, happening-is}
 use Rattle.checker_model.specs.Happenings.{Function, Happening}
-use Rattle.checker_programs.specs.Texts.{Text, functions_in, function_of as named, table_of, happening}
-use Rattle.checker_programs.specs.Units.{texts_of}
+use Rattle.checker_programs.specs.Texts.{functions_in, function_of as named, table_of, happening}
+use Rattle.typed_unit.specs.Texts.{Text, texts_of}
 use Rattle.flow_graph.specs.declared.event.Event.{Event}
 use Rattle.flow_graph.specs.declared.graph.Block.{Block}
 use Rattle.flow_graph.specs.Values.{event_of, block_of, ending_of}

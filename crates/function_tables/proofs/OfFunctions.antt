@@ -11,8 +11,8 @@ use Rattle.c_typing.specs.Functions.{Defined}
 use Rattle.checker_graphs.specs.Graphs.{IsFlowGraphIn}
 use Rattle.checker_graphs.proofs.Building.{graph-built}
 use Rattle.checker_graphs.proofs.Units.{functions-are, place-filed}
-use Rattle.checker_programs.specs.Texts.{Text, functions_in}
-use Rattle.checker_programs.specs.Units.{texts_of}
+use Rattle.checker_programs.specs.Texts.{functions_in}
+use Rattle.typed_unit.specs.Texts.{Text, texts_of}
 use Rattle.flow_graph.specs.Bodies.{HasTraces}
 use Rattle.flow_graph.specs.Seen.{graph_in}
 use Rattle.function_graphs.specs.Bodies.{definition_in}

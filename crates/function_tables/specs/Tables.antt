@@ -6,7 +6,8 @@ use Rattle.c_tree.specs.Node.{Node}
 use Rattle.c_typing.specs.Functions.{Defined}
 use Rattle.call_graph.specs.Followed.{followed}
 use Rattle.checker_graphs.specs.Graphs.{AreGraphs, IsFlowGraphIn}
-use Rattle.checker_programs.specs.Texts.{Text, functions_in, function_of, table_of, happening}
+use Rattle.checker_programs.specs.Texts.{functions_in, function_of, table_of, happening}
+use Rattle.typed_unit.specs.Texts.{Text}
 use Rattle.flow_graph.specs.Seen.{graph_in}
 use Rattle.function_tables.specs.declared.table.BlockTable.{BlockTable}
 use Rattle.function_tables.specs.declared.table.FunctionTable.{FunctionTable}

@@ -4,7 +4,7 @@ ghost use Rattle.std.specs.Prelude.{◌≡◌, ◌≤◌, ◌<◌, length, IfOk}
 ghost use Rattle.c_typing.specs.Options.{◌>?◌};
 ghost use Rattle.call_graph.specs.Followed.{followed};
 ghost use Rattle.checker_programs.specs.Texts.{function_of as named};
-ghost use Rattle.checker_programs.specs.Units.{texts_of};
+ghost use Rattle.typed_unit.specs.Texts.{texts_of};
 ghost use Rattle.flow_graph.specs.Seen.{graph_in};
 ghost use Rattle.flow_graph.specs.Values.{block_of, ending_of};
 ghost use Rattle.function_tables.specs.Ends.{call_in};

@@ -2,7 +2,7 @@
 
 ghost use Rattle.std.specs.Prelude.{◌≡◌, ◌≤◌, ◌<◌, length, Some, slice_get, IfOk};
 ghost use Rattle.c_typing.specs.Functions.{Defined};
-ghost use Rattle.checker_programs.specs.Units.{texts_of};
+ghost use Rattle.typed_unit.specs.Texts.{texts_of};
 ghost use Rattle.function_tables.specs.Tables.{IsFunctionTable, AreTables};
 ghost use Rattle.metal_tree.specs.Whole.{machine_view};
 ghost use Rattle.programs.specs.Definitions.{definitions, trees_in};

@@ -6,8 +6,8 @@ use Rattle.std.specs.Option.{option_map}
 use Rattle.c_tree.specs.Views.{nodes_of}
 use Rattle.c_tree.specs.declared.place.Place.{Place}
 use Rattle.c_typing.specs.Functions.{Defined}
-use Rattle.checker_programs.specs.Texts.{Text, functions_in}
-use Rattle.checker_programs.specs.Units.{text_of, texts_of}
+use Rattle.checker_programs.specs.Texts.{functions_in}
+use Rattle.typed_unit.specs.Texts.{Text, text_of, texts_of}
 use Rattle.programs.specs.Definitions.{AreNumbered, definitions, trees_in}
 use Rattle.programs.specs.Repeats.{first_repeat, link_fault, name_and_place, repeats}
 use Rattle.typed_unit.specs.declared.typed_unit.TypedUnit.{TypedUnit}

@@ -5,7 +5,7 @@ use Rattle.std.proofs.lemmas.List.{length-map}
 use Rattle.std.proofs.lemmas.Option.{slice_get_within}
 use Rattle.c_tree.specs.declared.place.Place.{Place}
 use Rattle.c_tree.specs.declared.token.Token.{Token}
-use Rattle.checker_programs.specs.Texts.{Text}
+use Rattle.typed_unit.specs.Texts.{Text}
 use Rattle.judged_files.specs.Linking.{HaveToken, IsWhere}
 use Rattle.request_files.specs.Stages.{AreNamed, IsNamed}
 use Rattle.request_files.specs.Views.{text_of, texts_of}

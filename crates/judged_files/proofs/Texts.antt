@@ -8,7 +8,8 @@ use Rattle.c_reading.specs.Pieces.{beginning}
 use Rattle.c_reading.specs.Reading.{lexemes}
 use Rattle.c_reading.specs.declared.mode.Mode.TheVariants.{C}
 use Rattle.c_typing.specs.Functions.{Defined, functions_of}
-use Rattle.checker_programs.specs.Texts.{Text, functions_in}
+use Rattle.checker_programs.specs.Texts.{functions_in}
+use Rattle.typed_unit.specs.Texts.{Text}
 use Rattle.judged_files.specs.Linking.{HaveToken}
 use Rattle.judged_files.proofs.Defining.{Each, each-also, IsNamedAt, AreNamedAt, few_functions, functions_named}
 use Rattle.judged_files.proofs.Sizes.{few_lexemes, few_stripped}

@@ -1,6 +1,6 @@
 -- THE FIRST FAULT of a request, and why its files gave no reports.
 use Rattle.std.specs.Prelude.{◌≡◌, ◌⊎◌, ℕ, List, Option}
-use Rattle.checker_programs.specs.Texts.{Text}
+use Rattle.typed_unit.specs.Texts.{Text}
 use Rattle.judged_files.specs.Judged.{AreAllSound}
 use Rattle.judged_files.specs.Linking.{AreUnlinked, HaveLinkFault}
 use Rattle.judged_files.specs.declared.unjudged.Unjudged.{Unjudged}

@@ -3,7 +3,8 @@
 use Rattle.std.specs.Prelude.{◌≡◌, ℕ, ◌+◌, List, ◌++◌, length, Option, None}
 use Rattle.mx_base.specs.Names.{HasNoRepeats}
 use Rattle.checker_programs.specs.Reported.{AreReports}
-use Rattle.checker_programs.specs.Texts.{Text, functions_in}
+use Rattle.checker_programs.specs.Texts.{functions_in}
+use Rattle.typed_unit.specs.Texts.{Text}
 use Rattle.checker_reports.specs.Checkers.{checkers_in}
 use Rattle.metal_machines.specs.Machine.{Machine}
 use Rattle.programs.specs.Repeats.{link_fault}

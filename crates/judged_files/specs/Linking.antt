@@ -2,7 +2,8 @@
 use Rattle.std.specs.Prelude.{◌≡◌, ℕ, List, Contains, Some, slice_get}
 use Rattle.c_tree.specs.declared.place.Place.{Place}
 use Rattle.c_tree.specs.declared.token.Token.{Token}
-use Rattle.checker_programs.specs.Texts.{Text, functions_in}
+use Rattle.checker_programs.specs.Texts.{functions_in}
+use Rattle.typed_unit.specs.Texts.{Text}
 use Rattle.metal_machines.specs.Machine.{Machine}
 use Rattle.programs.specs.Repeats.{link_fault}
 use Rattle.judged_files.specs.Judged.{HaveMeanings}

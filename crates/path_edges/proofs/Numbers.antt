@@ -11,7 +11,8 @@ use Rattle.checker_model.specs.Happenings.{Function, Site}
 use Rattle.checker_model.specs.Reports.{Checker}
 use Rattle.checker_model.proofs.Sources.{given, untested}
 use Rattle.checker_programs.specs.Roots.{followed_into}
-use Rattle.checker_programs.specs.Texts.{Text, functions_in, function_of, callee_of, table_of, site}
+use Rattle.checker_programs.specs.Texts.{functions_in, function_of, callee_of, table_of, site}
+use Rattle.typed_unit.specs.Texts.{Text}
 use Rattle.metal_machines.specs.Machine.{Machine}
 use Rattle.programs.specs.Calls.{body_called}
 use Rattle.tabulation_rules.specs.LeastSets.{HasNumbers}

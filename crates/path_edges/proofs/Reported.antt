@@ -8,7 +8,7 @@ use Rattle.checker_model.specs.Reports.{Checker}
 use Rattle.checker_model.proofs.Laws.{local}
 use Rattle.checker_programs.specs.Paths.{program}
 use Rattle.checker_programs.specs.Relevant.{Relevant}
-use Rattle.checker_programs.specs.Texts.{Text}
+use Rattle.typed_unit.specs.Texts.{Text}
 use Rattle.checker_graphs.proofs.GraphTraces.{graphs_report, closed_in_graphs}
 use Rattle.least_set.specs.Logs.{SomeGives}
 use Rattle.path_edges.specs.declared.edges.Edge.{Edge}

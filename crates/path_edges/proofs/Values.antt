@@ -13,7 +13,8 @@ use Rattle.checker_model.specs.Choices.{State}
 use Rattle.checker_model.specs.Happenings.{Function, Site}
 use Rattle.checker_model.specs.Reports.{Checker}
 use Rattle.checker_programs.specs.Relevant.{Relevant}
-use Rattle.checker_programs.specs.Texts.{Text, site}
+use Rattle.checker_programs.specs.Texts.{site}
+use Rattle.typed_unit.specs.Texts.{Text}
 use Rattle.path_edges.specs.declared.edges.Context.{Context}
 use Rattle.path_edges.specs.declared.edges.Edge.{Edge}
 use Rattle.path_edges.specs.declared.edges.Waiter.{Waiter}

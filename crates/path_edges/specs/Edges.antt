@@ -9,7 +9,8 @@ use Rattle.std.specs.Prelude.{slice_get}
 use Rattle.checker_graphs.specs.Graphs.{function_at, graph_at}
 use Rattle.checker_model.specs.Choices.{State}
 use Rattle.checker_model.specs.Happenings.{Site}
-use Rattle.checker_programs.specs.Texts.{Text, site}
+use Rattle.checker_programs.specs.Texts.{site}
+use Rattle.typed_unit.specs.Texts.{Text}
 use Rattle.path_edges.specs.declared.edges.Context.{Context}
 use Rattle.path_edges.specs.declared.edges.Edge.{Edge}
 use Rattle.path_edges.specs.declared.edges.Waiter.{Waiter}

@@ -5,7 +5,7 @@ use Rattle.checker_graphs.specs.Graphs.{AreGraphs}
 use Rattle.checker_model.specs.Checkers.{model}
 use Rattle.checker_model.specs.Reports.{Checker}
 use Rattle.checker_programs.specs.Paths.{program}
-use Rattle.checker_programs.specs.Texts.{Text}
+use Rattle.typed_unit.specs.Texts.{Text}
 use Rattle.least_set.specs.Logs.{SomeGives}
 use Rattle.path_edges.specs.declared.edges.Edge.{Edge}
 use Rattle.path_edges.specs.Relations.{IsClosedLog, IsLeastLog, ShowsAt}

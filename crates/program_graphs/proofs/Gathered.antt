@@ -6,7 +6,7 @@ use Rattle.c_paths.specs.SoundGraphs.{IsSoundGraph}
 use Rattle.c_typing.specs.Functions.{Defined}
 use Rattle.checker_graphs.specs.Graphs.{AreGraphs, AreFirstGraphs}
 use Rattle.checker_graphs.proofs.Building.{graphs-next, graphs-all}
-use Rattle.checker_programs.specs.Units.{texts_of}
+use Rattle.typed_unit.specs.Texts.{texts_of}
 use Rattle.flow_graph.specs.Bodies.{HasTraces}
 use Rattle.flow_graph.specs.declared.graph.Graph.{Graph}
 use Rattle.flow_graph.specs.Seen.{graph_in}

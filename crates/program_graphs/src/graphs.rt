@@ -2,7 +2,7 @@
 
 ghost use Rattle.std.specs.Prelude.{IfOk};
 ghost use Rattle.checker_graphs.specs.Graphs.{AreGraphs};
-ghost use Rattle.checker_programs.specs.Units.{texts_of};
+ghost use Rattle.typed_unit.specs.Texts.{texts_of};
 ghost use Rattle.program_graphs.specs.Seen.{graphs_in};
 
 use flow_graph::Graph;

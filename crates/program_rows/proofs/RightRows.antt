@@ -13,8 +13,8 @@ use Rattle.checker_graphs.specs.Graphs.{function_at}
 use Rattle.checker_graphs.proofs.Units.{functions-are, objects-are, place-filed}
 use Rattle.checker_model.specs.Happenings.{Function, Site}
 use Rattle.checker_model.specs.Reports.{Checker}
-use Rattle.checker_programs.specs.Texts.{Text, functions_in, function_of, table_of, objects_in, site}
-use Rattle.checker_programs.specs.Units.{texts_of}
+use Rattle.checker_programs.specs.Texts.{functions_in, function_of, table_of, objects_in, site}
+use Rattle.typed_unit.specs.Texts.{Text, texts_of}
 use Rattle.flow_graph.specs.Seen.{graph_in}
 use Rattle.function_tables.specs.declared.table.FunctionTable.{FunctionTable}
 use Rattle.function_tables.specs.Tables.{AreTables}

@@ -14,8 +14,8 @@ use Rattle.call_graph.specs.Followed.{machine_calls, body_followed, followed}
 use Rattle.checker_graphs.proofs.Units.{functions-are, objects-are, place-filed}
 use Rattle.checker_model.specs.Calls.{actuals_of}
 use Rattle.checker_model.specs.Reports.{Checker}
-use Rattle.checker_programs.specs.Texts.{Text, functions_in, function_of, table_of, callee_of, site}
-use Rattle.checker_programs.specs.Units.{texts_of}
+use Rattle.checker_programs.specs.Texts.{functions_in, function_of, table_of, callee_of, site}
+use Rattle.typed_unit.specs.Texts.{Text, texts_of}
 use Rattle.flow_graph.specs.Seen.{graph_in}
 use Rattle.function_tables.specs.declared.table.BlockTable.{BlockTable}
 use Rattle.function_tables.specs.declared.table.FunctionTable.{FunctionTable}

@@ -10,7 +10,8 @@ use Rattle.checker_graphs.specs.Graphs.{function_at}
 use Rattle.checker_model.specs.Happenings.{Function}
 use Rattle.checker_model.specs.Reports.{Checker}
 use Rattle.checker_programs.specs.Relevant.{Relevant}
-use Rattle.checker_programs.specs.Texts.{Text, functions_in, function_of}
+use Rattle.checker_programs.specs.Texts.{functions_in, function_of}
+use Rattle.typed_unit.specs.Texts.{Text}
 use Rattle.relevant_lists.specs.Filed.{AreFiled}
 use Rattle.relevant_lists.specs.Lists.{AreLists}
 use Rattle.relevant_steps.specs.Steps.{Member}

@@ -4,7 +4,8 @@ use Rattle.c_objects.specs.Objects.{Object, IsObject}
 use Rattle.c_typing.specs.Functions.{Defined}
 use Rattle.checker_model.specs.Reports.{Checker}
 use Rattle.checker_programs.specs.Relevant.{Relevant}
-use Rattle.checker_programs.specs.Texts.{Text, functions_in, function_of}
+use Rattle.checker_programs.specs.Texts.{functions_in, function_of}
+use Rattle.typed_unit.specs.Texts.{Text}
 use Rattle.least_set.specs.Logs.{IsExactly}
 
 -- THE LISTS of a program under a checker: for each function one, by its number, with exactly the objects that are relevant there; and each

@@ -2,7 +2,7 @@
 
 ghost use Rattle.std.specs.Prelude.{◌≡◌, ◌≤◌, map, IfOk};
 ghost use Rattle.checker_model.specs.Reports.{Checker};
-ghost use Rattle.checker_programs.specs.Units.{texts_of};
+ghost use Rattle.typed_unit.specs.Texts.{texts_of};
 ghost use Rattle.function_tables.specs.Tables.{AreTables};
 ghost use Rattle.relevant_lists.specs.Lists.{AreLists};
 

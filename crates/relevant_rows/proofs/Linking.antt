@@ -10,7 +10,8 @@ use Rattle.checker_graphs.specs.Graphs.{AreGraphs, function_at}
 use Rattle.checker_model.specs.Calls.{passed, into, reached, out}
 use Rattle.checker_model.specs.Happenings.{Function, Site}
 use Rattle.checker_model.specs.Reports.{Checker}
-use Rattle.checker_programs.specs.Texts.{Text, functions_in, function_of, objects_in}
+use Rattle.checker_programs.specs.Texts.{functions_in, function_of, objects_in}
+use Rattle.typed_unit.specs.Texts.{Text}
 use Rattle.flow_graph.specs.declared.event.Event as code
 use Rattle.flow_graph.specs.Values.{event_of}
 use Rattle.linked_objects.specs.Linked.{AreLinkedAt, AreLinkedOver}

@@ -4,7 +4,8 @@ use Rattle.c_paths.specs.Building.{Graph}
 use Rattle.c_paths.specs.Events.{Event}
 use Rattle.checker_model.specs.Happenings.{Function, Site}
 use Rattle.checker_model.specs.Reports.{Checker}
-use Rattle.checker_programs.specs.Texts.{Text, functions_in, objects_in}
+use Rattle.checker_programs.specs.Texts.{functions_in, objects_in}
+use Rattle.typed_unit.specs.Texts.{Text}
 use Rattle.flow_graph.specs.Values.{event_of}
 use Rattle.objects.specs.Units.{facts_in}
 use Rattle.reached_blocks.specs.Reached.{Happens}

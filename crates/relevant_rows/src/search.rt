@@ -7,7 +7,8 @@ ghost use Rattle.checker_graphs.specs.Graphs.{AreGraphs, AreApartPlaces, functio
 ghost use Rattle.checker_model.specs.Happenings.{Function};
 ghost use Rattle.checker_model.specs.Reports.{Checker};
 ghost use Rattle.checker_programs.specs.Relevant.{Relevant};
-ghost use Rattle.checker_programs.specs.Texts.{Text, functions_in};
+ghost use Rattle.checker_programs.specs.Texts.{functions_in};
+ghost use Rattle.typed_unit.specs.Texts.{Text};
 ghost use Rattle.least_set.specs.Logs.{IsExactly, IsOnce};
 ghost use Rattle.relevant_rows.specs.Rows.{AreRows};
 ghost use Rattle.relevant_steps.specs.Steps.{Base};

@@ -17,7 +17,8 @@ use Rattle.checker_graphs.proofs.Numbers.{defines-is, found-at}
 use Rattle.checker_model.specs.Choices.{applied}
 use Rattle.checker_model.specs.Happenings.{Function}
 use Rattle.checker_model.proofs.Sources.{tested}
-use Rattle.checker_programs.specs.Texts.{Text, functions_in, function_of, defines, defined_as, empty, with_close, definition_of, flow_facts}
+use Rattle.checker_programs.specs.Texts.{functions_in, function_of, defines, defined_as, empty, with_close, definition_of, flow_facts}
+use Rattle.typed_unit.specs.Texts.{Text}
 use Rattle.hole_matching.specs.Alternatives.{has_end_of_path, all_hold, object_taken, bound_object}
 use Rattle.hole_matching.specs.Holes.{Setting}
 use Rattle.hole_matching.specs.Matched.{nothing_taken}

@@ -11,7 +11,8 @@ use Rattle.checker_model.specs.Happenings.{Function, Happening}
 use Rattle.checker_model.specs.Reports.{Checker}
 use Rattle.checker_programs.specs.Paths.{program}
 use Rattle.checker_programs.specs.Relevant.{Relevant, Bound, Taken, Given, PassedBy, PassedOn, HandedBy, HandedBack}
-use Rattle.checker_programs.specs.Texts.{Text, functions_in, happening}
+use Rattle.checker_programs.specs.Texts.{functions_in, happening}
+use Rattle.typed_unit.specs.Texts.{Text}
 use Rattle.least_set.specs.OnePremise.{Least, LeastBase, LeastOne}
 use Rattle.path_theory.specs.Relevant.{EventOf}
 use Rattle.reached_blocks.specs.Reached.{Happens}

@@ -17,7 +17,8 @@ use Rattle.checker_model.specs.Happenings.{Function, Happening, Site}
 use Rattle.checker_model.specs.Reports.{Checker}
 use Rattle.checker_programs.specs.Paths.{program}
 use Rattle.checker_programs.specs.Roots.{followed_into, IsRootFunction}
-use Rattle.checker_programs.specs.Texts.{Text, functions_in, function_of, table_of, happening, site}
+use Rattle.checker_programs.specs.Texts.{functions_in, function_of, table_of, happening, site}
+use Rattle.typed_unit.specs.Texts.{Text}
 use Rattle.path_theory.specs.Relevant.{EventOf, CallOf}
 use Rattle.reached_blocks.specs.Reached.{Happens, Called}
 use Rattle.reached_blocks.proofs.ReachedWalks.{event-reached, event-met, call-reached, call-met}

@@ -12,7 +12,8 @@ use Rattle.checker_model.specs.Checkers.{source_at}
 use Rattle.checker_model.specs.Choices.{Binds}
 use Rattle.checker_model.specs.Happenings.{Function, Site}
 use Rattle.checker_model.specs.Reports.{Checker}
-use Rattle.checker_programs.specs.Texts.{Text, functions_in, table_of, happening, site}
+use Rattle.checker_programs.specs.Texts.{functions_in, table_of, happening, site}
+use Rattle.typed_unit.specs.Texts.{Text}
 use Rattle.reached_blocks.specs.Reached.{Happens, Called}
 
 -- an object of the function with a number

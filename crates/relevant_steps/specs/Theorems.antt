@@ -6,7 +6,8 @@ use Rattle.checker_graphs.specs.Graphs.{AreGraphs, AreApartPlaces, function_at}
 use Rattle.checker_model.specs.Happenings.{Function}
 use Rattle.checker_model.specs.Reports.{Checker}
 use Rattle.checker_programs.specs.Relevant.{Relevant}
-use Rattle.checker_programs.specs.Texts.{Text, functions_in}
+use Rattle.checker_programs.specs.Texts.{functions_in}
+use Rattle.typed_unit.specs.Texts.{Text}
 use Rattle.least_set.specs.OnePremise.{Least}
 use Rattle.relevant_steps.specs.Steps.{Base, Goes}
 

@@ -2,7 +2,7 @@
 use Rattle.std.proofs.Common.{◌≡◌, ℕ, zero, suc, ◌+◌, ◌-◌, ◌<◌, ◌≤◌, List, [], ◌∷◌, ◌++◌, length, Option, Some, slice_get, refl, sym, ap, ◌∙◌, subst, arith, length-append}
 use Rattle.std.specs.Borrow.{Bor}
 use Rattle.mx_io.specs.Reads.{Stands}
-use Rattle.checker_programs.specs.Texts.{Text}
+use Rattle.typed_unit.specs.Texts.{Text}
 use Rattle.metal_machines.specs.Machine.{Machine}
 use Rattle.request_files.specs.Faults.{Located, HasFault, total_limit}
 use Rattle.request_files.specs.InTurn.{AnswersRequest, AnswersUnread, AreRead, AreReadCheckers, AreReadSources, AreReadFiles, IsTurnFrom, FailedFrom, FaultyFrom}

@@ -5,7 +5,7 @@ use Rattle.c_reading.specs.Strip.{stripped}
 use Rattle.c_lexer.specs.Tokens.{TokenList}
 use Rattle.c_typing.specs.Unit.{IsTyping}
 use Rattle.checker_front_end.specs.Checkers.{IsChecker}
-use Rattle.checker_programs.specs.Texts.{Text}
+use Rattle.typed_unit.specs.Texts.{Text}
 use Rattle.front_end.specs.Sources.{AreTokensOf, AreTypedTrees}
 use Rattle.metal_machines.specs.Machine.{Machine}
 use Rattle.request_files.specs.Turns.{Kind, CheckerFile, SourceFile}

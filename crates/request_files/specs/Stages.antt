@@ -6,7 +6,7 @@ use Rattle.checker_front_end.specs.Checkers.{IsChecker}
 use Rattle.checker_front_end.specs.declared.fault.Faulty as found_in_checker
 use Rattle.checker_front_end.specs.declared.fault.Refusal as checker_refusal
 use Rattle.checker_front_end.specs.declared.fault.Refusal.TheVariants as checker_refusals
-use Rattle.checker_programs.specs.Texts.{Text}
+use Rattle.typed_unit.specs.Texts.{Text}
 use Rattle.front_end.specs.declared.fault.Faulty as found_in_text
 use Rattle.front_end.specs.declared.fault.Refusal as text_refusal
 use Rattle.front_end.specs.declared.fault.Refusal.TheVariants as text_refusals

@@ -1,8 +1,8 @@
 -- What the program keeps of files, as the values that definitions speak of.
 use Rattle.std.specs.Prelude.{ℕ, List, map}
 use Rattle.std.specs.Borrow.{Bor}
-use Rattle.checker_programs.specs.Texts.{Text}
-pub use Rattle.checker_programs.specs.Units.{text_of}
+use Rattle.typed_unit.specs.Texts.{Text}
+pub use Rattle.typed_unit.specs.Texts.{text_of}
 use Rattle.metal_machines.specs.Machine as machines
 use Rattle.metal_tree.specs.Whole.{machine_view}
 use Rattle.metal_tree.specs.declared.machine.Machine.{Machine}

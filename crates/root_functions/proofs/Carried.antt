@@ -4,7 +4,8 @@ use Rattle.std.proofs.Math.Logic.{∥∥₁_map}
 use Rattle.std.proofs.lemmas.Option.{slice_get_within, slice_get_cases}
 use Rattle.checker_programs.specs.Roots as program
 use Rattle.checker_programs.specs.Roots.{Leads, Itself, Onward}
-use Rattle.checker_programs.specs.Texts.{Text, functions_in}
+use Rattle.checker_programs.specs.Texts.{functions_in}
+use Rattle.typed_unit.specs.Texts.{Text}
 use Rattle.graph_roots.specs.declared.callees.Callees.{Callees}
 use Rattle.graph_roots.specs.Graphs as graph
 use Rattle.graph_roots.specs.Graphs.{LeadsIn}

@@ -14,7 +14,7 @@ use Rattle.c_typing.specs.Options.{◌>?◌}
 use Rattle.call_graph.specs.Followed.{machine_calls, body_followed, followed}
 use Rattle.checker_programs.specs.Roots.{Leads}
 use Rattle.checker_programs.specs.Texts.{functions_in, table_of, flow_facts, function_of}
-use Rattle.checker_programs.specs.Units.{texts_of}
+use Rattle.typed_unit.specs.Texts.{texts_of}
 use Rattle.function_graphs.specs.Known.{facts_in}
 use Rattle.graph_roots.specs.declared.callees.Callees.{Callees}
 use Rattle.least_set.specs.Logs.{IsExactly}

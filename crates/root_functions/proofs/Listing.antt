@@ -10,7 +10,7 @@ use Rattle.c_tree.specs.Node.{Node}
 use Rattle.c_tree.specs.Views.{node_of}
 use Rattle.call_graph.specs.Followed.{followed}
 use Rattle.call_sites.specs.Calls.{nodes_at}
-use Rattle.checker_programs.specs.Texts.{Text}
+use Rattle.typed_unit.specs.Texts.{Text}
 use Rattle.graph_roots.specs.declared.callees.Callees.{Callees}
 use Rattle.least_set.specs.Logs.{IsExactly, SomeGives}
 use Rattle.least_set.proofs.Enumerating.{exactly_more, exactly_skip}

@@ -15,7 +15,7 @@ use Rattle.c_typing.specs.Roles.{Plain}
 use Rattle.c_typing.specs.Scopes.{Scopes, at_start}
 use Rattle.c_paths.specs.Facts.{Facts}
 use Rattle.checker_programs.specs.Texts.{functions_in, table_of, flow_facts, function_of}
-use Rattle.checker_programs.specs.Units.{texts_of}
+use Rattle.typed_unit.specs.Texts.{texts_of}
 use Rattle.function_graphs.specs.Known.{facts_of, facts_in}
 use Rattle.programs.specs.Calls.{table_in}
 use Rattle.programs.specs.Definitions.{definitions, trees_in}

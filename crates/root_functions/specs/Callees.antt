@@ -4,7 +4,7 @@ use Rattle.std.specs.Borrow.{Bor}
 use Rattle.c_tree.specs.Node.{Node}
 use Rattle.call_graph.specs.Followed.{followed}
 pub use Rattle.checker_programs.specs.Roots.{Leads}
-use Rattle.checker_programs.specs.Texts.{Text}
+use Rattle.typed_unit.specs.Texts.{Text}
 use Rattle.graph_roots.specs.declared.callees.Callees.{Callees}
 use Rattle.graph_roots.specs.Graphs.{LeadsIn}
 use Rattle.least_set.specs.Logs.{IsExactly, SomeGives}

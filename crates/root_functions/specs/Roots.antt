@@ -1,7 +1,8 @@
 -- The roots of a program under a checker, by their numbers.
 use Rattle.std.specs.Prelude.{ℕ, List, length}
 use Rattle.checker_programs.specs.Roots.{IsRoot, IsUncalled}
-use Rattle.checker_programs.specs.Texts.{Text, functions_in}
+use Rattle.checker_programs.specs.Texts.{functions_in}
+use Rattle.typed_unit.specs.Texts.{Text}
 use Rattle.graph_roots.specs.Listed.{AreListed}
 use Rattle.metal_machines.specs.Machine.{Machine}
 

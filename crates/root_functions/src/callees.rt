@@ -3,7 +3,7 @@
 ghost use Rattle.std.specs.Prelude.{◌≡◌, ◌<◌, ◌^◌, ◌++◌, length, IfOk, OnOk};
 ghost use Rattle.std.specs.Option.{option_map};
 ghost use Rattle.call_sites.specs.Calls.{nodes_at};
-ghost use Rattle.checker_programs.specs.Units.{texts_of};
+ghost use Rattle.typed_unit.specs.Texts.{texts_of};
 ghost use Rattle.graph_roots.specs.Graphs.{StaysWithin};
 ghost use Rattle.least_set.specs.Logs.{IsExactly};
 ghost use Rattle.metal_tree.specs.Whole.{machine_view};

@@ -1,7 +1,7 @@
 //! The roots of a program, in order.
 
 ghost use Rattle.std.specs.Prelude.{◌≡◌, length, map, IfOk};
-ghost use Rattle.checker_programs.specs.Units.{texts_of};
+ghost use Rattle.typed_unit.specs.Texts.{texts_of};
 ghost use Rattle.metal_tree.specs.Whole.{machine_view};
 ghost use Rattle.programs.specs.Definitions.{definitions, trees_in};
 ghost use Rattle.root_functions.specs.Callees.{AreBelow};

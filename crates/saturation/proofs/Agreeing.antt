@@ -5,7 +5,8 @@ use Rattle.c_paths.specs.Membership.{Among}
 use Rattle.c_tree.specs.declared.token.Token.{Token}
 use Rattle.checker_model.specs.Reports.{Checker, token_at}
 use Rattle.checker_programs.specs.Reported.{IsReported}
-use Rattle.checker_programs.specs.Texts.{Text, tokens_of}
+use Rattle.checker_programs.specs.Texts.{tokens_of}
+use Rattle.typed_unit.specs.Texts.{Text}
 use Rattle.saturation.proofs.Compared.{AreAlike, alike}
 use Rattle.saturation.proofs.OwnFiles.{StandInOwnFiles}
 use Rattle.saturation.proofs.Written.{IsWritten, written}

@@ -8,7 +8,7 @@ use Rattle.checker_model.specs.Checkers.{model}
 use Rattle.checker_model.specs.Reports.{Checker}
 use Rattle.checker_programs.specs.Paths.{program}
 use Rattle.checker_programs.specs.Reported.{AreReports, IsReported}
-use Rattle.checker_programs.specs.Texts.{Text}
+use Rattle.typed_unit.specs.Texts.{Text}
 use Rattle.path_theory.specs.Paths.{Reported}
 use Rattle.report_lists.specs.Repeats.{AgreeWhereEqual}
 use Rattle.report_model.specs.Order.{report_cmp}

@@ -15,7 +15,8 @@ use Rattle.checker_model.specs.Choices.{State, Taken, taken, taken_global}
 use Rattle.checker_model.specs.Happenings.{Function, Happening}
 use Rattle.checker_model.specs.Reports.{Checker, first_token, token_at, report_at, report_of, Fires, FiresGlobal}
 use Rattle.checker_programs.specs.Paths.{program}
-use Rattle.checker_programs.specs.Texts.{Text, tokens_of, happening}
+use Rattle.checker_programs.specs.Texts.{tokens_of, happening}
+use Rattle.typed_unit.specs.Texts.{Text}
 use Rattle.saturation.proofs.OwnFiles.{StandInOwnFiles}
 use Rattle.hole_matching.specs.Message.{from_place, is_at}
 use Rattle.least_set.specs.Same.{both}

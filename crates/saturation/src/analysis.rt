@@ -2,7 +2,7 @@
 
 ghost use Rattle.std.specs.Prelude.{◌≤◌, IfOk, [], ◌∷◌};
 ghost use Rattle.checker_programs.specs.Reported.{AreReports};
-ghost use Rattle.checker_programs.specs.Units.{texts_of};
+ghost use Rattle.typed_unit.specs.Texts.{texts_of};
 ghost use Rattle.saturation.specs.Reporting.{checker_of};
 
 use crate::checked_programs::reports_of;

@@ -3,7 +3,7 @@
 ghost use Rattle.std.specs.Prelude.{◌≤◌, ◌↔◌, Contains, IfOk};
 ghost use Rattle.checker_model.specs.Checkers.{model};
 ghost use Rattle.checker_programs.specs.Paths.{program as paths};
-ghost use Rattle.checker_programs.specs.Units.{texts_of};
+ghost use Rattle.typed_unit.specs.Texts.{texts_of};
 ghost use Rattle.path_theory.specs.Paths.{Reported};
 ghost use Rattle.saturation.specs.Reporting.{checker_of};
 ghost use Rattle.report_model.specs.declared.report.Report.{Report as Said};

@@ -1,3 +1,4 @@
 pub mod Tables
 pub mod Functions
 pub mod Places
+pub mod Texts

@@ -15,7 +15,8 @@ use Rattle.checker_model.specs.Happenings.{Function, Site}
 use Rattle.checker_model.specs.Reports.{Checker}
 use Rattle.checker_programs.specs.Relevant.{Relevant}
 use Rattle.checker_programs.specs.Roots.{followed_into}
-use Rattle.checker_programs.specs.Texts.{Text, site}
+use Rattle.checker_programs.specs.Texts.{site}
+use Rattle.typed_unit.specs.Texts.{Text}
 use Rattle.edge_steps.specs.Steps.{StandsBehind}
 use Rattle.edge_steps.proofs.Views.{tuple_with, tuple-there}
 use Rattle.path_edges.specs.declared.edges.Edge.{Edge}

@@ -18,7 +18,8 @@ use Rattle.checker_model.specs.Happenings.{Function, Site}
 use Rattle.checker_model.specs.Reports.{Checker}
 use Rattle.checker_programs.specs.Relevant.{Relevant}
 use Rattle.checker_programs.specs.Roots.{followed_into}
-use Rattle.checker_programs.specs.Texts.{Text, functions_in, function_of, site, table_of}
+use Rattle.checker_programs.specs.Texts.{functions_in, function_of, site, table_of}
+use Rattle.typed_unit.specs.Texts.{Text}
 use Rattle.engine_tables.specs.declared.frames.Frame.{Frame}
 use Rattle.engine_tables.specs.declared.tables.Tables.{Tables}
 use Rattle.engine_tables.specs.Known.{checker_in, texts_in, graphs_in}

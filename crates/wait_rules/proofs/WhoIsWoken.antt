@@ -9,7 +9,7 @@ use Rattle.checker_model.specs.Choices.{State}
 use Rattle.checker_model.specs.Happenings.{Function, Site}
 use Rattle.checker_model.specs.Reports.{Checker}
 use Rattle.checker_programs.specs.Relevant.{Relevant}
-use Rattle.checker_programs.specs.Texts.{Text}
+use Rattle.typed_unit.specs.Texts.{Text}
 use Rattle.edge_steps.specs.Steps.{StandsBehind, woken_edge}
 use Rattle.edge_steps.proofs.FollowedObjects.{return-over}
 use Rattle.edge_steps.proofs.Lists.{exactly-none}

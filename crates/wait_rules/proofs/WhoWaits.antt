@@ -10,7 +10,8 @@ use Rattle.checker_model.specs.Choices.{State}
 use Rattle.checker_model.specs.Happenings.{Function, Site}
 use Rattle.checker_model.specs.Reports.{Checker}
 use Rattle.checker_programs.specs.Relevant.{Relevant}
-use Rattle.checker_programs.specs.Texts.{Text, functions_in}
+use Rattle.checker_programs.specs.Texts.{functions_in}
+use Rattle.typed_unit.specs.Texts.{Text}
 use Rattle.edge_steps.specs.Steps.{StandsBehind, wait_for}
 use Rattle.edge_steps.proofs.FollowedObjects.{call-over}
 use Rattle.edge_steps.proofs.Lists.{exactly-none}

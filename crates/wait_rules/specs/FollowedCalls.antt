@@ -4,7 +4,7 @@ use Rattle.c_paths.specs.Building.{Graph}
 use Rattle.checker_graphs.specs.Graphs.{flow_graphs, function_at}
 use Rattle.checker_model.specs.Happenings.{Function, Site}
 use Rattle.checker_model.specs.Reports.{Checker}
-use Rattle.checker_programs.specs.Texts.{Text}
+use Rattle.typed_unit.specs.Texts.{Text}
 
 module _ (c : Checker) (ts : List Text) (gs : List Graph) where
   -- this block of this function ends in a call of this site, which is followed into the callee and goes on behind it

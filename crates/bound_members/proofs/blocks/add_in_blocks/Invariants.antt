@@ -3,7 +3,7 @@ use Rattle.bound_members.specs.Bound.{BoundIn}
 use Rattle.bound_members.proofs.blocks.add_in_blocks.Given as goal
 use Rattle.c_paths.specs.Graphs.{Block}
 use Rattle.c_typing.specs.Functions.{Defined}
-use Rattle.checker_programs.specs.Texts.{Text}
+use Rattle.typed_unit.specs.Texts.{Text}
 use Rattle.function_tables.specs.Tables.{AreBlockTables}
 use Rattle.least_set.specs.Logs.{Adds, SomeGives}
 use Rattle.metal_machines.specs.Machine.{Machine}

@@ -5,7 +5,7 @@ use Rattle.bound_members.proofs.Binding.{before-none, before-next, before-all}
 use Rattle.bound_members.proofs.functions.bound.Goals as goal
 use Rattle.checker_graphs.proofs.Units.{functions-are}
 use Rattle.checker_programs.specs.Texts.{functions_in}
-use Rattle.checker_programs.specs.Units.{texts_of}
+use Rattle.typed_unit.specs.Texts.{texts_of}
 use Rattle.flow_graph.specs.Seen.{graph_in}
 use Rattle.least_set.specs.Logs.{IsExactly}
 use Rattle.programs.specs.Definitions.{definitions, trees_in}

@@ -2,7 +2,7 @@ use Rattle.std.proofs.Common.{List, map}
 use Rattle.bound_members.specs.Bound.{BoundBefore}
 use Rattle.bound_members.proofs.functions.bound.Given as goal
 use Rattle.checker_model.specs.Reports.{Checker}
-use Rattle.checker_programs.specs.Texts.{Text}
+use Rattle.typed_unit.specs.Texts.{Text}
 use Rattle.flow_graph.specs.Seen.{graph_in}
 use Rattle.function_tables.specs.Tables.{AreTables}
 use Rattle.least_set.specs.Logs.{IsExactly}

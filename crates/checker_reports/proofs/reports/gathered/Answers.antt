@@ -1,5 +1,5 @@
 use Rattle.std.proofs.Common.{map}
-use Rattle.checker_programs.specs.Units.{texts_of}
+use Rattle.typed_unit.specs.Texts.{texts_of}
 use Rattle.checker_reports.specs.Checkers.{checkers_in}
 use Rattle.checker_reports.proofs.Gathering.{gathered-none, gathered-next}
 use Rattle.least_set.proofs.Growing.{all_of}

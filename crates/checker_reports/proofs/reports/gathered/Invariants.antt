@@ -1,5 +1,5 @@
 use Rattle.std.proofs.Common.{map, take}
-use Rattle.checker_programs.specs.Units.{texts_of}
+use Rattle.typed_unit.specs.Texts.{texts_of}
 use Rattle.checker_reports.specs.Checkers.{checkers_in}
 use Rattle.metal_tree.specs.Whole.{machine_view}
 use Rattle.saturation.proofs.InOrder.{HasReports}

@@ -1,6 +1,6 @@
 use Rattle.std.proofs.Common.{◌≤◌, ◌<◌, length, arith}
 use Rattle.std.proofs.lemmas.Grind.{common_steps}
-use Rattle.checker_programs.specs.Units.{texts_of}
+use Rattle.typed_unit.specs.Texts.{texts_of}
 use Rattle.flow_graph.specs.Seen.{graph_in}
 use Rattle.flow_graph.specs.Values.{block_of}
 use Rattle.function_tables.proofs.OfBlocks.{blocks-next, blocks-all}

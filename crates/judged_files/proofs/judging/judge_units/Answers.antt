@@ -1,7 +1,7 @@
 use Rattle.std.proofs.Common.{length, ap, ◌∙◌, subst, arith}
 use Rattle.checker_programs.specs.Reported.{AreReports}
 use Rattle.checker_programs.specs.Texts.{functions_in}
-use Rattle.checker_programs.specs.Units as units
+use Rattle.typed_unit.specs.Texts as units
 use Rattle.checker_reports.specs.Checkers.{checkers_in}
 use Rattle.judged_files.specs.Linking.{HaveToken}
 use Rattle.programs.specs.Repeats.{link_fault}

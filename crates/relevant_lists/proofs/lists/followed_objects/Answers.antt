@@ -1,7 +1,7 @@
 use Rattle.std.proofs.Common.{map, length, ◌∙◌, sym, ap, subst}
 use Rattle.std.proofs.lemmas.List.{length-map}
 use Rattle.checker_graphs.proofs.Units.{functions-are, apart-texts}
-use Rattle.checker_programs.specs.Units.{texts_of}
+use Rattle.typed_unit.specs.Texts.{texts_of}
 use Rattle.flow_graph.specs.Seen.{graph_in}
 use Rattle.least_set.specs.Logs.{IsExactly}
 use Rattle.relevant_lists.specs.Filed.{AreFiled}

@@ -1,5 +1,5 @@
 use Rattle.std.proofs.Common.{◌≡◌, length}
-use Rattle.checker_programs.specs.Units.{texts_of}
+use Rattle.typed_unit.specs.Texts.{texts_of}
 use Rattle.metal_tree.specs.Whole.{machine_view}
 use Rattle.programs.specs.Definitions.{definitions, trees_in}
 use Rattle.root_functions.specs.Callees.{HaveCallees, LeadBelow}

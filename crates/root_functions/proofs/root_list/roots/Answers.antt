@@ -1,6 +1,6 @@
 use Rattle.std.proofs.Common.{◌<◌, map, length, sym, ap, ◌∙◌, subst}
 use Rattle.std.specs.Global.{Vec}
-use Rattle.checker_programs.specs.Units.{texts_of}
+use Rattle.typed_unit.specs.Texts.{texts_of}
 use Rattle.metal_tree.specs.Whole.{machine_view}
 use Rattle.programs.specs.declared.functions.FnId.{FnId}
 use Rattle.programs.specs.Definitions.{definitions, trees_in}

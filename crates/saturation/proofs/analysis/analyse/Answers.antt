@@ -1,5 +1,5 @@
 use Rattle.std.proofs.Common.{[], ◌∷◌}
-use Rattle.checker_programs.specs.Units.{texts_of}
+use Rattle.typed_unit.specs.Texts.{texts_of}
 use Rattle.saturation.proofs.Agreeing.{alone}
 use Rattle.saturation.proofs.InOrder.{of-one, in-order}
 use Rattle.saturation.proofs.OwnFiles.{own-files}
