@@ -7,23 +7,23 @@ use Rattle.std.proofs.lemmas.List.Elements.{filter_map-append, Contains-append_l
 use Rattle.block_flows.specs.Firings.{acting, ObjectActs, GlobalActs, Fire, TakenHere, TakenAt, fires_here, fire_of}
 use Rattle.block_flows.proofs.Standing.{standing, alone, no-other, walks}
 use Rattle.c_objects.specs.Objects.{Object}
-use Rattle.c_typing.specs.Options.{if_there}
-use Rattle.checker_model.specs.Checkers.{model, origins}
-use Rattle.checker_model.specs.Choices.{State, Taken, taken, taken_global}
-use Rattle.checker_model.specs.Happenings.{Function, Happening}
-use Rattle.checker_model.specs.Moves.{move_of}
-use Rattle.checker_model.specs.Reports.{Checker}
-use Rattle.event_walks.specs.Happenings.{HappensHere, ToObject, ToGlobal, Noted, Notes}
-use Rattle.event_walks.proofs.Noting.{noted-start, noted-next, noted-end}
+use Rattle.type_rules.specs.Options.{if_there}
+use Rattle.path_model.specs.CheckerModel.Checkers.{model, origins}
+use Rattle.path_model.specs.CheckerModel.Choices.{State, Taken, taken, taken_global}
+use Rattle.path_model.specs.CheckerModel.Happenings.{Function, Happening}
+use Rattle.path_model.specs.CheckerModel.Moves.{move_of}
+use Rattle.path_model.specs.CheckerModel.Reports.{Checker}
+use Rattle.path_theory.specs.EventWalks.Happenings.{HappensHere, ToObject, ToGlobal, Noted, Notes}
+use Rattle.path_theory.proofs.EventWalks.Noting.{noted-start, noted-next, noted-end}
 use Rattle.least_set.specs.Logs.{IsExactly, SomeGives}
 use Rattle.least_set.proofs.Growing.{nothing}
 use Rattle.path_theory.specs.Facts.{FactOf, NoObject, HasObject}
 use Rattle.state_tuples.specs.declared.tuple.Tuple.{Tuple}
-use Rattle.tuple_flows.specs.Behind.{IsBehind}
-use Rattle.tuple_flows.specs.Facts.{fact_of, fact_in, listed}
-use Rattle.tuple_flows.specs.Moved.{MoveFlow, MovesNone, MovesObject, IsMoved}
-use Rattle.tuple_flows.proofs.Lists.{contains-first, contains-later, contains-cases}
-use Rattle.tuple_flows.proofs.Tuples.{tuple_of}
+use Rattle.block_flows.specs.TupleFlows.Behind.{IsBehind}
+use Rattle.block_flows.specs.TupleFlows.Facts.{fact_of, fact_in, listed}
+use Rattle.block_flows.specs.TupleFlows.Moved.{MoveFlow, MovesNone, MovesObject, IsMoved}
+use Rattle.block_flows.proofs.TupleFlows.Lists.{contains-first, contains-later, contains-cases}
+use Rattle.block_flows.proofs.TupleFlows.Tuples.{tuple_of}
 
 -- lists of what some values give
 module _ {T B : Type 0} (F : T → Option B) where

@@ -4,9 +4,9 @@ use Rattle.std.specs.Prelude.{IfSome, slice_get}
 use Rattle.std.specs.List.{All}
 use Rattle.block_flows.specs.declared.taken_rules.Firing.{Firing}
 use Rattle.block_flows.specs.Firings.{IsFirstHere, IsFirstAmong}
-use Rattle.checker_model.specs.Happenings.{Function, Happening}
-use Rattle.checker_model.specs.Reports.{Checker}
-use Rattle.rule_choices.specs.declared.fired.Fired.{Fired}
+use Rattle.path_model.specs.CheckerModel.Happenings.{Function, Happening}
+use Rattle.path_model.specs.CheckerModel.Reports.{Checker}
+use Rattle.state_tuples.specs.declared.rule_choices.fired.Fired.{Fired}
 
 -- what is known of one is known of it where it is kept
 pub kept : (o q : Option (Bor Fired)) (P : Fired → Type 0) → IfSome o (λ (t : Bor Fired). q ≡ Some t) → IfSome q (λ (t : Bor Fired). P t.now)

@@ -6,39 +6,39 @@ use Rattle.std.specs.Prelude.{is_some, is_none}
 use Rattle.std.proofs.lemmas.Bool.{and_parts, eqb-true}
 use Rattle.std.proofs.lemmas.List.Elements.{All-contains}
 use Rattle.std.proofs.lemmas.List.Sums.{AllPass-from_list_all}
-use Rattle.applied_rules.proofs.OfEvents.{global_is, object_is}
-use Rattle.applied_rules.specs.declared.rules.EventRules.{EventRules}
-use Rattle.applied_rules.specs.Applied.{Applied}
-use Rattle.applied_rules.specs.Events.{applied_of, AreOfEvent}
-use Rattle.applied_rules.specs.Firsts.{first_taken, rule_taken}
+use Rattle.state_tuples.proofs.AppliedRules.OfEvents.{global_is, object_is}
+use Rattle.state_tuples.specs.declared.applied_rules.rules.EventRules.{EventRules}
+use Rattle.state_tuples.specs.AppliedRules.Applied.{Applied}
+use Rattle.state_tuples.specs.AppliedRules.Events.{applied_of, AreOfEvent}
+use Rattle.state_tuples.specs.AppliedRules.Firsts.{first_taken, rule_taken}
 use Rattle.block_flows.proofs.Fires.{fire, fires}
 use Rattle.block_flows.specs.Firings.{acting, TakenHere, fire_of}
 use Rattle.block_flows.specs.IdleEvents.{is_idle, is_within, leaves_all, AreLeft}
 use Rattle.c_objects.specs.Objects.{Object, is_object}
-use Rattle.c_paths.specs.Events.{Event}
-use Rattle.c_typing.specs.Options.{if_there}
-use Rattle.checker_model.specs.Choices.{State, stop, is_asked, is_global_asked, target_at, global_behind, object_behind, taken, taken_global, next_global, chosen}
-use Rattle.checker_model.specs.Happenings.{Function, Happening}
-use Rattle.checker_model.specs.Moves.{Move, move_of}
-use Rattle.checker_model.specs.Reports.{Checker}
+use Rattle.flow_graph.specs.CPaths.Events.{Event}
+use Rattle.type_rules.specs.Options.{if_there}
+use Rattle.path_model.specs.CheckerModel.Choices.{State, stop, is_asked, is_global_asked, target_at, global_behind, object_behind, taken, taken_global, next_global, chosen}
+use Rattle.path_model.specs.CheckerModel.Happenings.{Function, Happening}
+use Rattle.path_model.specs.CheckerModel.Moves.{Move, move_of}
+use Rattle.path_model.specs.CheckerModel.Reports.{Checker}
 use Rattle.flow_graph.specs.Values.{event_of}
-use Rattle.hole_bindings.specs.Settings.{setting_in}
+use Rattle.hole_matcher.specs.HoleBindings.Settings.{setting_in}
 use Rattle.hole_matching.specs.Holes.{Setting}
 use Rattle.least_set.proofs.Growing.{nothing}
 use Rattle.least_set.specs.Logs.{IsExactly, SomeGives}
 use Rattle.objects.specs.Units.{facts_in}
 use Rattle.path_theory.specs.Facts.{HasObject}
-use Rattle.rule_choices.specs.Asked.{Asker, GlobalState, ObjectIn}
+use Rattle.state_tuples.specs.RuleChoices.Asked.{Asker, GlobalState, ObjectIn}
 use Rattle.state_tuples.specs.declared.tuple.Tuple.{Tuple}
 use Rattle.synonyms_kills.proofs.CopiedStates.{are_targets}
 use Rattle.synonyms_kills.specs.Targets.{AreTargets, targets}
-use Rattle.tuple_flows.proofs.Events.{behind}
-use Rattle.tuple_flows.proofs.Lists.{contains-first, contains-cases}
-use Rattle.tuple_flows.proofs.MovedTuples.{none-unknown, of-targets, of-none}
-use Rattle.tuple_flows.proofs.Tuples.{same-tuple}
-use Rattle.tuple_flows.specs.Behind.{IsBehind, chosen_object, chosen_tuple}
-use Rattle.tuple_flows.specs.Facts.{fact_of, with_object, without_object}
-use Rattle.tuple_flows.specs.Moved.{AreObjects, IsMoved}
+use Rattle.block_flows.proofs.TupleFlows.Events.{behind}
+use Rattle.block_flows.proofs.TupleFlows.Lists.{contains-first, contains-cases}
+use Rattle.block_flows.proofs.TupleFlows.MovedTuples.{none-unknown, of-targets, of-none}
+use Rattle.block_flows.proofs.TupleFlows.Tuples.{same-tuple}
+use Rattle.block_flows.specs.TupleFlows.Behind.{IsBehind, chosen_object, chosen_tuple}
+use Rattle.block_flows.specs.TupleFlows.Facts.{fact_of, with_object, without_object}
+use Rattle.block_flows.specs.TupleFlows.Moved.{AreObjects, IsMoved}
 
 -- ---- lists of which each value gives itself alone, or nothing
 

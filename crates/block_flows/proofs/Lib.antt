@@ -5,3 +5,4 @@ pub mod Firsts
 pub mod Reports
 pub mod IdleEvents
 pub mod QuietEvents
+pub mod TupleFlows

@@ -1,10 +1,10 @@
 -- The rules of a list of events, where it is gone over.
 use Rattle.std.proofs.Common.{◌≡◌, ℕ, zero, suc, ◌+◌, ◌<◌, ◌≤◌, List, [], ◌∷◌, length, get_or, drop, refl, sym, subst, arith}
-use Rattle.applied_rules.specs.declared.rules.EventRules.{EventRules}
-use Rattle.applied_rules.specs.Events.{AreOfEvent}
+use Rattle.state_tuples.specs.declared.applied_rules.rules.EventRules.{EventRules}
+use Rattle.state_tuples.specs.AppliedRules.Events.{AreOfEvent}
 use Rattle.block_flows.specs.Events.{AreOfEvents}
-use Rattle.checker_model.specs.Happenings.{Function, Happening}
-use Rattle.metal_machines.specs.Machine.{Machine}
+use Rattle.path_model.specs.CheckerModel.Happenings.{Function, Happening}
+use Rattle.metal_tree.specs.MetalMachines.Machine.{Machine}
 
 module _ (m : Machine) (depth : ℕ) (f : Function) where
   -- the next event, and the rules of it

@@ -3,29 +3,29 @@ use Rattle.std.proofs.Common.{◌≡◌, ℕ, zero, suc, nat_eq, Bool, true, fal
 use Rattle.std.specs.List.{list_all}
 use Rattle.std.specs.Prelude.{is_some, is_none}
 use Rattle.std.proofs.lemmas.Bool.{and_parts}
-use Rattle.applied_rules.proofs.OfEvents.{global_is, object_is}
-use Rattle.applied_rules.specs.declared.rules.EventRules.{EventRules}
-use Rattle.applied_rules.specs.Events.{applied_of, AreOfEvent}
-use Rattle.applied_rules.specs.Firsts.{takes, picked, first_taken, rule_taken}
+use Rattle.state_tuples.proofs.AppliedRules.OfEvents.{global_is, object_is}
+use Rattle.state_tuples.specs.declared.applied_rules.rules.EventRules.{EventRules}
+use Rattle.state_tuples.specs.AppliedRules.Events.{applied_of, AreOfEvent}
+use Rattle.state_tuples.specs.AppliedRules.Firsts.{takes, picked, first_taken, rule_taken}
 use Rattle.block_flows.specs.Events.{AreOfEvents}
 use Rattle.block_flows.specs.Firings.{acting, ObjectActs, GlobalActs}
 use Rattle.block_flows.specs.QuietEvents.{is_silent, is_quiet, are_quiet}
 use Rattle.c_objects.specs.Objects.{Object}
-use Rattle.c_paths.specs.Events.{Event}
-use Rattle.c_typing.specs.Options.{or_else}
-use Rattle.checker_model.specs.Checkers.{model, origins}
-use Rattle.checker_model.specs.Choices.{State, Taken, stop, is_asked, is_global_asked, first_some, taken, taken_global}
-use Rattle.checker_model.specs.Happenings.{Function, Happening}
-use Rattle.checker_model.specs.Reports.{Checker}
-use Rattle.event_walks.specs.Happenings.{HappensHere, ToObject, ToGlobal, HappensAt, Here, Later}
+use Rattle.flow_graph.specs.CPaths.Events.{Event}
+use Rattle.type_rules.specs.Options.{or_else}
+use Rattle.path_model.specs.CheckerModel.Checkers.{model, origins}
+use Rattle.path_model.specs.CheckerModel.Choices.{State, Taken, stop, is_asked, is_global_asked, first_some, taken, taken_global}
+use Rattle.path_model.specs.CheckerModel.Happenings.{Function, Happening}
+use Rattle.path_model.specs.CheckerModel.Reports.{Checker}
+use Rattle.path_theory.specs.EventWalks.Happenings.{HappensHere, ToObject, ToGlobal, HappensAt, Here, Later}
 use Rattle.flow_graph.specs.Values.{event_of}
-use Rattle.hole_bindings.specs.Settings.{setting_in}
+use Rattle.hole_matcher.specs.HoleBindings.Settings.{setting_in}
 use Rattle.hole_matching.specs.Holes.{Setting}
 use Rattle.path_theory.specs.Facts.{FactOf}
-use Rattle.rule_choices.specs.Asked.{Asker, GlobalState, ObjectIn}
-use Rattle.rule_choices.specs.declared.fired.Fired.{Fired}
-use Rattle.rule_choices.specs.Values.{taken_of}
-use Rattle.tuple_flows.specs.Facts.{listed}
+use Rattle.state_tuples.specs.RuleChoices.Asked.{Asker, GlobalState, ObjectIn}
+use Rattle.state_tuples.specs.declared.rule_choices.fired.Fired.{Fired}
+use Rattle.state_tuples.specs.RuleChoices.Values.{taken_of}
+use Rattle.block_flows.specs.TupleFlows.Facts.{listed}
 
 no-action : {A : Type 0} (o : Option A) → is_none o ≡ true → is_some o ≡ false
 no-action None h = refl

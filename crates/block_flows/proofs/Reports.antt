@@ -2,20 +2,20 @@
 use Rattle.std.proofs.Common.{◌≡◌, ◌↔◌, ℕ, Bool, cond, List, Option, None, Some, ap, ◌∙◌}
 use Rattle.std.specs.Option.{option_map}
 use Rattle.std.specs.Prelude.{is_some}
-use Rattle.c_paths.specs.EventPlaces.{event_place}
+use Rattle.flow_graph.specs.CPaths.EventPlaces.{event_place}
 use Rattle.block_flows.specs.Firings.{if_acting, acting, ObjectActs, GlobalActs}
 use Rattle.c_objects.specs.Objects.{Object}
-use Rattle.c_typing.specs.Options.{◌>?◌}
-use Rattle.checker_model.proofs.Sources.{given, tested}
-use Rattle.checker_model.specs.Checkers.{model, origins}
-use Rattle.checker_model.specs.Choices.{State, Taken, taken, taken_global}
-use Rattle.checker_model.specs.Happenings.{Function, Happening}
-use Rattle.checker_model.specs.Reports.{Checker, report_of, report_at, token_at}
-use Rattle.event_walks.proofs.Shown.{Reported, shown_where}
+use Rattle.type_rules.specs.Options.{◌>?◌}
+use Rattle.path_model.proofs.CheckerModel.Sources.{given, tested}
+use Rattle.path_model.specs.CheckerModel.Checkers.{model, origins}
+use Rattle.path_model.specs.CheckerModel.Choices.{State, Taken, taken, taken_global}
+use Rattle.path_model.specs.CheckerModel.Happenings.{Function, Happening}
+use Rattle.path_model.specs.CheckerModel.Reports.{Checker, report_of, report_at, token_at}
+use Rattle.path_theory.proofs.EventWalks.Shown.{Reported, shown_where}
 use Rattle.report_model.specs.declared.report.Report.{Report}
 use Rattle.path_theory.specs.BlockEdges.{Shows}
 use Rattle.path_theory.specs.Facts.{FactOf}
-use Rattle.tuple_flows.specs.Facts.{listed}
+use Rattle.block_flows.specs.TupleFlows.Facts.{listed}
 
 module _ (c : Checker) (f : Function) where
   -- a taken rule says this report

@@ -2,21 +2,21 @@
 use Rattle.std.proofs.Common.{◌≡◌, inl, inr, ℕ, Bool, List, [], ◌∷◌, Contains, refl, sym, ap, subst, ◌∙◌}
 use Rattle.block_flows.specs.Ends.{IsEnd}
 use Rattle.c_objects.specs.Objects.{Object}
-use Rattle.checker_model.specs.Checkers.{model, origins}
-use Rattle.checker_model.specs.Choices.{State, next_global}
-use Rattle.checker_model.specs.Happenings.{Function, Happening}
-use Rattle.checker_model.specs.Reports.{Checker}
-use Rattle.event_walks.specs.Walks.{Walks, Stands}
-use Rattle.event_walks.proofs.Walking.{stands-start, stands-next, stands-end, ends-stand}
+use Rattle.path_model.specs.CheckerModel.Checkers.{model, origins}
+use Rattle.path_model.specs.CheckerModel.Choices.{State, next_global}
+use Rattle.path_model.specs.CheckerModel.Happenings.{Function, Happening}
+use Rattle.path_model.specs.CheckerModel.Reports.{Checker}
+use Rattle.path_theory.specs.EventWalks.Walks.{Walks, Stands}
+use Rattle.path_theory.proofs.EventWalks.Walking.{stands-start, stands-next, stands-end, ends-stand}
 use Rattle.least_set.specs.Logs.{IsExactly, SomeGives}
 use Rattle.least_set.proofs.Growing.{nothing}
 use Rattle.path_theory.specs.Facts.{FactOf}
 use Rattle.path_theory.specs.Flows.{EventFlow}
 use Rattle.state_tuples.specs.declared.tuple.Tuple.{Tuple}
-use Rattle.tuple_flows.specs.Behind.{IsBehind}
-use Rattle.tuple_flows.specs.Facts.{fact_in, listed}
-use Rattle.tuple_flows.proofs.Lists.{contains-first, contains-cases}
-use Rattle.tuple_flows.proofs.Tuples.{tuple_of, tuple_of-fact, tuple_of-global, same-tuple}
+use Rattle.block_flows.specs.TupleFlows.Behind.{IsBehind}
+use Rattle.block_flows.specs.TupleFlows.Facts.{fact_in, listed}
+use Rattle.block_flows.proofs.TupleFlows.Lists.{contains-first, contains-cases}
+use Rattle.block_flows.proofs.TupleFlows.Tuples.{tuple_of, tuple_of-fact, tuple_of-global, same-tuple}
 
 -- one of the list has this global state and this fact
 abbrev pub standing : List Tuple → ℕ → FactOf Object State → Type 0

@@ -1,12 +1,12 @@
 -- What a tuple becomes over the events of a block.
 use Rattle.std.specs.Prelude.{Bool, List}
 use Rattle.c_objects.specs.Objects.{Object}
-use Rattle.checker_model.specs.Checkers.{model, origins}
-use Rattle.checker_model.specs.Happenings.{Function, Happening}
-use Rattle.checker_model.specs.Reports.{Checker}
+use Rattle.path_model.specs.CheckerModel.Checkers.{model, origins}
+use Rattle.path_model.specs.CheckerModel.Happenings.{Function, Happening}
+use Rattle.path_model.specs.CheckerModel.Reports.{Checker}
 use Rattle.path_theory.specs.BlockEdges.{Crosses}
 use Rattle.state_tuples.specs.declared.tuple.Tuple.{Tuple}
-use Rattle.tuple_flows.specs.Facts.{fact_in, listed}
+use Rattle.block_flows.specs.TupleFlows.Facts.{fact_in, listed}
 
 -- A TUPLE AT THE END of events, of one at their head that crosses them
 abbrev pub IsEnd : Checker → List Happening → Function → Bool → List Object → Tuple → Tuple → Type 0

@@ -1,18 +1,18 @@
 -- Which rules with an action are taken while a tuple crosses the events of a block. A report is that of such a rule.
 use Rattle.std.specs.Prelude.{◌≡◌, ℕ, Bool, cond, is_some, List, slice_get, Option, None, Some}
 use Rattle.std.specs.Option.{option_map}
-use Rattle.applied_rules.specs.Takers.{IsFirstFor}
+use Rattle.state_tuples.specs.AppliedRules.Takers.{IsFirstFor}
 use Rattle.c_objects.specs.Objects.{Object}
-use Rattle.c_typing.specs.Options.{if_there, ◌>?◌}
-use Rattle.checker_model.specs.Checkers.{model, origins}
-use Rattle.checker_model.specs.Choices.{Taken, scene, taken, taken_global}
-use Rattle.checker_model.specs.Happenings.{Function, Happening}
-use Rattle.checker_model.specs.Reports.{Checker}
-use Rattle.event_walks.specs.Happenings.{ToObjects, ToGlobals, HappensHere, HappensAt}
+use Rattle.type_rules.specs.Options.{if_there, ◌>?◌}
+use Rattle.path_model.specs.CheckerModel.Checkers.{model, origins}
+use Rattle.path_model.specs.CheckerModel.Choices.{Taken, scene, taken, taken_global}
+use Rattle.path_model.specs.CheckerModel.Happenings.{Function, Happening}
+use Rattle.path_model.specs.CheckerModel.Reports.{Checker}
+use Rattle.path_theory.specs.EventWalks.Happenings.{ToObjects, ToGlobals, HappensHere, HappensAt}
 use Rattle.block_flows.specs.declared.taken_rules.Firing.{Firing}
-use Rattle.rule_choices.specs.Values.{taken_of}
+use Rattle.state_tuples.specs.RuleChoices.Values.{taken_of}
 use Rattle.state_tuples.specs.declared.tuple.Tuple.{Tuple}
-use Rattle.tuple_flows.specs.Facts.{fact_in, listed}
+use Rattle.block_flows.specs.TupleFlows.Facts.{fact_in, listed}
 
 -- a rule that is taken, if it has an action
 abbrev pub if_acting : Taken → Option Taken

@@ -1,18 +1,18 @@
 -- EVENTS THAT CHANGE NO TUPLE: no rule applies at them, and they write over nothing.
 use Rattle.std.specs.Prelude.{ℕ, ◌==◌, Bool, true, ◌&&◌, List, [], length, is_none}
 use Rattle.std.specs.List.{list_all}
-use Rattle.applied_rules.specs.declared.rules.EventRules.{EventRules}
+use Rattle.state_tuples.specs.declared.applied_rules.rules.EventRules.{EventRules}
 use Rattle.block_flows.specs.Firings.{TakenHere}
 use Rattle.c_objects.specs.Objects.{Object, is_object}
-use Rattle.c_typing.specs.Options.{if_there}
-use Rattle.checker_model.specs.Happenings.{Function, Happening}
-use Rattle.checker_model.specs.Moves.{move_of}
-use Rattle.checker_model.specs.Reports.{Checker}
+use Rattle.type_rules.specs.Options.{if_there}
+use Rattle.path_model.specs.CheckerModel.Happenings.{Function, Happening}
+use Rattle.path_model.specs.CheckerModel.Moves.{move_of}
+use Rattle.path_model.specs.CheckerModel.Reports.{Checker}
 use Rattle.flow_graph.specs.Values.{event_of}
 use Rattle.least_set.specs.Logs.{IsExactly, SomeGives}
 use Rattle.objects.specs.Units.{facts_in}
 use Rattle.state_tuples.specs.declared.tuple.Tuple.{Tuple}
-use Rattle.tuple_flows.specs.Behind.{IsBehind}
+use Rattle.block_flows.specs.TupleFlows.Behind.{IsBehind}
 
 -- no alternative of a rule applies, and nothing is written over
 abbrev pub is_idle : EventRules → Bool

@@ -3,3 +3,4 @@ pub mod Ends
 pub mod Firings
 pub mod IdleEvents
 pub mod QuietEvents
+pub mod TupleFlows

@@ -1,9 +1,9 @@
 -- Events at which no rule with an action can be taken.
 use Rattle.std.specs.Prelude.{Bool, is_none, List}
 use Rattle.std.specs.List.{list_all}
-use Rattle.applied_rules.specs.declared.rules.EventRules.{EventRules}
-use Rattle.rule_choices.specs.declared.fired.Fired.{Fired}
-use Rattle.rule_choices.specs.Values.{taken_of}
+use Rattle.state_tuples.specs.declared.applied_rules.rules.EventRules.{EventRules}
+use Rattle.state_tuples.specs.declared.rule_choices.fired.Fired.{Fired}
+use Rattle.state_tuples.specs.RuleChoices.Values.{taken_of}
 
 -- the rule has no action
 abbrev pub is_silent : Fired → Bool

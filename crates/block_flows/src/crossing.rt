@@ -3,17 +3,16 @@
 ghost use Rattle.std.specs.Prelude.{◌≡◌, List, IfOk};
 ghost use Rattle.block_flows.specs.Ends.{IsEnd};
 ghost use Rattle.block_flows.specs.Events.{AreOfEvents};
-ghost use Rattle.checker_model.specs.Happenings.{Function, Happening};
-ghost use Rattle.checker_model.specs.Reports.{Checker};
+ghost use Rattle.path_model.specs.CheckerModel.Happenings.{Function, Happening};
+ghost use Rattle.path_model.specs.CheckerModel.Reports.{Checker};
 ghost use Rattle.least_set.specs.Logs.{IsExactly, IsOnce};
-ghost use Rattle.tuple_flows.specs.Moved.{AreObjects};
+ghost use Rattle.block_flows.specs.TupleFlows.Moved.{AreObjects};
 
 use crate::fronts::{copies, first, next};
 use crate::idle_events::leaves_all;
 use crate::sets::items;
-use applied_rules::EventRules;
 use objects::Object;
-use state_tuples::Tuple;
+use state_tuples::{EventRules, Tuple};
 use std::alloc::{AllocError, Global};
 
 /// The tuples at the end of a block's events where this one stands at its head, in a root's own frame or in a called one, each once. The

@@ -1,20 +1,19 @@
 //! The tuples that stand between two events, each once.
 
 ghost use Rattle.std.specs.Prelude.{◌≡◌, [], ◌∷◌, IfOk};
-ghost use Rattle.applied_rules.specs.Events.{AreOfEvent};
-ghost use Rattle.checker_model.specs.Happenings.{Function, Happening};
-ghost use Rattle.checker_model.specs.Reports.{Checker};
+ghost use Rattle.state_tuples.specs.AppliedRules.Events.{AreOfEvent};
+ghost use Rattle.path_model.specs.CheckerModel.Happenings.{Function, Happening};
+ghost use Rattle.path_model.specs.CheckerModel.Reports.{Checker};
 ghost use Rattle.least_set.specs.Logs.{IsExactly, SomeGives};
-ghost use Rattle.tuple_flows.specs.Behind.{IsBehind};
-ghost use Rattle.tuple_flows.specs.Moved.{AreObjects};
+ghost use Rattle.block_flows.specs.TupleFlows.Behind.{IsBehind};
+ghost use Rattle.block_flows.specs.TupleFlows.Moved.{AreObjects};
 
 use crate::sets::add_all;
-use applied_rules::EventRules;
+use crate::tuple_flows::over_event;
 use indexmap::IndexSet;
 use objects::{Object, copy};
-use state_tuples::Tuple;
+use state_tuples::{EventRules, Tuple};
 use std::alloc::{AllocError, Global};
-use tuple_flows::over_event;
 
 // An equal object, if there is one.
 pub(crate) fn copy_object(object: &Option<Object>) -> Option<Object>

@@ -2,16 +2,15 @@
 
 ghost use Rattle.std.specs.Prelude.{◌≡◌, Bool, true, List};
 ghost use Rattle.std.specs.List.{list_all};
-ghost use Rattle.applied_rules.specs.Events.{AreOfEvent};
+ghost use Rattle.state_tuples.specs.AppliedRules.Events.{AreOfEvent};
 ghost use Rattle.block_flows.specs.IdleEvents.{is_idle, is_within, leaves_all, AreLeft};
 ghost use Rattle.c_objects.specs.Objects.{Object};
-ghost use Rattle.checker_model.specs.Happenings.{Function, Happening};
-ghost use Rattle.checker_model.specs.Reports.{Checker};
-ghost use Rattle.tuple_flows.specs.Moved.{AreObjects};
+ghost use Rattle.path_model.specs.CheckerModel.Happenings.{Function, Happening};
+ghost use Rattle.path_model.specs.CheckerModel.Reports.{Checker};
+ghost use Rattle.block_flows.specs.TupleFlows.Moved.{AreObjects};
 
-use applied_rules::EventRules;
 use objects::is_object;
-use state_tuples::Tuple;
+use state_tuples::{EventRules, Tuple};
 use synonyms_kills::is_move;
 
 // Whether no alternative of a rule applies at an event, and it writes over nothing. The first is the cheap test.

@@ -3,8 +3,7 @@
 ghost use Rattle.std.specs.Prelude.{◌≡◌};
 ghost use Rattle.block_flows.specs.QuietEvents.{is_silent, is_quiet, are_quiet};
 
-use applied_rules::EventRules;
-use state_tuples::Fired;
+use state_tuples::{EventRules, Fired};
 
 // Whether an alternative is of a rule without an action.
 fn is_silent(fired: &Fired) -> bool

@@ -3,26 +3,25 @@
 ghost use Rattle.std.specs.Prelude.{◌≡◌, ◌+◌, List, map, Some, IfOk, IfSome};
 ghost use Rattle.std.specs.List.{All, filter_map};
 ghost use Rattle.std.specs.Option.{option_map};
-ghost use Rattle.applied_rules.specs.Events.{AreOfEvent};
-ghost use Rattle.applied_rules.specs.Takers.{IsFirstFor};
+ghost use Rattle.state_tuples.specs.AppliedRules.Events.{AreOfEvent};
+ghost use Rattle.state_tuples.specs.AppliedRules.Takers.{IsFirstFor};
 ghost use Rattle.block_flows.specs.Events.{AreOfEvents};
 ghost use Rattle.block_flows.specs.Firings.{acting, fires_here, fire_of, fire_in, TakenHere, TakenAt, IsFirstHere, IsFirstAmong};
-ghost use Rattle.checker_model.specs.Choices.{scene};
-ghost use Rattle.checker_model.specs.Happenings.{Function, Happening};
-ghost use Rattle.checker_model.specs.Reports.{Checker};
+ghost use Rattle.path_model.specs.CheckerModel.Choices.{scene};
+ghost use Rattle.path_model.specs.CheckerModel.Happenings.{Function, Happening};
+ghost use Rattle.path_model.specs.CheckerModel.Reports.{Checker};
 ghost use Rattle.least_set.specs.Logs.{IsExactly, SomeGives};
-ghost use Rattle.rule_choices.specs.Values.{taken_of};
-ghost use Rattle.tuple_flows.specs.Moved.{AreObjects};
+ghost use Rattle.state_tuples.specs.RuleChoices.Values.{taken_of};
+ghost use Rattle.block_flows.specs.TupleFlows.Moved.{AreObjects};
 
 use crate::fronts::{copy_object, first, next};
 use crate::idle_events::leaves_all;
 use crate::quiet_events::are_quiet;
 use crate::sets::items;
-use applied_rules::EventRules;
+use crate::tuple_flows::moved;
 use objects::Object;
-use state_tuples::{Fired, Tuple};
+use state_tuples::{EventRules, Fired, Tuple};
 use std::alloc::{AllocError, Global};
-use tuple_flows::moved;
 
 /// A rule with an action that is taken.
 #[derive(Drop)]

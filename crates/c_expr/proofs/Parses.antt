@@ -10,7 +10,7 @@ use Rattle.c_grammar.specs.Reading.{read, whole}
 use Rattle.c_grammar.specs.Theorems.{ParsesAreRead}
 use Rattle.c_tree.specs.Forget.{view}
 use Rattle.c_tree.specs.Views.{node_of}
-use Rattle.c_places.specs.Stands.{StandsOver}
+use Rattle.c_grammar.specs.CPlaces.Stands.{StandsOver}
 use Rattle.c_expr.specs.declared.fault.ExprFault.{ExprFault}
 use Rattle.c_expr.specs.declared.fault.ExprFault.TheVariants.{NoTree}
 use Rattle.c_expr.specs.declared.nodes.Read.{Read}

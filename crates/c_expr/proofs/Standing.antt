@@ -12,8 +12,8 @@ use Rattle.c_tree.specs.declared.punctuator.Punctuator.TheVariants as marks
 use Rattle.c_tree.specs.Symbol.{Symbol, Sign, Reserved, symbol_of}
 use Rattle.c_tree.specs.Node.{Node, node, Shape, Nodes, no_more}
 use Rattle.c_tree.specs.Views.{node_of, nodes_in}
-use Rattle.c_places.specs.Lines.{Line, nothing, fixed, at, kept, all_kept, sign, unary_line, ◌⨾◌, shape_line, row_line, list_line, more_line}
-use Rattle.c_places.specs.Stands.{Stands, OfNothing, OfKept, OfAll, OfFixed, OfPlace, OfNumber, OfBoth, StandsOver}
+use Rattle.c_grammar.specs.CPlaces.Lines.{Line, nothing, fixed, at, kept, all_kept, sign, unary_line, ◌⨾◌, shape_line, row_line, list_line, more_line}
+use Rattle.c_grammar.specs.CPlaces.Stands.{Stands, OfNothing, OfKept, OfAll, OfFixed, OfPlace, OfNumber, OfBoth, StandsOver}
 use Rattle.c_grammar.specs.Levels.{prefix_of}
 use Rattle.c_expr.specs.declared.fault.ExprFault.{ExprFault}
 use Rattle.c_expr.specs.declared.nodes.Read.{Read}

@@ -14,8 +14,8 @@ use Rattle.c_tree.specs.Forget.{view_all}
 use Rattle.c_tree.specs.Node.{Node, Nodes}
 use Rattle.c_tree.specs.Views.{nodes_of, nodes_in}
 use Rattle.c_grammar.specs.Grammar.{is_nothing}
-use Rattle.c_places.specs.Lines.{all_kept, sign, ◌⨾◌, row_line, list_line, ellipsis_if}
-use Rattle.c_places.specs.Stands.{Stands, OfNothing, OfAll, OfFixed, OfBoth, StandsOver}
+use Rattle.c_grammar.specs.CPlaces.Lines.{all_kept, sign, ◌⨾◌, row_line, list_line, ellipsis_if}
+use Rattle.c_grammar.specs.CPlaces.Stands.{Stands, OfNothing, OfAll, OfFixed, OfBoth, StandsOver}
 use Rattle.c_expr.specs.Gives.{count_in, ending_with}
 use Rattle.c_expr.specs.ParamLists.{params_after}
 use Rattle.c_expr.specs.Standing.{Passes, IsFirst}

@@ -7,8 +7,8 @@ use Rattle.c_tree.specs.declared.token.Token.{Token}
 use Rattle.c_tree.specs.Symbol.{Symbol}
 use Rattle.c_tree.specs.Node.{Node, node, Shape}
 use Rattle.c_tree.specs.Views.{node_of, nodes_of}
-use Rattle.c_places.specs.Lines.{Line, fixed, kept, all_kept, sign, unary_line, ◌⨾◌, row_line, list_line, ellipsis_if}
-use Rattle.c_places.specs.Stands.{Stands, StandsOver}
+use Rattle.c_grammar.specs.CPlaces.Lines.{Line, fixed, kept, all_kept, sign, unary_line, ◌⨾◌, row_line, list_line, ellipsis_if}
+use Rattle.c_grammar.specs.CPlaces.Stands.{Stands, StandsOver}
 use Rattle.c_expr.specs.declared.fault.ExprFault.{ExprFault}
 use Rattle.c_expr.specs.declared.nodes.Read.{Read}
 use Rattle.c_expr.specs.declared.nodes.ReadList.{ReadList}

@@ -4,7 +4,7 @@ ghost use Rattle.std.specs.Prelude.{◌≡◌, ◌+◌, ◌*◌, ◌<◌, ◌≤
 ghost use Rattle.c_tree.specs.Symbol.{symbols_of};
 ghost use Rattle.c_tree.specs.Forget.{view};
 ghost use Rattle.c_tree.specs.Views.{node_of};
-ghost use Rattle.c_places.specs.Stands.{StandsOver};
+ghost use Rattle.c_grammar.specs.CPlaces.Stands.{StandsOver};
 ghost use Rattle.c_grammar.specs.Levels.{comma_level};
 ghost use Rattle.c_grammar.specs.Nonterminal.{Expression, Specifiers, DeclaratorIn};
 ghost use Rattle.c_grammar.specs.Specifiers.{InDeclaration};

@@ -8,10 +8,10 @@ ghost use Rattle.c_grammar.specs.Specifiers.{is_storage, is_type_word, is_specif
 ghost use Rattle.c_expr.specs.SpecifierPlaces.{place_of};
 
 use crate::type_names::TypeNames;
-use basic_types::is_basic;
 use bumpalo::collections::into_bump_slice;
 use c_tree::{Arena, Keyword, Kind, Part, Token, TokenKind, Tree};
 use std::alloc::AllocError;
+use type_values::is_basic;
 
 /// Where specifiers stand, which decides what words they may have.
 #[derive(Clone, Copy, Debug, PartialEq, Eq)]

@@ -15,3 +15,5 @@ pub mod CompleteDeclarators
 pub mod Stops
 pub mod CompleteExpressions
 pub mod Complete
+pub mod UnitGrammar
+pub mod CPlaces

@@ -1,4 +1,4 @@
--- The theorems of this crate as statements, which contracts can name.
+-- These theorems as statements, which contracts can name.
 use Rattle.std.specs.Prelude.{◌≡◌, ℕ, ◌≤◌, ◌↔◌, List, Some}
 use Rattle.c_tree.specs.Symbol.{Symbol}
 use Rattle.c_tree.specs.Syntax.{Syntax}

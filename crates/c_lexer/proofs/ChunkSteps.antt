@@ -4,10 +4,10 @@ use Rattle.std.proofs.lemmas.List.{take_more}
 use Rattle.std.proofs.lemmas.Bool.{cases_lt}
 use Rattle.c_tree.specs.declared.token.Token.{Token}
 use Rattle.c_tree.specs.declared.token.TokenKind.{TokenKind}
-use Rattle.c_reading.specs.Strip.{is_close_paren}
-use Rattle.c_reading.specs.Chunks.{is_semicolon, is_open_brace, is_close_brace, depth_behind, depth_of, depth_at, kind_at, behind_paren, begins_body, LeavesZero, EndsChunk, IsChunk, Follow}
+use Rattle.c_lexer.specs.CReading.Strip.{is_close_paren}
+use Rattle.c_lexer.specs.CReading.Chunks.{is_semicolon, is_open_brace, is_close_brace, depth_behind, depth_of, depth_at, kind_at, behind_paren, begins_body, LeavesZero, EndsChunk, IsChunk, Follow}
 use Rattle.c_lexer.specs.Nests.{Nests, ends_here, body_behind}
-use Rattle.c_reading.proofs.Tests.{cases, both, either, same, same_true}
+use Rattle.c_lexer.proofs.CReading.Tests.{cases, both, either, same, same_true}
 
 pub kind_is : (is : TokenKind → Bool) (ts : List Token) (n : ℕ) (d : Token) → n < length ts → kind_at is ts n ≡ is (get_or ts n d).kind
 kind_is is [] n d h = absurd (omega arith)

@@ -1,7 +1,7 @@
 -- Where the tokens stand that strip keeps: their numbers rise, and they are of the same file.
 use Rattle.std.proofs.Common.{ℕ, zero, suc, ◌+◌, ◌≤◌, List, [], ◌∷◌, Option, None, Some, arith}
 use Rattle.c_tree.specs.declared.token.Token.{Token}
-use Rattle.c_reading.specs.Strip.{dropped_with, kept, stripped_behind, if_dropped}
+use Rattle.c_lexer.specs.CReading.Strip.{dropped_with, kept, stripped_behind, if_dropped}
 use Rattle.c_tree.specs.TokenPlaces.{AreOfFile, Rises}
 
 rises_lower : (low lower : ℕ) (ts : List Token) (high : ℕ) → lower ≤ low → Rises low ts high → Rises lower ts high

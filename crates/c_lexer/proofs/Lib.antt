@@ -6,3 +6,4 @@ mod Rising
 mod Kept
 mod TokenGroups
 mod ChunkSteps
+pub mod CReading

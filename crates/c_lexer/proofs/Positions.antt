@@ -5,7 +5,7 @@ use Rattle.c_lexer.specs.declared.fault.Spot.{Spot}
 use Rattle.c_tree.specs.TokenPlaces.{Rises}
 use Rattle.c_lexer.specs.Tokens.{number_at, position_of}
 use Rattle.std.proofs.lemmas.Bool.{cases_lt}
-use Rattle.c_reading.proofs.Tests.{unequal, same_true}
+use Rattle.c_lexer.proofs.CReading.Tests.{unequal, same_true}
 
 pub at_number : (ts : List Token) (k : ℕ) (d : Token) → k < length ts → number_at ts k ≡ (get_or ts k d).place.token
 at_number [] k d h = absurd (omega arith)

@@ -4,21 +4,21 @@ use Rattle.std.proofs.lemmas.List.{length-take-le, drop_at}
 use Rattle.mx_base.specs.Names.{AddsAtMost, HasNoRepeats, names_after}
 use Rattle.mx_base.proofs.NameLaws.{kept_number, adds_both}
 use Rattle.c_tree.specs.declared.token.Token.{Token}
-use Rattle.c_reading.specs.declared.mode.Mode.{Mode}
-use Rattle.c_reading.specs.declared.fault.Fault.{Fault}
-use Rattle.c_reading.specs.Pieces as pieces
-use Rattle.c_reading.specs.Pieces.{bytes_of, beginning, behind, behind_all}
-use Rattle.c_reading.specs.Reading.{IsNext, Cuts, Lexeme, lexeme_at, lexemes, fault_at, IsFaulty, IsReading}
-use Rattle.c_reading.specs.Cutting.{cut}
-use Rattle.c_reading.proofs.OnePiece.{cut-sound}
-use Rattle.c_reading.proofs.Readings.{cuts-push, behind-push, lexemes-push, faulty, one_reading, no_reading, one_fault}
+use Rattle.c_lexer.specs.declared.c_reading.mode.Mode.{Mode}
+use Rattle.c_lexer.specs.declared.c_reading.fault.Fault.{Fault}
+use Rattle.c_lexer.specs.CReading.Pieces as pieces
+use Rattle.c_lexer.specs.CReading.Pieces.{bytes_of, beginning, behind, behind_all}
+use Rattle.c_lexer.specs.CReading.Reading.{IsNext, Cuts, Lexeme, lexeme_at, lexemes, fault_at, IsFaulty, IsReading}
+use Rattle.c_lexer.specs.CReading.Cutting.{cut}
+use Rattle.c_lexer.proofs.CReading.OnePiece.{cut-sound}
+use Rattle.c_lexer.proofs.CReading.Readings.{cuts-push, behind-push, lexemes-push, faulty, one_reading, no_reading, one_fault}
 use Rattle.c_lexer.specs.declared.here.Here.{Here}
 use Rattle.c_lexer.specs.declared.fault.Spot.{Spot}
 use Rattle.c_lexer.specs.declared.pieces.Piece.{Piece}
 use Rattle.c_lexer.specs.declared.pieces.Piece.TheVariants.{Space, Comment, LineComment, MarkerLine, Spelling}
 use Rattle.c_lexer.specs.Pieces.{piece_view, piece_len, GivesPiece}
 use Rattle.c_lexer.specs.Progress.{here_of, InBounds, Steps, Reached, spot_of}
-use Rattle.c_reading.specs.declared.fault.Fault.TheVariants.{BadByte, OpenText, BadNumber, BadMarker}
+use Rattle.c_lexer.specs.declared.c_reading.fault.Fault.TheVariants.{BadByte, OpenText, BadNumber, BadMarker}
 use Rattle.c_lexer.specs.Faults.{fault_there}
 use Rattle.c_lexer.specs.Naming.{text_named, with_name, named_by}
 use Rattle.c_tree.specs.TokenPlaces.{AreOfFile, Rises}

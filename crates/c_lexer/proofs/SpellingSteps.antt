@@ -2,13 +2,13 @@
 use Rattle.std.proofs.Common.{◌≡◌, ℕ, ◌+◌, ◌≤◌, true, List, [], ◌∷◌, length, take, Some, unwrap_or, refl, ap, sym, ◌∙◌, arith}
 use Rattle.std.specs.List.{prefix_len}
 use Rattle.c_tree.specs.declared.token.TokenKind.{TokenKind}
-use Rattle.c_reading.specs.declared.mode.Mode.{Mode}
-use Rattle.c_reading.specs.Bytes.{is_letter, is_word_byte}
-use Rattle.c_reading.specs.Words.{word_kind}
-use Rattle.c_reading.specs.Spellings.{literal_len, kind_of}
-use Rattle.c_reading.specs.Cutting.{word_len, word_or_literal}
-use Rattle.c_reading.proofs.ClassKinds.{kind-word}
-use Rattle.c_reading.proofs.Scans.{behind_first, behind_cons}
+use Rattle.c_lexer.specs.declared.c_reading.mode.Mode.{Mode}
+use Rattle.c_lexer.specs.CReading.Bytes.{is_letter, is_word_byte}
+use Rattle.c_lexer.specs.CReading.Words.{word_kind}
+use Rattle.c_lexer.specs.CReading.Spellings.{literal_len, kind_of}
+use Rattle.c_lexer.specs.CReading.Cutting.{word_len, word_or_literal}
+use Rattle.c_lexer.proofs.CReading.ClassKinds.{kind-word}
+use Rattle.c_lexer.proofs.CReading.Scans.{behind_first, behind_cons}
 use Rattle.c_lexer.specs.Found.{BeginsWith}
 
 word_len_is : (c : ℕ) (cs : List ℕ) (n : ℕ) → is_letter c ≡ true → n ≡ prefix_len is_word_byte cs → word_len (c ∷ cs) ≡ n + 1

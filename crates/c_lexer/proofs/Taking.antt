@@ -3,11 +3,11 @@ use Rattle.std.proofs.Common.{◌≡◌, ℕ, ◌+◌, ◌≤◌, Bool, true, fa
 use Rattle.std.proofs.lemmas.List.{append-nil, length-take-le}
 use Rattle.c_tree.specs.declared.token.Token.{Token}
 use Rattle.c_tree.specs.declared.token.TokenKind.{TokenKind}
-use Rattle.c_reading.specs.declared.mode.Mode.{Mode}
-use Rattle.c_reading.specs.Markers.{marker_of}
-use Rattle.c_reading.specs.Pieces as pieces
-use Rattle.c_reading.specs.Pieces.{behind, behind_byte, behind_bytes, further, on_next_line}
-use Rattle.c_reading.specs.Reading.{lexeme_at, lexeme_of}
+use Rattle.c_lexer.specs.declared.c_reading.mode.Mode.{Mode}
+use Rattle.c_lexer.specs.CReading.Markers.{marker_of}
+use Rattle.c_lexer.specs.CReading.Pieces as pieces
+use Rattle.c_lexer.specs.CReading.Pieces.{behind, behind_byte, behind_bytes, further, on_next_line}
+use Rattle.c_lexer.specs.CReading.Reading.{lexeme_at, lexeme_of}
 use Rattle.c_lexer.specs.declared.here.Here.{Here}
 use Rattle.c_lexer.specs.declared.markers.Marker.{Marker}
 use Rattle.c_lexer.specs.declared.pieces.Piece.{Piece}

@@ -1,13 +1,13 @@
 -- Groups in parentheses, found from the last token to the first.
 use Rattle.std.proofs.Common.{◌≡◌, ℕ, zero, suc, ◌+◌, ◌-◌, ◌≤◌, ◌<◌, true, false, List, [], ◌∷◌, ◌++◌, length, drop, Option, None, Some, IfSome, slice_get, set, get_or, append_assoc, length-drop, length-set, inl, inr, refl, ap, sym, ◌∙◌, subst, arith}
 use Rattle.c_tree.specs.declared.token.Token.{Token}
-use Rattle.c_reading.specs.Scans.{plus}
-use Rattle.c_reading.specs.Strip.{is_open_paren, is_close_paren, group_end, group_len, is_qualifier, asm_len, dropped_with, kept, stripped_behind}
+use Rattle.c_lexer.specs.CReading.Scans.{plus}
+use Rattle.c_lexer.specs.CReading.Strip.{is_open_paren, is_close_paren, group_end, group_len, is_qualifier, asm_len, dropped_with, kept, stripped_behind}
 use Rattle.c_lexer.specs.Groups.{EndsAt, AreEnds}
 use Rattle.std.proofs.lemmas.List.{drop_all, drop_more, drop-drop, append-nil}
 use Rattle.std.proofs.lemmas.Bool.{cases_lt}
-use Rattle.c_reading.proofs.Scans.{plus-plus}
-use Rattle.c_reading.proofs.Tests.{cases, mapped, some_is}
+use Rattle.c_lexer.proofs.CReading.Scans.{plus-plus}
+use Rattle.c_lexer.proofs.CReading.Tests.{cases, mapped, some_is}
 
 more : (rest : List Token) (t : Token) (d e : ℕ) (o : Option ℕ) → group_end e (t ∷ rest) ≡ plus 1 (group_end d rest) → EndsAt rest d o → EndsAt (t ∷ rest) e o
 more rest t d e None h m = rw (h, m) refl

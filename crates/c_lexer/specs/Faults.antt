@@ -1,6 +1,6 @@
 -- The lexer's faults by their kinds.
-use Rattle.c_reading.specs.declared.fault.Fault.{Fault}
-use Rattle.c_reading.specs.declared.fault.Fault.TheVariants as fault
+use Rattle.c_lexer.specs.declared.c_reading.fault.Fault.{Fault}
+use Rattle.c_lexer.specs.declared.c_reading.fault.Fault.TheVariants as fault
 use Rattle.c_lexer.specs.declared.fault.Spot.{Spot}
 use Rattle.c_lexer.specs.declared.fault.LexFault.{LexFault}
 use Rattle.c_lexer.specs.declared.fault.LexFault.TheVariants.{BadByte, OpenText, BadNumber, BadMarker}

@@ -1,12 +1,12 @@
 -- What the parts of the lexer give, seen by the definition.
 use Rattle.std.specs.Prelude.{◌≡◌, ◌≤◌, ℕ, List, [], ◌∷◌, length, Option, None, Some, take, option_map}
 use Rattle.c_tree.specs.declared.punctuator.Punctuator.{Punctuator}
-use Rattle.c_reading.specs.declared.mode.Mode.{Mode}
-use Rattle.c_reading.specs.Punctuators.{punctuator_of}
-use Rattle.c_reading.specs.Spellings.{kind_of}
-use Rattle.c_reading.specs.Markers.{unescaped}
-use Rattle.c_reading.specs.Markers as markers
-use Rattle.c_reading.specs.Cutting.{punctuator_len, pair_len}
+use Rattle.c_lexer.specs.declared.c_reading.mode.Mode.{Mode}
+use Rattle.c_lexer.specs.CReading.Punctuators.{punctuator_of}
+use Rattle.c_lexer.specs.CReading.Spellings.{kind_of}
+use Rattle.c_lexer.specs.CReading.Markers.{unescaped}
+use Rattle.c_lexer.specs.CReading.Markers as markers
+use Rattle.c_lexer.specs.CReading.Cutting.{punctuator_len, pair_len}
 use Rattle.c_lexer.specs.declared.markers.Marker.{Marker}
 use Rattle.c_lexer.specs.declared.markers.Marker.TheVariants.{Skipped, Renumbers}
 use Rattle.c_lexer.specs.declared.spellings.Spelled.{Spelled}

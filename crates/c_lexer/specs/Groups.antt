@@ -1,7 +1,7 @@
 -- Where the groups end that are still open, seen from the right.
 use Rattle.std.specs.Prelude.{◌≡◌, ◌+◌, ◌<◌, ℕ, List, length, drop, Option, None, Some, slice_get}
 use Rattle.c_tree.specs.declared.token.Token.{Token}
-use Rattle.c_reading.specs.Strip.{group_end, group_len}
+use Rattle.c_lexer.specs.CReading.Strip.{group_end, group_len}
 
 -- a group with so many more open in it ends where this many tokens stand behind, or doesn't end
 abbrev pub EndsAt : List Token → ℕ → Option ℕ → Type 0

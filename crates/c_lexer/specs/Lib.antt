@@ -7,3 +7,4 @@ pub mod Faults
 pub mod Naming
 pub mod Groups
 pub mod Nests
+pub mod CReading

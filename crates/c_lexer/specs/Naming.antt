@@ -1,8 +1,8 @@
 -- How names are numbered: in the order in which a reading meets them.
 use Rattle.std.specs.Prelude.{ℕ, true, List, [], ◌∷◌, Option, None, Some}
 use Rattle.mx_base.specs.Names.{names_after}
-use Rattle.c_reading.specs.Markers.{Marker, Renumbers, marker_of}
-use Rattle.c_reading.specs.Pieces.{Piece, MarkerLine, Spelling}
+use Rattle.c_lexer.specs.CReading.Markers.{Marker, Renumbers, marker_of}
+use Rattle.c_lexer.specs.CReading.Pieces.{Piece, MarkerLine, Spelling}
 
 -- the file that a marker names
 abbrev pub file_in : Option Marker → Option (List ℕ)

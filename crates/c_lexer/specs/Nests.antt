@@ -2,7 +2,7 @@
 use Rattle.std.specs.Prelude.{◌≡◌, ◌<◌, ◌==◌, ◌&&◌, ◌||◌, ℕ, Bool, List, if◌then◌else◌}
 use Rattle.c_tree.specs.declared.token.Token.{Token}
 use Rattle.c_tree.specs.declared.token.TokenKind.{TokenKind}
-use Rattle.c_reading.specs.Chunks.{is_semicolon, is_close_brace, is_open_brace, depth_at, behind_paren, begins_body, LeavesZero}
+use Rattle.c_lexer.specs.CReading.Chunks.{is_semicolon, is_close_brace, is_open_brace, depth_at, behind_paren, begins_body, LeavesZero}
 
 -- the depth, whether a `)` stands directly before, and, inside brackets, whether the bracket that last left depth 0 begins a body
 pub record Nests (ts : List Token) (n : ℕ) (depth : ℕ) (paren body : Bool) : Type 0 where

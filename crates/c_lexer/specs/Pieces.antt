@@ -1,13 +1,13 @@
 -- The piece that is cut off bytes, seen by the definition.
 use Rattle.std.specs.Prelude.{◌≡◌, ◌≤◌, ◌+◌, ℕ, Bool, cond, List, length, None, Some, Result, Ok, Err, take, drop, slice_index, ⊤}
-use Rattle.c_reading.specs.declared.mode.Mode.{Mode}
-use Rattle.c_reading.specs.declared.fault.Fault.{Fault}
-use Rattle.c_reading.specs.declared.fault.Fault.TheVariants.{OpenText, BadMarker}
-use Rattle.c_reading.specs.Spellings.{kind_of}
-use Rattle.c_reading.specs.Markers.{marker_of}
-use Rattle.c_reading.specs.Pieces as pieces
-use Rattle.c_reading.specs.Reading.{fault_at, spelling_fault}
-use Rattle.c_reading.specs.Cutting.{cut, comment_at, line_comment_at, marker_at, spelling_at}
+use Rattle.c_lexer.specs.declared.c_reading.mode.Mode.{Mode}
+use Rattle.c_lexer.specs.declared.c_reading.fault.Fault.{Fault}
+use Rattle.c_lexer.specs.declared.c_reading.fault.Fault.TheVariants.{OpenText, BadMarker}
+use Rattle.c_lexer.specs.CReading.Spellings.{kind_of}
+use Rattle.c_lexer.specs.CReading.Markers.{marker_of}
+use Rattle.c_lexer.specs.CReading.Pieces as pieces
+use Rattle.c_lexer.specs.CReading.Reading.{fault_at, spelling_fault}
+use Rattle.c_lexer.specs.CReading.Cutting.{cut, comment_at, line_comment_at, marker_at, spelling_at}
 use Rattle.c_lexer.specs.declared.pieces.Piece.{Piece}
 use Rattle.c_lexer.specs.declared.pieces.Piece.TheVariants.{Space, Comment, LineComment, MarkerLine, Spelling}
 use Rattle.c_lexer.specs.Found.{marker_view, following_line}

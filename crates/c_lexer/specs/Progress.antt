@@ -1,10 +1,10 @@
 -- How far the lexer has come.
 use Rattle.std.specs.Prelude.{◌≡◌, ◌+◌, ◌≤◌, ℕ, List, length, ◌++◌, Some, slice_get}
 use Rattle.c_tree.specs.declared.token.Token.{Token}
-use Rattle.c_reading.specs.declared.mode.Mode.{Mode}
-use Rattle.c_reading.specs.Pieces as pieces
+use Rattle.c_lexer.specs.declared.c_reading.mode.Mode.{Mode}
+use Rattle.c_lexer.specs.CReading.Pieces as pieces
 use Rattle.mx_base.specs.Names.{AddsAtMost, HasNoRepeats, names_after}
-use Rattle.c_reading.specs.Reading.{Cuts, lexeme_at, lexemes}
+use Rattle.c_lexer.specs.CReading.Reading.{Cuts, lexeme_at, lexemes}
 use Rattle.c_lexer.specs.declared.fault.Spot.{Spot}
 use Rattle.c_lexer.specs.declared.here.Here.{Here}
 use Rattle.c_lexer.specs.Naming.{named_by}

@@ -2,8 +2,8 @@
 use Rattle.std.specs.Prelude.{ℕ, Bool}
 use Rattle.c_lexer.specs.declared.bytes.Class.{Class}
 use Rattle.c_lexer.specs.declared.bytes.Class.TheVariants as class
-use Rattle.c_reading.specs.Bytes.{is_digit, is_word_byte, is_gap, is_within_line}
-use Rattle.c_reading.specs.Constants.{is_octal, is_hex}
+use Rattle.c_lexer.specs.CReading.Bytes.{is_digit, is_word_byte, is_gap, is_within_line}
+use Rattle.c_lexer.specs.CReading.Constants.{is_octal, is_hex}
 
 abbrev pub test_of : Class → ℕ → Bool
 test_of class.Word = is_word_byte

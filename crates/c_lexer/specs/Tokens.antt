@@ -1,11 +1,11 @@
 -- Tokens as they are kept, and what they stand for.
 use Rattle.std.specs.Prelude.{◌≡◌, ◌+◌, ◌≤◌, ◌==◌, ℕ, zero, suc, List, [], ◌∷◌, length, Some, slice_get, ⊤, if◌then◌else◌}
 use Rattle.c_tree.specs.declared.token.Token.{Token}
-use Rattle.c_reading.specs.declared.mode.Mode.{Mode}
-use Rattle.c_reading.specs.declared.fault.Fault.{Fault}
-use Rattle.c_reading.specs.declared.fault.Fault.TheVariants as fault
-use Rattle.c_reading.specs.Pieces.{Piece, Here, beginning, behind_all}
-use Rattle.c_reading.specs.Reading.{Lexeme, lexemes, IsFaulty}
+use Rattle.c_lexer.specs.declared.c_reading.mode.Mode.{Mode}
+use Rattle.c_lexer.specs.declared.c_reading.fault.Fault.{Fault}
+use Rattle.c_lexer.specs.declared.c_reading.fault.Fault.TheVariants as fault
+use Rattle.c_lexer.specs.CReading.Pieces.{Piece, Here, beginning, behind_all}
+use Rattle.c_lexer.specs.CReading.Reading.{Lexeme, lexemes, IsFaulty}
 use Rattle.c_lexer.specs.Faults.{fault_there}
 use Rattle.c_lexer.specs.declared.fault.LexFault.{LexFault}
 use Rattle.c_lexer.specs.declared.fault.LexFault.TheVariants.{BadByte, OpenText, BadNumber, BadMarker, NoMemory}

@@ -2,8 +2,8 @@
 
 ghost use Rattle.std.specs.Prelude.{◌≡◌, nat_le, ◌&&◌, length, ◌≤◌};
 ghost use Rattle.std.specs.List.{prefix_len};
-ghost use Rattle.c_reading.specs.Bytes.{within, is_digit, is_letter, is_word_byte, is_gap, is_blank, is_within_line, is_quote, begins};
-ghost use Rattle.c_reading.specs.Constants.{is_octal, is_hex};
+ghost use Rattle.c_lexer.specs.CReading.Bytes.{within, is_digit, is_letter, is_word_byte, is_gap, is_blank, is_within_line, is_quote, begins};
+ghost use Rattle.c_lexer.specs.CReading.Constants.{is_octal, is_hex};
 ghost use Rattle.c_lexer.specs.Tests.{test_of};
 
 /// Bytes that are taken together.
@@ -26,7 +26,7 @@ pub fn within(low: u8, high: u8, byte: u8) -> bool
     low <= byte && byte <= high
 }
 
-#[tactic(auto, unfolding(c_reading::specs::Bytes::is_digit))]
+#[tactic(auto, unfolding(crate::specs::CReading::Bytes::is_digit))]
 pub fn is_digit(byte: u8) -> bool
     ensures { result ≡ is_digit byte }
 {
@@ -34,14 +34,14 @@ pub fn is_digit(byte: u8) -> bool
 }
 
 /// A letter or `_`.
-#[tactic(auto, unfolding(c_reading::specs::Bytes::is_letter))]
+#[tactic(auto, unfolding(crate::specs::CReading::Bytes::is_letter))]
 pub fn is_letter(byte: u8) -> bool
     ensures { result ≡ is_letter byte }
 {
     within(b'a', b'z', byte) || within(b'A', b'Z', byte) || byte == b'_'
 }
 
-#[tactic(auto, unfolding(c_reading::specs::Bytes::is_word_byte))]
+#[tactic(auto, unfolding(crate::specs::CReading::Bytes::is_word_byte))]
 pub fn is_word_byte(byte: u8) -> bool
     ensures { result ≡ is_word_byte byte }
 {
@@ -49,7 +49,7 @@ pub fn is_word_byte(byte: u8) -> bool
 }
 
 /// Space or tab.
-#[tactic(auto, unfolding(c_reading::specs::Bytes::is_gap))]
+#[tactic(auto, unfolding(crate::specs::CReading::Bytes::is_gap))]
 pub fn is_gap(byte: u8) -> bool
     ensures { result ≡ is_gap byte }
 {
@@ -57,35 +57,35 @@ pub fn is_gap(byte: u8) -> bool
 }
 
 /// Space, tab, vertical tab, form feed, carriage return or line feed.
-#[tactic(auto, unfolding(c_reading::specs::Bytes::is_blank))]
+#[tactic(auto, unfolding(crate::specs::CReading::Bytes::is_blank))]
 pub fn is_blank(byte: u8) -> bool
     ensures { result ≡ is_blank byte }
 {
     byte == b' ' || within(b'\t', b'\r', byte)
 }
 
-#[tactic(auto, unfolding(c_reading::specs::Bytes::is_within_line))]
+#[tactic(auto, unfolding(crate::specs::CReading::Bytes::is_within_line))]
 fn is_within_line(byte: u8) -> bool
     ensures { result ≡ is_within_line byte }
 {
     byte != b'\n'
 }
 
-#[tactic(auto, unfolding(c_reading::specs::Bytes::is_quote))]
+#[tactic(auto, unfolding(crate::specs::CReading::Bytes::is_quote))]
 pub fn is_quote(byte: u8) -> bool
     ensures { result ≡ is_quote byte }
 {
     byte == b'\'' || byte == b'"'
 }
 
-#[tactic(auto, unfolding(c_reading::specs::Constants::is_octal))]
+#[tactic(auto, unfolding(crate::specs::CReading::Constants::is_octal))]
 fn is_octal(byte: u8) -> bool
     ensures { result ≡ is_octal byte }
 {
     within(b'0', b'7', byte)
 }
 
-#[tactic(auto, unfolding(c_reading::specs::Constants::is_hex))]
+#[tactic(auto, unfolding(crate::specs::CReading::Constants::is_hex))]
 pub fn is_hex(byte: u8) -> bool
     ensures { result ≡ is_hex byte }
 {

@@ -1,8 +1,8 @@
 //! Where the tokens of a file are cut into declarations and functions.
 
 ghost use Rattle.std.specs.Prelude.{◌≡◌, ◌+◌, ◌<◌, ◌≤◌, ◌^◌, ◌↔◌, length, IsTrue, IfOk};
-ghost use Rattle.c_reading.specs.Strip.{is_close_paren};
-ghost use Rattle.c_reading.specs.Chunks.{depth_behind, AreChunks, IsCut};
+ghost use Rattle.c_lexer.specs.CReading.Strip.{is_close_paren};
+ghost use Rattle.c_lexer.specs.CReading.Chunks.{depth_behind, AreChunks, IsCut};
 ghost use Rattle.c_lexer.specs.Nests.{ends_here, body_behind};
 
 use crate::kinds::{closes, is_close_brace, is_close_paren, is_open_brace, is_semicolon, opens};

@@ -1,7 +1,7 @@
 //! What a number says: an integer or a floating constant.
 
 ghost use Rattle.std.specs.Prelude.{◌≡◌, ◌-◌, ◌<◌, ◌≤◌, ◌^◌, length, nat_le, if◌then◌else◌, IfSome};
-ghost use Rattle.c_reading.specs.Constants.{digit_value, value_up_to, suffix_of, integer_in, hexadecimal, integer_of, after_digits, float_end, after_sign, exponent_digits, exponent, after_point, after_whole, float_of, number_kind, is_u, is_l};
+ghost use Rattle.c_lexer.specs.CReading.Constants.{digit_value, value_up_to, suffix_of, integer_in, hexadecimal, integer_of, after_digits, float_end, after_sign, exponent_digits, exponent, after_point, after_whole, float_of, number_kind, is_u, is_l};
 ghost use Rattle.c_lexer.specs.Tests.{test_of};
 
 use crate::bytes::{Class, front_len, is_digit, is_hex};
@@ -9,7 +9,7 @@ use crate::numbers::is_e;
 use c_tree::{FloatEnd, TokenKind};
 
 /// The value of a digit of any base.
-#[tactic(auto, unfolding(c_reading::specs::Constants::digit_value))]
+#[tactic(auto, unfolding(crate::specs::CReading::Constants::digit_value))]
 fn digit_value(digit: u8) -> u64
     ensures { result ≡ digit_value digit }
 {
@@ -24,7 +24,7 @@ fn digit_value(digit: u8) -> u64
 }
 
 /// The value of digits, if it is at most this.
-#[tactic(auto, using(c_reading::proofs::Scans::value_past))]
+#[tactic(auto, using(crate::proofs::CReading::Scans::value_past))]
 pub fn value_up_to(most: u64, base: u64, digits: &[u8]) -> Option<u64>
     requires { 0 < base }
     ensures value { result ≡ value_up_to most base digits.now }
@@ -60,7 +60,7 @@ fn is_l(byte: u8) -> bool
 }
 
 /// Whether a suffix has a `u`, and how many `l` it has, if it is a suffix.
-#[tactic(auto, unfolding(c_reading::specs::Constants::suffix_of))]
+#[tactic(auto, unfolding(crate::specs::CReading::Constants::suffix_of))]
 fn suffix_of(text: &[u8]) -> Option<(bool, u8)>
     ensures { result ≡ suffix_of text.now }
 {
@@ -96,7 +96,7 @@ fn suffix_of(text: &[u8]) -> Option<(bool, u8)>
 }
 
 /// An integer of digits of this class, and its suffix.
-#[tactic(auto, unfolding(c_reading::specs::Constants::integer_in))]
+#[tactic(auto, unfolding(crate::specs::CReading::Constants::integer_in))]
 fn integer_in(class: Class, base: u64, decimal: bool, text: &[u8]) -> Option<TokenKind>
     requires { 0 < base }
     ensures { result ≡ integer_in (test_of class) base decimal text.now }
@@ -117,7 +117,7 @@ fn integer_in(class: Class, base: u64, decimal: bool, text: &[u8]) -> Option<Tok
 }
 
 /// A hexadecimal integer, behind its `0x`.
-#[tactic(auto, unfolding(c_reading::specs::Constants::hexadecimal))]
+#[tactic(auto, unfolding(crate::specs::CReading::Constants::hexadecimal))]
 fn hexadecimal(text: &[u8]) -> Option<TokenKind>
     ensures { result ≡ hexadecimal text.now }
 {
@@ -134,7 +134,7 @@ fn hexadecimal(text: &[u8]) -> Option<TokenKind>
 }
 
 /// Decimal without a leading 0, octal with one, or hexadecimal.
-#[tactic(auto, unfolding(c_reading::specs::Constants::integer_of))]
+#[tactic(auto, unfolding(crate::specs::CReading::Constants::integer_of))]
 fn integer_of(text: &[u8]) -> Option<TokenKind>
     ensures { result ≡ integer_of text.now }
 {
@@ -147,7 +147,7 @@ fn integer_of(text: &[u8]) -> Option<TokenKind>
 }
 
 /// What follows the digits in front.
-#[tactic(auto, unfolding(c_reading::specs::Constants::after_digits))]
+#[tactic(auto, unfolding(crate::specs::CReading::Constants::after_digits))]
 fn after_digits(text: &[u8]) -> &[u8]
     ensures { result.now ≡ after_digits text.now }
 {
@@ -155,7 +155,7 @@ fn after_digits(text: &[u8]) -> &[u8]
 }
 
 /// The end of a floating constant.
-#[tactic(auto, unfolding(c_reading::specs::Constants::float_end))]
+#[tactic(auto, unfolding(crate::specs::CReading::Constants::float_end))]
 fn float_end(text: &[u8]) -> Option<FloatEnd>
     ensures { result ≡ float_end text.now }
 {
@@ -185,7 +185,7 @@ fn after_sign(text: &[u8]) -> &[u8]
 }
 
 /// The digits of an exponent, behind its sign, and the end.
-#[tactic(auto, unfolding(c_reading::specs::Constants::exponent_digits))]
+#[tactic(auto, unfolding(crate::specs::CReading::Constants::exponent_digits))]
 fn exponent_digits(text: &[u8]) -> Option<FloatEnd>
     ensures { result ≡ exponent_digits text.now }
 {
@@ -202,7 +202,7 @@ fn exponent_digits(text: &[u8]) -> Option<FloatEnd>
 }
 
 /// An exponent and the end, behind the digits.
-#[tactic(auto, unfolding(c_reading::specs::Constants::exponent))]
+#[tactic(auto, unfolding(crate::specs::CReading::Constants::exponent))]
 fn exponent(text: &[u8]) -> Option<FloatEnd>
     ensures { result ≡ exponent text.now }
 {
@@ -219,7 +219,7 @@ fn exponent(text: &[u8]) -> Option<FloatEnd>
 }
 
 /// What stands behind the digits that follow the point.
-#[tactic(auto, unfolding(c_reading::specs::Constants::after_point))]
+#[tactic(auto, unfolding(crate::specs::CReading::Constants::after_point))]
 fn after_point(text: &[u8]) -> Option<FloatEnd>
     ensures { result ≡ after_point text.now }
 {
@@ -236,7 +236,7 @@ fn after_point(text: &[u8]) -> Option<FloatEnd>
 }
 
 /// What stands behind the digits in front.
-#[tactic(auto, unfolding(c_reading::specs::Constants::after_whole))]
+#[tactic(auto, unfolding(crate::specs::CReading::Constants::after_whole))]
 fn after_whole(text: &[u8]) -> Option<FloatEnd>
     ensures { result ≡ after_whole text.now }
 {
@@ -253,7 +253,7 @@ fn after_whole(text: &[u8]) -> Option<FloatEnd>
 }
 
 /// What a number says, if it says anything.
-#[tactic(auto, unfolding(c_reading::specs::Constants::number_kind, c_reading::specs::Constants::float_of))]
+#[tactic(auto, unfolding(crate::specs::CReading::Constants::number_kind, crate::specs::CReading::Constants::float_of))]
 pub fn number_kind(text: &[u8]) -> Option<TokenKind>
     ensures { result ≡ number_kind text.now }
 {

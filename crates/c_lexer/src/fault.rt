@@ -4,7 +4,7 @@ ghost use Rattle.std.specs.Prelude.{◌≡◌};
 ghost use Rattle.c_lexer.specs.Faults.{fault_there};
 ghost use Rattle.c_lexer.specs.declared.fault.LexFault.TheVariants.{NoMemory};
 
-use c_reading::Fault;
+use crate::c_reading::Fault;
 use c_tree::Place;
 use std::alloc::{AllocError, AllocFailed};
 use thiserror::Error;

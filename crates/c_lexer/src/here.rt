@@ -1,7 +1,7 @@
 //! Where a reading stands: presumed file and line, and the column.
 
 ghost use Rattle.std.specs.Prelude.{◌≡◌, ◌+◌, ◌<◌, ◌≤◌, ◌^◌, ◌&&◌, length, ℕ, List, false};
-ghost use Rattle.c_reading.specs.Pieces.{beginning, behind_byte, behind_bytes, further};
+ghost use Rattle.c_lexer.specs.CReading.Pieces.{beginning, behind_byte, behind_bytes, further};
 ghost use Rattle.c_lexer.specs.Progress.{here_of, InBounds};
 
 use crate::bytes::is_gap;

@@ -1,8 +1,8 @@
 //! Which punctuators and words tokens are.
 
 ghost use Rattle.std.specs.Prelude.{◌≡◌};
-ghost use Rattle.c_reading.specs.Strip.{is_open_paren, is_close_paren, is_qualifier};
-ghost use Rattle.c_reading.specs.Chunks.{opens, closes, is_semicolon, is_open_brace, is_close_brace};
+ghost use Rattle.c_lexer.specs.CReading.Strip.{is_open_paren, is_close_paren, is_qualifier};
+ghost use Rattle.c_lexer.specs.CReading.Chunks.{opens, closes, is_semicolon, is_open_brace, is_close_brace};
 
 use c_tree::{Keyword, Mark, Punctuator, TokenKind};
 

@@ -2,10 +2,10 @@
 
 ghost use Rattle.std.specs.Prelude.{◌≡◌, ◌+◌, ◌<◌, ◌≤◌, ◌^◌, ◌++◌, [], ◌∷◌, length, drop, List, ℕ, Some, None, IfOk, IfErr, MatchResult, OnErr, slice_get, vec_len, true, ◌⊎◌};
 ghost use Rattle.mx_base.specs.Names.{AddsAtMost, HasNoRepeats, names_after};
-ghost use Rattle.c_reading.specs.declared.mode.Mode.{Mode as ReadMode};
-ghost use Rattle.c_reading.specs.Pieces.{Piece as ReadPiece, on_next_line};
-ghost use Rattle.c_reading.specs.declared.fault.Fault.{Fault as ReadFault};
-ghost use Rattle.c_reading.specs.Reading.{IsReading, IsFaulty};
+ghost use Rattle.c_lexer.specs.declared.c_reading.mode.Mode.{Mode as ReadMode};
+ghost use Rattle.c_lexer.specs.CReading.Pieces.{Piece as ReadPiece, on_next_line};
+ghost use Rattle.c_lexer.specs.declared.c_reading.fault.Fault.{Fault as ReadFault};
+ghost use Rattle.c_lexer.specs.CReading.Reading.{IsReading, IsFaulty};
 ghost use Rattle.c_lexer.specs.Found.{marker_view, following_line};
 ghost use Rattle.c_lexer.specs.Naming.{file_in, text_named, with_name, named_by};
 ghost use Rattle.c_lexer.specs.Pieces.{piece_view, piece_len, Says, NumbersLow};
@@ -13,12 +13,12 @@ ghost use Rattle.c_lexer.specs.Progress.{here_of, InBounds, Steps, Lands, spot_o
 ghost use Rattle.c_lexer.specs.Tokens.{Lexes, Refuses, IsThere, IsToken};
 ghost use Rattle.c_lexer.specs.declared.fault.LexFault.TheVariants.{NoMemory};
 
+use crate::c_reading::Mode;
 use crate::fault::{LexFault, Spot};
 use crate::here::Here;
 use crate::markers::{Marker, unescaped};
 use crate::pieces::{Piece, cut};
 use crate::tokens::Tokens;
-use c_reading::Mode;
 use c_tree::{Place, Token, TokenKind};
 use mx_base::Names;
 use std::alloc::{AllocError, Global};

@@ -1,7 +1,8 @@
-//! Reads bytes as the tokens of C or of a checker.
+//! Reads bytes as the tokens of C or of a checker, and what it means to read them.
 #![tactic(auto)]
 
 mod bytes;
+mod c_reading;
 mod chunk_bounds;
 mod constants;
 mod fault;

@@ -1,14 +1,14 @@
 //! Where literals and comments end.
 
 ghost use Rattle.std.specs.Prelude.{◌≡◌, ◌≤◌, length, IfSome, Some, ◌∷◌};
-ghost use Rattle.c_reading.specs.Spellings.{quoted, unprefixed_len, literal_len, literal_kind};
-ghost use Rattle.c_reading.specs.Cutting.{closing};
+ghost use Rattle.c_lexer.specs.CReading.Spellings.{quoted, unprefixed_len, literal_len, literal_kind};
+ghost use Rattle.c_lexer.specs.CReading.Cutting.{closing};
 
 use crate::bytes::{begins, is_quote};
 use c_tree::TokenKind;
 
 /// The number of bytes up to and with the first such quote that no backslash escapes, if the line doesn't end before it.
-#[tactic(auto, using(c_reading::proofs::Scans::quoted_steps))]
+#[tactic(auto, using(crate::proofs::CReading::Scans::quoted_steps))]
 pub fn quoted(quote: u8, bytes: &[u8]) -> Option<usize>
     ensures found { result ≡ quoted quote bytes.now }
     ensures within { IfSome result (λ n. n ≤ length bytes.now) }
@@ -40,7 +40,7 @@ pub fn quoted(quote: u8, bytes: &[u8]) -> Option<usize>
 }
 
 /// The number of bytes up to and with the first `*/`.
-#[tactic(auto, using(c_reading::proofs::Scans::closing_steps))]
+#[tactic(auto, using(crate::proofs::CReading::Scans::closing_steps))]
 pub fn closing(bytes: &[u8]) -> Option<usize>
     ensures found { result ≡ closing bytes.now }
     ensures within { IfSome result (λ n. n ≤ length bytes.now) }
@@ -75,7 +75,7 @@ fn unprefixed_len(bytes: &[u8]) -> Option<usize>
 }
 
 /// The length of a literal that begins here, perhaps behind `L`.
-#[tactic(auto, unfolding(c_reading::specs::Spellings::literal_len))]
+#[tactic(auto, unfolding(crate::specs::CReading::Spellings::literal_len))]
 pub fn literal_len(bytes: &[u8]) -> Option<usize>
     ensures found { result ≡ literal_len bytes.now }
     ensures within { IfSome result (λ n. n ≤ length bytes.now) }
@@ -90,7 +90,7 @@ pub fn literal_len(bytes: &[u8]) -> Option<usize>
 }
 
 /// What a literal is, by its first bytes.
-#[tactic(auto, unfolding(c_reading::specs::Spellings::literal_kind))]
+#[tactic(auto, unfolding(crate::specs::CReading::Spellings::literal_kind))]
 pub fn literal_kind(text: &[u8]) -> TokenKind
     ensures { result ≡ literal_kind text.now }
 {

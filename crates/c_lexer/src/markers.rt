@@ -2,7 +2,7 @@
 
 ghost use Rattle.std.specs.Prelude.{◌≡◌, ◌<◌, ◌≤◌, ◌^◌, IfOk, IfSome, length, codes, bytes_eq, ◌==◌, ◌&&◌, drop};
 ghost use Rattle.std.specs.Option.{option_map};
-ghost use Rattle.c_reading.specs.Markers.{after_gaps, are_flags, unescaped, behind_number, numbered, first_word, begins_gap, after_line_word, marker_of};
+ghost use Rattle.c_lexer.specs.CReading.Markers.{after_gaps, are_flags, unescaped, behind_number, numbered, first_word, begins_gap, after_line_word, marker_of};
 ghost use Rattle.c_lexer.specs.Found.{marker_view, following_line};
 
 use crate::bytes::{Class, begins, front_len, is_gap, within};
@@ -66,7 +66,7 @@ pub fn unescaped(alloc: Global, text: &[u8]) -> Result<Vec<u8>, AllocError>
 }
 
 /// What stands behind the line's number: a string or none, and flags.
-#[tactic(auto, unfolding(c_reading::specs::Markers::behind_number))]
+#[tactic(auto, unfolding(crate::specs::CReading::Markers::behind_number))]
 fn behind_number(text: &[u8], line: u32) -> Option<Marker<'_>>
     requires { line ≤ 2147483647 }
     ensures says { option_map marker_view result ≡ behind_number text.now line }
@@ -91,7 +91,7 @@ fn behind_number(text: &[u8], line: u32) -> Option<Marker<'_>>
 }
 
 /// A line's number and what stands behind it.
-#[tactic(auto, unfolding(c_reading::specs::Markers::numbered))]
+#[tactic(auto, unfolding(crate::specs::CReading::Markers::numbered))]
 fn numbered(text: &[u8]) -> Option<Marker<'_>>
     ensures says { option_map marker_view result ≡ numbered text.now }
     ensures line { IfSome result (λ marker. following_line marker ≤ 2147483647) }
@@ -115,7 +115,7 @@ fn first_word(text: &[u8]) -> &[u8]
 }
 
 /// What follows the word `line` and the spaces and tabs behind it, if they are there.
-#[tactic(auto, unfolding(c_reading::specs::Markers::after_line_word))]
+#[tactic(auto, unfolding(crate::specs::CReading::Markers::after_line_word))]
 fn after_line_word(text: &[u8]) -> &[u8]
     ensures { result.now ≡ after_line_word text.now }
 {
@@ -141,7 +141,7 @@ fn begins_gap(text: &[u8]) -> bool
 }
 
 /// What a marker line says, by its bytes behind `#` and before its end.
-#[tactic(auto, unfolding(c_reading::specs::Markers::marker_of))]
+#[tactic(auto, unfolding(crate::specs::CReading::Markers::marker_of))]
 pub fn marker_of(text: &[u8]) -> Option<Marker<'_>>
     ensures says { option_map marker_view result ≡ marker_of text.now }
     ensures line { IfSome result (λ marker. following_line marker ≤ 2147483647) }

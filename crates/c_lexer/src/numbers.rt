@@ -1,10 +1,10 @@
 //! How far a number goes.
 
 ghost use Rattle.std.specs.Prelude.{◌≡◌, ◌≤◌, length};
-ghost use Rattle.c_reading.specs.Runs.{run_len};
-ghost use Rattle.c_reading.specs.Constants.{is_e};
-ghost use Rattle.c_reading.specs.Spellings.{goes_on, begins_number};
-ghost use Rattle.c_reading.specs.Cutting.{number_len};
+ghost use Rattle.c_lexer.specs.CReading.Runs.{run_len};
+ghost use Rattle.c_lexer.specs.CReading.Constants.{is_e};
+ghost use Rattle.c_lexer.specs.CReading.Spellings.{goes_on, begins_number};
+ghost use Rattle.c_lexer.specs.CReading.Cutting.{number_len};
 
 use crate::bytes::{is_digit, is_word_byte};
 
@@ -27,7 +27,7 @@ pub fn is_e(byte: u8) -> bool
 }
 
 /// Whether a number goes on with this byte behind the previous one.
-#[tactic(auto, unfolding(c_reading::specs::Spellings::goes_on))]
+#[tactic(auto, unfolding(crate::specs::CReading::Spellings::goes_on))]
 fn goes_on(previous: u8, byte: u8) -> bool
     ensures { result ≡ goes_on previous byte }
 {
@@ -54,7 +54,7 @@ fn run_len(first: u8, bytes: &[u8]) -> usize
 }
 
 /// The length of the number that begins here, or 0.
-#[tactic(auto, unfolding(c_reading::specs::Cutting::number_len))]
+#[tactic(auto, unfolding(crate::specs::CReading::Cutting::number_len))]
 pub fn number_len(bytes: &[u8]) -> usize
     ensures count { result ≡ number_len bytes.now }
     ensures within { result ≤ length bytes.now }

@@ -1,15 +1,15 @@
 //! Which punctuator bytes are.
 
 ghost use Rattle.std.specs.Prelude.{◌≡◌, [], ◌∷◌, length, is_some, IfSome};
-ghost use Rattle.c_reading.specs.Words.{find_text};
-ghost use Rattle.c_reading.specs.Punctuators.{singles, pairs, triples, extra_single, extra_triple, punctuator_of};
+ghost use Rattle.c_lexer.specs.CReading.Words.{find_text};
+ghost use Rattle.c_lexer.specs.CReading.Punctuators.{singles, pairs, triples, extra_single, extra_triple, punctuator_of};
 ghost use Rattle.c_lexer.specs.Found.{GivesPunctuator, GivesShort};
 
-use c_reading::Mode;
+use crate::c_reading::Mode;
 use c_tree::Punctuator;
 
 /// The punctuator of this one byte in C.
-#[tactic(auto, unfolding(c_reading::specs::Punctuators::singles))]
+#[tactic(auto, unfolding(crate::specs::CReading::Punctuators::singles))]
 fn single_of_c(first: u8) -> Option<Punctuator>
     ensures { result ≡ find_text (first ∷ []) singles }
 {
@@ -43,7 +43,7 @@ fn single_of_c(first: u8) -> Option<Punctuator>
 }
 
 /// The punctuator of these two bytes.
-#[tactic(auto, unfolding(c_reading::specs::Punctuators::pairs))]
+#[tactic(auto, unfolding(crate::specs::CReading::Punctuators::pairs))]
 fn pair(first: u8, second: u8) -> Option<Punctuator>
     ensures { result ≡ find_text (first ∷ second ∷ []) pairs }
 {
@@ -72,7 +72,7 @@ fn pair(first: u8, second: u8) -> Option<Punctuator>
 }
 
 /// The punctuator of these three bytes in C.
-#[tactic(auto, unfolding(c_reading::specs::Punctuators::triples))]
+#[tactic(auto, unfolding(crate::specs::CReading::Punctuators::triples))]
 fn triple_of_c(first: u8, second: u8, third: u8) -> Option<Punctuator>
     ensures { result ≡ find_text (first ∷ second ∷ third ∷ []) triples }
 {
@@ -85,7 +85,7 @@ fn triple_of_c(first: u8, second: u8, third: u8) -> Option<Punctuator>
 }
 
 /// The punctuator of this one byte.
-#[tactic(auto, unfolding(c_reading::specs::Punctuators::punctuator_of, c_reading::specs::Punctuators::punctuators, c_reading::specs::Punctuators::singles))]
+#[tactic(auto, unfolding(crate::specs::CReading::Punctuators::punctuator_of, crate::specs::CReading::Punctuators::punctuators, crate::specs::CReading::Punctuators::singles))]
 fn single(mode: Mode, first: u8) -> Option<Punctuator>
     ensures { result ≡ punctuator_of mode (first ∷ []) }
 {
@@ -99,7 +99,7 @@ fn single(mode: Mode, first: u8) -> Option<Punctuator>
 }
 
 /// The punctuator of these three bytes.
-#[tactic(auto, unfolding(c_reading::specs::Punctuators::punctuator_of, c_reading::specs::Punctuators::punctuators, c_reading::specs::Punctuators::triples))]
+#[tactic(auto, unfolding(crate::specs::CReading::Punctuators::punctuator_of, crate::specs::CReading::Punctuators::punctuators, crate::specs::CReading::Punctuators::triples))]
 fn triple(mode: Mode, first: u8, second: u8, third: u8) -> Option<Punctuator>
     ensures { result ≡ punctuator_of mode (first ∷ second ∷ third ∷ []) }
 {
@@ -113,7 +113,7 @@ fn triple(mode: Mode, first: u8, second: u8, third: u8) -> Option<Punctuator>
 }
 
 /// The punctuator of these two bytes, or of the first one alone, with its length.
-#[tactic(auto, unfolding(c_reading::specs::Punctuators::punctuator_of, c_reading::specs::Punctuators::punctuators))]
+#[tactic(auto, unfolding(crate::specs::CReading::Punctuators::punctuator_of, crate::specs::CReading::Punctuators::punctuators))]
 fn pair_or_single(mode: Mode, first: u8, second: u8) -> Option<(usize, Punctuator)>
     ensures { GivesShort mode first second result }
 {
@@ -127,7 +127,7 @@ fn pair_or_single(mode: Mode, first: u8, second: u8) -> Option<(usize, Punctuato
 }
 
 /// The longest punctuator in front, with its length.
-#[tactic(auto, unfolding(c_reading::specs::Cutting::punctuator_len))]
+#[tactic(auto, unfolding(crate::specs::CReading::Cutting::punctuator_len))]
 pub fn punctuator(mode: Mode, bytes: &[u8]) -> Option<(usize, Punctuator)>
     ensures { GivesPunctuator mode bytes.now result }
 {

@@ -1,19 +1,19 @@
 //! The longest spelling in front of bytes, and what it is.
 
 ghost use Rattle.std.specs.Prelude.{◌≡◌, ◌<◌, IsTrue, slice_index, length, unwrap_or};
-ghost use Rattle.c_reading.specs.Bytes.{is_letter};
-ghost use Rattle.c_reading.specs.Spellings.{begins_number, literal_len};
-ghost use Rattle.c_reading.specs.Cutting.{word_len, number_len, punctuator_len, word_or_literal, spelling_len};
+ghost use Rattle.c_lexer.specs.CReading.Bytes.{is_letter};
+ghost use Rattle.c_lexer.specs.CReading.Spellings.{begins_number, literal_len};
+ghost use Rattle.c_lexer.specs.CReading.Cutting.{word_len, number_len, punctuator_len, word_or_literal, spelling_len};
 ghost use Rattle.c_lexer.specs.Found.{GivesSpelling, BeginsWith};
-ghost use Rattle.c_reading.specs.declared.mode.Mode.{Mode};
+ghost use Rattle.c_lexer.specs.declared.c_reading.mode.Mode.{Mode};
 
 use crate::bytes::{Class, front_len, is_letter, is_quote};
+use crate::c_reading::Mode;
 use crate::constants::number_kind;
 use crate::literals::{literal_kind, literal_len};
 use crate::numbers::{begins_number, number_len};
 use crate::punctuators::punctuator;
 use crate::words::word_kind;
-use c_reading::Mode;
 use c_tree::TokenKind;
 
 /// A spelling in front: its length, and what it is, if it is a token.
@@ -24,7 +24,7 @@ pub struct Spelled {
 }
 
 /// A literal.
-#[tactic(auto, using(c_reading::proofs::ClassKinds::literal_kinds))]
+#[tactic(auto, using(crate::proofs::CReading::ClassKinds::literal_kinds))]
 fn literal(mode: Mode, bytes: &[u8]) -> Option<Spelled>
     ensures { GivesSpelling mode bytes.now (unwrap_or (literal_len bytes.now) 0) result }
 {
@@ -39,7 +39,7 @@ fn literal(mode: Mode, bytes: &[u8]) -> Option<Spelled>
 }
 
 /// A literal behind `L`, else a word.
-#[tactic(auto, unfolding(c_reading::specs::Cutting::word_len), using(c_reading::proofs::ClassKinds::word_kinds))]
+#[tactic(auto, unfolding(crate::specs::CReading::Cutting::word_len), using(crate::proofs::CReading::ClassKinds::word_kinds))]
 fn word_or_literal(mode: Mode, first: u8, bytes: &[u8]) -> Option<Spelled>
     requires begins { BeginsWith first bytes.now }
     requires letter { IsTrue (is_letter first) }
@@ -54,7 +54,7 @@ fn word_or_literal(mode: Mode, first: u8, bytes: &[u8]) -> Option<Spelled>
 }
 
 /// A number.
-#[tactic(auto, using(c_reading::proofs::ClassKinds::number_kinds))]
+#[tactic(auto, using(crate::proofs::CReading::ClassKinds::number_kinds))]
 fn number(mode: Mode, bytes: &[u8]) -> Option<Spelled>
     requires { IsTrue (begins_number bytes.now) }
     ensures { GivesSpelling mode bytes.now (number_len bytes.now) result }
@@ -68,7 +68,7 @@ fn number(mode: Mode, bytes: &[u8]) -> Option<Spelled>
 }
 
 /// A punctuator.
-#[tactic(auto, using(c_reading::proofs::ClassKinds::punctuator_kinds))]
+#[tactic(auto, using(crate::proofs::CReading::ClassKinds::punctuator_kinds))]
 fn sign(mode: Mode, bytes: &[u8]) -> Option<Spelled>
     ensures { GivesSpelling mode bytes.now (punctuator_len mode bytes.now) result }
 {
@@ -80,7 +80,7 @@ fn sign(mode: Mode, bytes: &[u8]) -> Option<Spelled>
 }
 
 /// The longest spelling in front.
-#[tactic(auto, unfolding(c_reading::specs::Cutting::spelling_len))]
+#[tactic(auto, unfolding(crate::specs::CReading::Cutting::spelling_len))]
 pub fn spelling(mode: Mode, bytes: &[u8]) -> Option<Spelled>
     ensures { GivesSpelling mode bytes.now (spelling_len mode bytes.now) result }
 {

@@ -2,9 +2,9 @@
 
 ghost use Rattle.std.specs.Prelude.{◌≡◌, ◌+◌, ◌<◌, ◌≤◌, ℕ, List, ◌∷◌, length, drop, reverse, IfOk, IfSome, Some, slice_get};
 ghost use Rattle.c_tree.specs.declared.token.Token.{Token as TokenValue};
-ghost use Rattle.c_reading.specs.Strip.{group_len, asm_len, dropped_with, renamed, stripped};
+ghost use Rattle.c_lexer.specs.CReading.Strip.{group_len, asm_len, dropped_with, renamed, stripped};
 ghost use Rattle.c_lexer.specs.Groups.{AreEnds, AreGroups};
-ghost use Rattle.c_reading.specs.Scans.{plus};
+ghost use Rattle.c_lexer.specs.CReading.Scans.{plus};
 ghost use Rattle.c_tree.specs.TokenPlaces.{Rises};
 
 use crate::kinds::{is_close_paren, is_open_paren, is_qualifier};

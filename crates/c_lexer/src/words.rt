@@ -1,7 +1,7 @@
 //! What a word is, by its length and its bytes: a keyword, a word of GNU C with a mark, or a plain name.
 
 ghost use Rattle.std.specs.Prelude.{◌≡◌, unwrap_or, length, bytes_eq};
-ghost use Rattle.c_reading.specs.Words.{find_text, words_of, word_kind, words_2, words_3, words_4, words_5, words_6, words_7, words_8, words_9, words_10, words_11, words_12, words_13, words_16, words_17, words_18, words_19};
+ghost use Rattle.c_lexer.specs.CReading.Words.{find_text, words_of, word_kind, words_2, words_3, words_4, words_5, words_6, words_7, words_8, words_9, words_10, words_11, words_12, words_13, words_16, words_17, words_18, words_19};
 
 use c_tree::{Keyword, Mark, TokenKind};
 
@@ -21,7 +21,7 @@ fn is_word(text: &[u8], word: &[u8]) -> bool
     text == word
 }
 
-#[tactic(auto, unfolding(c_reading::specs::Words::words_2))]
+#[tactic(auto, unfolding(crate::specs::CReading::Words::words_2))]
 fn of_2(text: &[u8]) -> Option<TokenKind>
     ensures { result ≡ find_text text.now words_2 }
 {
@@ -32,7 +32,7 @@ fn of_2(text: &[u8]) -> Option<TokenKind>
     None
 }
 
-#[tactic(auto, unfolding(c_reading::specs::Words::words_3))]
+#[tactic(auto, unfolding(crate::specs::CReading::Words::words_3))]
 fn of_3(text: &[u8]) -> Option<TokenKind>
     ensures { result ≡ find_text text.now words_3 }
 {
@@ -44,7 +44,7 @@ fn of_3(text: &[u8]) -> Option<TokenKind>
     None
 }
 
-#[tactic(auto, unfolding(c_reading::specs::Words::words_4))]
+#[tactic(auto, unfolding(crate::specs::CReading::Words::words_4))]
 fn of_4(text: &[u8]) -> Option<TokenKind>
     ensures { result ≡ find_text text.now words_4 }
 {
@@ -61,7 +61,7 @@ fn of_4(text: &[u8]) -> Option<TokenKind>
     None
 }
 
-#[tactic(auto, unfolding(c_reading::specs::Words::words_5))]
+#[tactic(auto, unfolding(crate::specs::CReading::Words::words_5))]
 fn of_5(text: &[u8]) -> Option<TokenKind>
     ensures { result ≡ find_text text.now words_5 }
 {
@@ -78,7 +78,7 @@ fn of_5(text: &[u8]) -> Option<TokenKind>
     None
 }
 
-#[tactic(auto, unfolding(c_reading::specs::Words::words_6))]
+#[tactic(auto, unfolding(crate::specs::CReading::Words::words_6))]
 fn of_6(text: &[u8]) -> Option<TokenKind>
     ensures { result ≡ find_text text.now words_6 }
 {
@@ -96,7 +96,7 @@ fn of_6(text: &[u8]) -> Option<TokenKind>
     None
 }
 
-#[tactic(auto, unfolding(c_reading::specs::Words::words_7))]
+#[tactic(auto, unfolding(crate::specs::CReading::Words::words_7))]
 fn of_7(text: &[u8]) -> Option<TokenKind>
     ensures { result ≡ find_text text.now words_7 }
 {
@@ -109,7 +109,7 @@ fn of_7(text: &[u8]) -> Option<TokenKind>
     None
 }
 
-#[tactic(auto, unfolding(c_reading::specs::Words::words_8))]
+#[tactic(auto, unfolding(crate::specs::CReading::Words::words_8))]
 fn of_8(text: &[u8]) -> Option<TokenKind>
     ensures { result ≡ find_text text.now words_8 }
 {
@@ -129,7 +129,7 @@ fn of_8(text: &[u8]) -> Option<TokenKind>
     None
 }
 
-#[tactic(auto, unfolding(c_reading::specs::Words::words_9))]
+#[tactic(auto, unfolding(crate::specs::CReading::Words::words_9))]
 fn of_9(text: &[u8]) -> Option<TokenKind>
     ensures { result ≡ find_text text.now words_9 }
 {
@@ -142,7 +142,7 @@ fn of_9(text: &[u8]) -> Option<TokenKind>
     None
 }
 
-#[tactic(auto, unfolding(c_reading::specs::Words::words_10))]
+#[tactic(auto, unfolding(crate::specs::CReading::Words::words_10))]
 fn of_10(text: &[u8]) -> Option<TokenKind>
     ensures { result ≡ find_text text.now words_10 }
 {
@@ -156,7 +156,7 @@ fn of_10(text: &[u8]) -> Option<TokenKind>
     None
 }
 
-#[tactic(auto, unfolding(c_reading::specs::Words::words_11))]
+#[tactic(auto, unfolding(crate::specs::CReading::Words::words_11))]
 fn of_11(text: &[u8]) -> Option<TokenKind>
     ensures { result ≡ find_text text.now words_11 }
 {
@@ -166,7 +166,7 @@ fn of_11(text: &[u8]) -> Option<TokenKind>
     None
 }
 
-#[tactic(auto, unfolding(c_reading::specs::Words::words_12))]
+#[tactic(auto, unfolding(crate::specs::CReading::Words::words_12))]
 fn of_12(text: &[u8]) -> Option<TokenKind>
     ensures { result ≡ find_text text.now words_12 }
 {
@@ -178,7 +178,7 @@ fn of_12(text: &[u8]) -> Option<TokenKind>
     None
 }
 
-#[tactic(auto, unfolding(c_reading::specs::Words::words_13))]
+#[tactic(auto, unfolding(crate::specs::CReading::Words::words_13))]
 fn of_13(text: &[u8]) -> Option<TokenKind>
     ensures { result ≡ find_text text.now words_13 }
 {
@@ -189,7 +189,7 @@ fn of_13(text: &[u8]) -> Option<TokenKind>
     None
 }
 
-#[tactic(auto, unfolding(c_reading::specs::Words::words_16))]
+#[tactic(auto, unfolding(crate::specs::CReading::Words::words_16))]
 fn of_16(text: &[u8]) -> Option<TokenKind>
     ensures { result ≡ find_text text.now words_16 }
 {
@@ -199,7 +199,7 @@ fn of_16(text: &[u8]) -> Option<TokenKind>
     None
 }
 
-#[tactic(auto, unfolding(c_reading::specs::Words::words_17))]
+#[tactic(auto, unfolding(crate::specs::CReading::Words::words_17))]
 fn of_17(text: &[u8]) -> Option<TokenKind>
     ensures { result ≡ find_text text.now words_17 }
 {
@@ -209,7 +209,7 @@ fn of_17(text: &[u8]) -> Option<TokenKind>
     None
 }
 
-#[tactic(auto, unfolding(c_reading::specs::Words::words_18))]
+#[tactic(auto, unfolding(crate::specs::CReading::Words::words_18))]
 fn of_18(text: &[u8]) -> Option<TokenKind>
     ensures { result ≡ find_text text.now words_18 }
 {
@@ -219,7 +219,7 @@ fn of_18(text: &[u8]) -> Option<TokenKind>
     None
 }
 
-#[tactic(auto, unfolding(c_reading::specs::Words::words_19))]
+#[tactic(auto, unfolding(crate::specs::CReading::Words::words_19))]
 fn of_19(text: &[u8]) -> Option<TokenKind>
     ensures { result ≡ find_text text.now words_19 }
 {
@@ -230,7 +230,7 @@ fn of_19(text: &[u8]) -> Option<TokenKind>
 }
 
 /// What a word is, if it is more than a name.
-#[tactic(auto, unfolding(c_reading::specs::Words::words_of))]
+#[tactic(auto, unfolding(crate::specs::CReading::Words::words_of))]
 fn special(text: &[u8]) -> Option<TokenKind>
     ensures { result ≡ find_text text.now (words_of (length text.now)) }
 {
@@ -256,7 +256,7 @@ fn special(text: &[u8]) -> Option<TokenKind>
 }
 
 /// What a word is.
-#[tactic(auto, unfolding(c_reading::specs::Words::word_kind))]
+#[tactic(auto, unfolding(crate::specs::CReading::Words::word_kind))]
 pub fn word_kind(text: &[u8]) -> TokenKind
     ensures { result ≡ word_kind text.now }
 {

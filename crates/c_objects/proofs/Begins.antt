@@ -3,8 +3,8 @@ use Rattle.std.proofs.Common.{arith, ◌≡◌, ℕ, List, [], ◌∷◌, ◌++�
 use Rattle.c_objects.specs.Objects.{Selector, Object, path, same_var, same_selector}
 use Rattle.c_objects.specs.Paths.{append, behind, rest, begins_with, rebase}
 use Rattle.c_objects.proofs.Vars.{same_var-true, same_var-refl, same_selector-true, same_selector-refl}
-use Rattle.c_typing.specs.Options.{◌>?◌}
-use Rattle.c_typing.specs.Vars.{CVar}
+use Rattle.type_rules.specs.Options.{◌>?◌}
+use Rattle.type_rules.specs.Vars.{CVar}
 
 step-behind : (ps ss r : List Selector) (p s : Selector) (b : Bool) → same_selector p s ≡ b → cond b (behind ps ss) None ≡ Some r → ((behind ps ss ≡ Some r) → ss ≡ (ps ++ r)) → (s ∷ ss) ≡ (p ∷ (ps ++ r))
 step-behind ps ss r p s true e h k = let same = same_selector-true p s e in let l = k h in grind arith

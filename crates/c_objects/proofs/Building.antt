@@ -13,10 +13,10 @@ use Rattle.c_tree.specs.declared.token.Token.{Token}
 use Rattle.c_tree.specs.declared.token.TokenKind.{TokenKind}
 use Rattle.c_tree.specs.declared.token.TokenKind.TheVariants as kinds
 use Rattle.c_tree.specs.Node.{Node, node, Shape, Primary, Operation, Specifier, Ident, Constant, Paren, Index, Call, Member, Arrow, Unary, Cast, TypeName, Specs, absent, no_more}
-use Rattle.c_typing.specs.Arithmetic as kind
-use Rattle.c_typing.specs.Definition.{Cell}
-use Rattle.c_typing.specs.Types.{CType, Arith, Pointer, Array, Func, Struct, int}
-use Rattle.c_typing.specs.Vars.{CVar, Extern, FileStatic, Param, Local}
+use Rattle.type_rules.specs.Arithmetic as kind
+use Rattle.type_rules.specs.Definition.{Cell}
+use Rattle.type_rules.specs.Types.{CType, Arith, Pointer, Array, Func, Struct, int}
+use Rattle.type_rules.specs.Vars.{CVar, Extern, FileStatic, Param, Local}
 
 abbrev pub p : CVar
 p = Param 0 10 0

@@ -8,8 +8,8 @@ use Rattle.c_objects.specs.Paths.{append, addressed}
 use Rattle.c_objects.proofs.Steps.{bind-bind, bind-same, short-up_to, long-up_to, by-length, cut-first, append-cut}
 use Rattle.c_tree.specs.declared.operator.UnaryOp.TheVariants as unary
 use Rattle.c_tree.specs.Node.{Node, node, Primary, Operation, PrimaryShape, OperationShape, Ident, Paren, Index, Member, Arrow, Unary, Cast}
-use Rattle.c_typing.specs.Options.{◌>?◌}
-use Rattle.c_typing.specs.Vars.{CVar}
+use Rattle.type_rules.specs.Options.{◌>?◌}
+use Rattle.type_rules.specs.Vars.{CVar}
 
 onward-cut : (depth more : ℕ) (r : List Selector) (o : Option Object) → depth ≤ more → onward depth r (o >? up_to depth) ≡ (onward more r o >? up_to depth)
 onward-cut depth more r o m =

@@ -8,8 +8,8 @@ use Rattle.c_objects.specs.ObjectOf.{index_of, onward, onward_at, object_of, pri
 use Rattle.c_objects.specs.Paths.{append, addressed, rest, has_access, rebased_address, rebase}
 use Rattle.c_tree.specs.declared.operator.UnaryOp.TheVariants as unary
 use Rattle.c_tree.specs.Node.{Node, node, Primary, Operation, PrimaryShape, OperationShape, Ident, Paren, Index, Member, Arrow, Unary, Cast}
-use Rattle.c_typing.specs.Options.{◌>?◌}
-use Rattle.c_typing.specs.Vars.{CVar}
+use Rattle.type_rules.specs.Options.{◌>?◌}
+use Rattle.type_rules.specs.Vars.{CVar}
 
 -- none, or an object at the depth
 abbrev Fits : ℕ → Option Object → Type 0

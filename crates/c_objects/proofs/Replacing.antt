@@ -6,8 +6,8 @@ use Rattle.c_objects.specs.Paths.{append, addressed, behind, rest, has_access, r
 use Rattle.c_objects.proofs.Begins.{behind-some, rest-itself}
 use Rattle.c_objects.proofs.Steps.{short-up_to, long-up_to, by-length}
 use Rattle.c_objects.proofs.Vars.{same_var-true}
-use Rattle.c_typing.specs.Options.{◌>?◌, if_there}
-use Rattle.c_typing.specs.Vars.{CVar}
+use Rattle.type_rules.specs.Options.{◌>?◌, if_there}
+use Rattle.type_rules.specs.Vars.{CVar}
 use Rattle.c_objects.specs.Replaced.{pointed, replaced}
 use Rattle.c_objects.proofs.Cuts.{address-cut}
 

@@ -6,7 +6,7 @@ use Rattle.c_objects.specs.Objects.{Deref, Field, At, AtVar, path, address_of, i
 use Rattle.c_objects.specs.Paths.{append, begins_with, rebase}
 use Rattle.c_objects.specs.Text.{object_text}
 use Rattle.c_objects.proofs.Building.{p, s, a, i, x, q, names}
-use Rattle.c_typing.specs.Vars.{LocalStatic, Local, Result, Called}
+use Rattle.type_rules.specs.Vars.{LocalStatic, Local, Result, Called}
 
 -- behind a path, and up to the depth
 pub behind_path : append 2 (path p (Deref ∷ [])) (Field 8 ∷ []) ≡ Some (path p (Deref ∷ Field 8 ∷ []))

@@ -2,8 +2,8 @@
 use Rattle.std.proofs.Common.{arith, ◌≡◌, ℕ, ◌≤◌, ◌<◌, List, [], ◌∷◌, ◌++◌, length, Bool, true, false, Option, None, Some, refl, ◌∙◌, sym, ap, nat_le, cond}
 use Rattle.c_objects.specs.Objects.{Selector, Deref, Field, At, AtVar, Object, path, up_to}
 use Rattle.c_objects.specs.Paths.{joined, append}
-use Rattle.c_typing.specs.Options.{◌>?◌}
-use Rattle.c_typing.specs.Vars.{CVar}
+use Rattle.type_rules.specs.Options.{◌>?◌}
+use Rattle.type_rules.specs.Vars.{CVar}
 
 pub bind-bind : {A B C : Type 0} (o : Option A) (f : A → Option B) (g : B → Option C) → ((o >? f) >? g) ≡ (o >? λ x. f x >? g)
 bind-bind None f g = refl

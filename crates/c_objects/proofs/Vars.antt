@@ -1,7 +1,7 @@
 -- Variables and steps that are found the same are equal.
 use Rattle.std.proofs.Common.{arith, ◌≡◌, true, refl, ap}
 use Rattle.c_objects.specs.Objects.{Selector, Deref, Field, At, AtVar, same_var, same_selector}
-use Rattle.c_typing.specs.Vars.{CVar, Extern, FileStatic, LocalStatic, Param, Local, Result, Called}
+use Rattle.type_rules.specs.Vars.{CVar, Extern, FileStatic, LocalStatic, Param, Local, Result, Called}
 
 pub same_var-true : (a b : CVar) → same_var a b ≡ true → a ≡ b
 same_var-true (Extern n) (Extern m) h = grind arith

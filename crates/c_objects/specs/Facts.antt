@@ -2,11 +2,11 @@
 -- structures and unions by theirs.
 use Rattle.std.specs.Prelude.{ℕ, List, get_or, Option, None}
 use Rattle.c_tree.specs.Node.{Node, node, Nodes}
-use Rattle.c_typing.specs.Definition.{Table, at}
-use Rattle.c_typing.specs.Functions.{structs_of}
-use Rattle.c_typing.specs.Options.{if_there, ◌>?◌}
-use Rattle.c_typing.specs.Types.{CType, Void}
-use Rattle.c_typing.specs.Vars.{CVar}
+use Rattle.type_rules.specs.Definition.{Table, at}
+use Rattle.type_rules.specs.Functions.{structs_of}
+use Rattle.type_rules.specs.Options.{if_there, ◌>?◌}
+use Rattle.type_rules.specs.Types.{CType, Void}
+use Rattle.type_rules.specs.Vars.{CVar}
 
 pub record Facts : Type 0 where
   pub table : Table

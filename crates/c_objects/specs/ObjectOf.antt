@@ -8,9 +8,9 @@ use Rattle.c_tree.specs.declared.operator.UnaryOp.TheVariants as unary
 use Rattle.c_tree.specs.declared.token.TokenKind.{TokenKind}
 use Rattle.c_tree.specs.declared.token.TokenKind.TheVariants as kinds
 use Rattle.c_tree.specs.Node.{Node, node, Primary, Operation, PrimaryShape, OperationShape, Ident, Constant, Paren, Index, Member, Arrow, Unary, Cast}
-use Rattle.c_typing.specs.Options.{◌>?◌}
-use Rattle.c_typing.specs.Types.{CType, is_integer}
-use Rattle.c_typing.specs.Vars.{CVar}
+use Rattle.type_rules.specs.Options.{◌>?◌}
+use Rattle.type_rules.specs.Types.{CType, is_integer}
+use Rattle.type_rules.specs.Vars.{CVar}
 
 -- the value of an integer constant
 abbrev pub integer_value : TokenKind → Option ℕ

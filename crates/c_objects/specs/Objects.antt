@@ -1,6 +1,6 @@
 -- Objects: access paths, and their addresses.
 use Rattle.std.specs.Prelude.{◌≡◌, ℕ, ◌≤◌, nat_eq, nat_le, List, [], ◌∷◌, length, Bool, true, false, cond, not, ◌&&◌, ◌||◌, Option, None, Some}
-use Rattle.c_typing.specs.Vars.{CVar, Extern, FileStatic, LocalStatic, Param, Local, Result, Called}
+use Rattle.type_rules.specs.Vars.{CVar, Extern, FileStatic, LocalStatic, Param, Local, Result, Called}
 
 -- One step of a path: `*`, `.f` by the name of the member, `[n]` by an integer constant, `[i]` by an integer variable.
 pub data Selector : Type 0 where

@@ -1,7 +1,7 @@
 -- Steps behind an object, and a path put in the place of another.
 use Rattle.std.specs.Prelude.{ℕ, List, [], ◌∷◌, ◌++◌, Bool, true, false, cond, not, ◌&&◌, ◌||◌, Option, None, Some, is_some}
 use Rattle.c_objects.specs.Objects.{Selector, Deref, Field, Object, path, address_of, ends_in_star, up_to, same_var, same_selector}
-use Rattle.c_typing.specs.Options.{◌>?◌}
+use Rattle.type_rules.specs.Options.{◌>?◌}
 
 -- behind the address of a path: nothing, or first of all `*`, which gives the path
 abbrev pub joined_address : Object → List Selector → Option Object

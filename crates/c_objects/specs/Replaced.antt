@@ -2,7 +2,7 @@
 use Rattle.std.specs.Prelude.{ℕ, List, [], ◌∷◌, Bool, true, false, cond, Option}
 use Rattle.c_objects.specs.Objects.{Selector, Deref, Object, path, up_to}
 use Rattle.c_objects.specs.Paths.{append, addressed, rest, rebase}
-use Rattle.c_typing.specs.Options.{◌>?◌}
+use Rattle.type_rules.specs.Options.{◌>?◌}
 
 -- where the address `&P` was put there: what comes to `P` and these steps, or to the address of that
 abbrev pub pointed : ℕ → Object → Bool → List Selector → Option Object

@@ -2,7 +2,7 @@
 use Rattle.std.specs.Prelude.{ℕ, List, [], ◌∷◌, ◌++◌, get_or, reverse, Bool, true, false, cond, codes}
 use Rattle.std.specs.Fmt.{decimal}
 use Rattle.c_objects.specs.Objects.{Selector, Deref, Field, At, AtVar, Object}
-use Rattle.c_typing.specs.Vars.{CVar, Extern, FileStatic, LocalStatic, Param, Local, Result, Called}
+use Rattle.type_rules.specs.Vars.{CVar, Extern, FileStatic, LocalStatic, Param, Local, Result, Called}
 
 abbrev pub text_of : List (List ℕ) → ℕ → List ℕ
 text_of names n = get_or names n []

@@ -6,8 +6,8 @@ use Rattle.c_objects.specs.ObjectOf.{object_of}
 use Rattle.c_objects.specs.Paths.{append, rebase, begins_with}
 use Rattle.c_objects.specs.Replaced.{replaced}
 use Rattle.c_tree.specs.Node.{Node}
-use Rattle.c_typing.specs.Options.{◌>?◌}
-use Rattle.c_typing.specs.Vars.{CVar}
+use Rattle.type_rules.specs.Options.{◌>?◌}
+use Rattle.type_rules.specs.Vars.{CVar}
 
 -- the object of a tree is an object at the depth
 abbrev pub TreesHaveObjects : Type 0

@@ -9,15 +9,15 @@ use Rattle.c_tree.specs.Symbol.{Symbol, symbols_of}
 use Rattle.c_tree.specs.Syntax.{Syntax, Syntaxes, no_more, more}
 use Rattle.c_tree.specs.Forget.{view, view_all}
 use Rattle.c_tree.specs.Views.{node_of}
-use Rattle.c_places.specs.Stands.{StandsOver}
-use Rattle.c_reading.specs.Chunks.{EndsChunk, IsChunk, Follow, AreChunks, IsCut}
+use Rattle.c_grammar.specs.CPlaces.Stands.{StandsOver}
+use Rattle.c_lexer.specs.CReading.Chunks.{EndsChunk, IsChunk, Follow, AreChunks, IsCut}
 use Rattle.c_grammar.specs.Names.{Names}
 use Rattle.c_grammar.specs.Reading.{read as read_expressions}
-use Rattle.unit_grammar.specs.Names.{declared}
-use Rattle.unit_grammar.specs.Grammar.{IsParse, AreParses, IsFirstBad}
-use Rattle.unit_grammar.specs.Theorems.{ParsesAreUnique, ChunksAreRead}
-use Rattle.unit_grammar.specs.ChunkSteps.{read_chunk}
-use Rattle.unit_grammar.specs.Reading.{read, chunk}
+use Rattle.c_grammar.specs.UnitGrammar.Names.{declared}
+use Rattle.c_grammar.specs.UnitGrammar.Grammar.{IsParse, AreParses, IsFirstBad}
+use Rattle.c_grammar.specs.UnitGrammar.Theorems.{ParsesAreUnique, ChunksAreRead}
+use Rattle.c_grammar.specs.UnitGrammar.ChunkSteps.{read_chunk}
+use Rattle.c_grammar.specs.UnitGrammar.Reading.{read, chunk}
 use Rattle.c_expr.specs.Gives.{before}
 use Rattle.c_expr.specs.Standing.{IsFirst}
 use Rattle.c_expr.proofs.Items.{before-push, before-none}
@@ -27,7 +27,7 @@ use Rattle.c_expr.specs.declared.nodes.Read.{Read}
 use Rattle.c_parser.specs.Units.{tokens_in, IsParseIn, AreTheTrees, IsFirstBadAt}
 use Rattle.c_parser.specs.declared.fault.ParseFault.{ParseFault}
 use Rattle.c_parser.specs.declared.fault.ParseFault.TheVariants.{NoMemory, Syntax as SyntaxAt}
-use Rattle.c_unit.specs.declared.unit.Unit.{Unit}
+use Rattle.type_values.specs.declared.unit.Unit.{Unit}
 
 -- Chunks of the same tokens are the same.
 

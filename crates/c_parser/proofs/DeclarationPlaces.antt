@@ -11,10 +11,10 @@ use Rattle.c_tree.specs.Forget.{syntax_of, shape_syntax, view}
 use Rattle.c_tree.specs.Node.{Node, node, Shape, Nodes}
 use Rattle.c_tree.specs.Node as nodes
 use Rattle.c_tree.specs.Views.{node_of, nodes_of, nodes_in}
-use Rattle.c_places.specs.Lines.{Line, at, names, sign, comma_if, ◌⨾◌, line_of, list_line}
-use Rattle.c_places.specs.Stands.{Stands, OfNothing, OfName, OfBoth, StandsOver}
+use Rattle.c_grammar.specs.CPlaces.Lines.{Line, at, names, sign, comma_if, ◌⨾◌, line_of, list_line}
+use Rattle.c_grammar.specs.CPlaces.Stands.{Stands, OfNothing, OfName, OfBoth, StandsOver}
 use Rattle.c_grammar.specs.Names.{Names, name_of, with_name}
-use Rattle.unit_grammar.specs.Names.{declared, declared_name, with_declarators}
+use Rattle.c_grammar.specs.UnitGrammar.Names.{declared, declared_name, with_declarators}
 use Rattle.c_expr.specs.declared.fault.ExprFault.{ExprFault}
 use Rattle.c_expr.specs.declared.nodes.Read.{Read}
 use Rattle.c_expr.specs.Standing.{IsMade, Makes, Passes}

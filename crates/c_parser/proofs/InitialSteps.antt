@@ -15,11 +15,11 @@ use Rattle.c_grammar.specs.Found.{Found, made, Reader}
 use Rattle.c_grammar.specs.Reading.{read as read_expressions}
 use Rattle.c_grammar.proofs.Options.{which, made_low}
 use Rattle.c_grammar.proofs.Sound.{read-sound as expressions-sound}
-use Rattle.unit_grammar.specs.Names.{declared_name, with_declarators}
-use Rattle.unit_grammar.specs.Construct.{BracedInitials, ConstructReader}
-use Rattle.unit_grammar.specs.DeclarationSteps.{read_initial, read_initialized}
-use Rattle.unit_grammar.specs.Reading.{read}
-use Rattle.unit_grammar.proofs.Sound.{read-sound as units-sound}
+use Rattle.c_grammar.specs.UnitGrammar.Names.{declared_name, with_declarators}
+use Rattle.c_grammar.specs.UnitGrammar.Construct.{BracedInitials, ConstructReader}
+use Rattle.c_grammar.specs.UnitGrammar.DeclarationSteps.{read_initial, read_initialized}
+use Rattle.c_grammar.specs.UnitGrammar.Reading.{read}
+use Rattle.c_grammar.proofs.UnitGrammar.Sound.{read-sound as units-sound}
 use Rattle.c_expr.specs.Gives.{Gives}
 use Rattle.c_expr.specs.declared.fault.ExprFault.{ExprFault}
 use Rattle.c_expr.specs.declared.fault.ExprFault.TheVariants.{NoTree}

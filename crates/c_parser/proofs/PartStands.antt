@@ -2,8 +2,8 @@
 use Rattle.std.proofs.Common.{◌≡◌, ℕ, ◌+◌, ◌-◌, ◌≤◌, List, [], ◌∷◌, ◌++◌, drop, take, sym, ap, ◌∙◌, subst, arith}
 use Rattle.std.proofs.lemmas.List.{take-append-drop, append_assoc, drop-drop}
 use Rattle.c_tree.specs.declared.token.Token.{Token}
-use Rattle.c_places.specs.Lines.{Line, nothing, kept, all_kept, fixed, at, numbered, names, ◌⨾◌}
-use Rattle.c_places.specs.Stands.{Stands, OfNothing, OfKept, OfAll, OfFixed, OfPlace, OfNumber, OfName, OfBoth}
+use Rattle.c_grammar.specs.CPlaces.Lines.{Line, nothing, kept, all_kept, fixed, at, numbered, names, ◌⨾◌}
+use Rattle.c_grammar.specs.CPlaces.Stands.{Stands, OfNothing, OfKept, OfAll, OfFixed, OfPlace, OfNumber, OfName, OfBoth}
 use Rattle.c_parser.specs.Units.{tokens_in}
 
 pub stands_longer : (l : Line) (low high : ℕ) (ts rest us : List Token) → Stands l low high ts rest → Stands l low high (ts ++ us) (rest ++ us)

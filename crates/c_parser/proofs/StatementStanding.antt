@@ -3,8 +3,8 @@ use Rattle.std.proofs.Common.{◌≡◌, ℕ, List, ◌∷◌, ap, subst}
 use Rattle.c_tree.specs.declared.keyword.Keyword.{Keyword}
 use Rattle.c_tree.specs.declared.token.Token.{Token}
 use Rattle.c_tree.specs.Symbol.{Symbol, Reserved, symbols_of}
-use Rattle.c_places.specs.Lines.{Line, fixed, at, kept, ◌⨾◌}
-use Rattle.c_places.specs.Stands.{Stands, OfKept, OfFixed, OfPlace, OfBoth}
+use Rattle.c_grammar.specs.CPlaces.Lines.{Line, fixed, at, kept, ◌⨾◌}
+use Rattle.c_grammar.specs.CPlaces.Stands.{Stands, OfKept, OfFixed, OfPlace, OfBoth}
 use Rattle.c_expr.specs.Standing.{Passes, Keeps}
 use Rattle.c_expr.proofs.Standing.{then_both}
 

@@ -5,8 +5,8 @@ use Rattle.c_tree.specs.declared.punctuator.Punctuator.TheVariants as marks
 use Rattle.c_tree.specs.declared.token.Token.{Token}
 use Rattle.c_tree.specs.Symbol.{Sign, Reserved}
 use Rattle.c_tree.specs.Node.{Node, Nodes}
-use Rattle.c_places.specs.Lines.{sign, keyword, ◌⨾◌, line_of, row_line, list_line, comma_if, tag_if}
-use Rattle.c_places.specs.Stands.{Stands, OfNothing, OfBoth, StandsOver}
+use Rattle.c_grammar.specs.CPlaces.Lines.{sign, keyword, ◌⨾◌, line_of, row_line, list_line, comma_if, tag_if}
+use Rattle.c_grammar.specs.CPlaces.Stands.{Stands, OfNothing, OfBoth, StandsOver}
 use Rattle.c_expr.specs.Standing.{Passes, Keeps}
 use Rattle.c_parser.specs.Tags.{Opens}
 

@@ -16,10 +16,10 @@ use Rattle.c_grammar.specs.Found.{made}
 use Rattle.c_grammar.specs.Reading.{read as read_expressions}
 use Rattle.c_grammar.proofs.Options.{made_some}
 use Rattle.c_grammar.proofs.Sound.{read-sound}
-use Rattle.unit_grammar.specs.Construct.{SpecifiersIn, StructMember}
-use Rattle.unit_grammar.specs.Names.{declared, declared_by_all}
-use Rattle.unit_grammar.specs.Reading.{read}
-use Rattle.unit_grammar.specs.TaggedSteps.{read_declared_members}
+use Rattle.c_grammar.specs.UnitGrammar.Construct.{SpecifiersIn, StructMember}
+use Rattle.c_grammar.specs.UnitGrammar.Names.{declared, declared_by_all}
+use Rattle.c_grammar.specs.UnitGrammar.Reading.{read}
+use Rattle.c_grammar.specs.UnitGrammar.TaggedSteps.{read_declared_members}
 use Rattle.c_expr.specs.Gives.{Gives}
 use Rattle.c_expr.specs.declared.fault.ExprFault.{ExprFault}
 use Rattle.c_expr.specs.declared.nodes.Read.{Read}

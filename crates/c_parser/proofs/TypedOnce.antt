@@ -11,11 +11,11 @@ use Rattle.c_grammar.specs.Specifiers.{Place, begins_tag, goes_on, types, type_w
 use Rattle.c_grammar.specs.Found.{◌>>=◌, if_there, Found, made}
 use Rattle.c_grammar.specs.SpecifierSteps.{read_item, read_items}
 use Rattle.c_grammar.proofs.Options.{both, parts}
-use Rattle.unit_grammar.specs.Construct.{SpecifiersIn, TaggedType}
-use Rattle.unit_grammar.specs.Grammar.{IsTaggedTree}
-use Rattle.unit_grammar.specs.Names.{declared}
-use Rattle.unit_grammar.specs.Reading.{read}
-use Rattle.unit_grammar.proofs.Sound.{read-sound}
+use Rattle.c_grammar.specs.UnitGrammar.Construct.{SpecifiersIn, TaggedType}
+use Rattle.c_grammar.specs.UnitGrammar.Grammar.{IsTaggedTree}
+use Rattle.c_grammar.specs.UnitGrammar.Names.{declared}
+use Rattle.c_grammar.specs.UnitGrammar.Reading.{read}
+use Rattle.c_grammar.proofs.UnitGrammar.Sound.{read-sound}
 use Rattle.c_expr.specs.Gives.{ending_with}
 use Rattle.c_expr.proofs.Items.{before-none, height_in-push, count_in-push, ending-longer, list_out}
 use Rattle.c_parser.specs.TypedOnce.{read_typed_once, specs_made}

@@ -5,7 +5,7 @@ use Rattle.c_tree.specs.declared.keyword.Keyword.TheVariants as words
 use Rattle.c_tree.specs.Syntax.{Syntax, Syntaxes, no_more, more}
 use Rattle.c_grammar.specs.Symbols.{same_keyword}
 use Rattle.c_grammar.specs.Specifiers.{storages_of, storages}
-use Rattle.unit_grammar.specs.Names.{has_typedef}
+use Rattle.c_grammar.specs.UnitGrammar.Names.{has_typedef}
 
 pub typedef_none : has_typedef [] ≡ false
 unfolding has_typedef

@@ -1,6 +1,6 @@
 -- What stands around a statement.
 use Rattle.std.specs.Prelude.{ℕ, List}
-use Rattle.unit_grammar.specs.Control.{Surroundings}
+use Rattle.c_grammar.specs.UnitGrammar.Control.{Surroundings}
 use Rattle.c_parser.specs.declared.control.Around.{Around}
 
 abbrev pub surroundings : Around → List ℕ → Surroundings

@@ -2,8 +2,8 @@
 use Rattle.std.specs.Prelude.{ℕ, List, Result}
 use Rattle.c_tree.specs.declared.token.Token.{Token}
 use Rattle.c_tree.specs.Node.{Node}
-use Rattle.c_places.specs.Lines.{◌⨾◌, line_of}
-use Rattle.c_places.specs.Stands.{Stands}
+use Rattle.c_grammar.specs.CPlaces.Lines.{◌⨾◌, line_of}
+use Rattle.c_grammar.specs.CPlaces.Stands.{Stands}
 use Rattle.c_expr.specs.declared.fault.ExprFault.{ExprFault}
 use Rattle.c_expr.specs.declared.nodes.Read.{Read}
 use Rattle.c_expr.specs.Standing.{Over}

@@ -8,8 +8,8 @@ use Rattle.c_tree.specs.Syntax.{Syntaxes}
 use Rattle.c_tree.specs.Height.{height_in}
 use Rattle.c_tree.specs.Forget.{list_view}
 use Rattle.c_tree.specs.Views.{nodes_of}
-use Rattle.c_places.specs.Lines.{sign, comma_if, ◌⨾◌, list_line}
-use Rattle.c_places.specs.Stands.{Stands}
+use Rattle.c_grammar.specs.CPlaces.Lines.{sign, comma_if, ◌⨾◌, list_line}
+use Rattle.c_grammar.specs.CPlaces.Stands.{Stands}
 use Rattle.c_expr.specs.Gives.{before}
 use Rattle.c_expr.specs.declared.fault.ExprFault.{ExprFault}
 use Rattle.c_expr.specs.declared.fault.ExprFault.TheVariants.{NoTree}

@@ -1,6 +1,6 @@
 -- Labels that are gathered one after the other.
 use Rattle.std.specs.Prelude.{ℕ, Bool, true, false, cond, List, [], ◌∷◌, ◌++◌, Option, None, Some}
-use Rattle.unit_grammar.specs.Control.{has_name}
+use Rattle.c_grammar.specs.UnitGrammar.Control.{has_name}
 
 -- the labels behind one, which is new or not
 abbrev pub with_label : List ℕ → ℕ → Bool → List ℕ

@@ -7,8 +7,8 @@ use Rattle.c_tree.specs.Syntax.{MaybeSyntax}
 use Rattle.c_tree.specs.Views.{option_node, nodes_of}
 use Rattle.c_tree.specs.Height.{height_maybe}
 use Rattle.c_tree.specs.Forget.{maybe_view}
-use Rattle.c_places.specs.Lines.{sign, ◌⨾◌, maybe_line, row_line, list_line}
-use Rattle.c_places.specs.Stands.{Stands}
+use Rattle.c_grammar.specs.CPlaces.Lines.{sign, ◌⨾◌, maybe_line, row_line, list_line}
+use Rattle.c_grammar.specs.CPlaces.Stands.{Stands}
 use Rattle.c_expr.specs.declared.fault.ExprFault.{ExprFault}
 use Rattle.c_expr.specs.declared.fault.ExprFault.TheVariants.{NoTree}
 use Rattle.c_expr.specs.declared.nodes.ReadList.{ReadList}

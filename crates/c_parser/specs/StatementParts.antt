@@ -3,8 +3,8 @@ use Rattle.std.specs.Prelude.{ℕ, List, Result, Ok, Err}
 use Rattle.c_tree.specs.declared.punctuator.Punctuator.TheVariants as marks
 use Rattle.c_tree.specs.declared.token.Token.{Token}
 use Rattle.c_tree.specs.Views.{node_of}
-use Rattle.c_places.specs.Lines.{sign, ◌⨾◌, line_of}
-use Rattle.c_places.specs.Stands.{Stands}
+use Rattle.c_grammar.specs.CPlaces.Lines.{sign, ◌⨾◌, line_of}
+use Rattle.c_grammar.specs.CPlaces.Stands.{Stands}
 use Rattle.c_expr.specs.declared.fault.ExprFault.{ExprFault}
 use Rattle.c_expr.specs.declared.nodes.Read.{Read}
 use Rattle.c_parser.specs.declared.parts.MaybeRead.{MaybeRead}

@@ -4,9 +4,9 @@ use Rattle.c_tree.specs.declared.place.Place.{Place}
 use Rattle.c_tree.specs.declared.token.Token.{Token}
 use Rattle.c_tree.specs.Symbol.{symbols_of}
 use Rattle.c_tree.specs.Syntax.{Syntax, Syntaxes}
-use Rattle.c_reading.specs.Chunks.{EndsChunk}
+use Rattle.c_lexer.specs.CReading.Chunks.{EndsChunk}
 use Rattle.c_grammar.specs.Names.{Names}
-use Rattle.unit_grammar.specs.Grammar.{IsParse, AreParses, IsFirstBad}
+use Rattle.c_grammar.specs.UnitGrammar.Grammar.{IsParse, AreParses, IsFirstBad}
 use Rattle.c_expr.specs.Standing.{IsFirst}
 
 -- the tokens of the chunk with these bounds

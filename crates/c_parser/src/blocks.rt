@@ -4,9 +4,9 @@ ghost use Rattle.std.specs.Prelude.{◌≡◌, ◌+◌, ◌-◌, ◌*◌, ◌<�
 ghost use Rattle.c_tree.specs.declared.punctuator.Punctuator.TheVariants as marks;
 ghost use Rattle.c_tree.specs.declared.token.Token.{Token};
 ghost use Rattle.c_tree.specs.Symbol.{Sign, symbols_of};
-ghost use Rattle.unit_grammar.specs.Construct.{FunctionBody};
-ghost use Rattle.unit_grammar.specs.StatementSteps as steps;
-ghost use Rattle.unit_grammar.specs.Reading.{read};
+ghost use Rattle.c_grammar.specs.UnitGrammar.Construct.{FunctionBody};
+ghost use Rattle.c_grammar.specs.UnitGrammar.StatementSteps as steps;
+ghost use Rattle.c_grammar.specs.UnitGrammar.Reading.{read};
 ghost use Rattle.c_expr.specs.Standing.{Over, Passes, IsFirst};
 ghost use Rattle.c_expr.specs.Gives.{Gives, GivesList, AsBefore, left, left_by_list, Spends};
 ghost use Rattle.c_parser.specs.Parts.{OverRowUpTo};

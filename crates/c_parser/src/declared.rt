@@ -6,7 +6,7 @@ ghost use Rattle.c_tree.specs.Symbol.{symbol_of};
 ghost use Rattle.c_tree.specs.Syntax as kinds;
 ghost use Rattle.c_grammar.specs.Specifiers.{storages_of, storages};
 ghost use Rattle.c_grammar.specs.Names.{with_name, with_params};
-ghost use Rattle.unit_grammar.specs.Names.{has_typedef, makes_types, declared_name};
+ghost use Rattle.c_grammar.specs.UnitGrammar.Names.{has_typedef, makes_types, declared_name};
 
 use c_expr::{TypeNames, declare_param, name_of};
 use c_tree::{Initializer, Keyword, Kind, Part, Specifier, Token, TokenKind, Tree};

@@ -6,7 +6,7 @@ ghost use Rattle.c_tree.specs.Symbol.{symbols_of};
 ghost use Rattle.c_tree.specs.Forget.{view, view_all, list_view, declarator_view};
 ghost use Rattle.c_grammar.specs.Names.{is_bare, is_bare_declarator, first_params, params_of, declarator_params};
 ghost use Rattle.c_grammar.specs.Grammar.{is_nothing};
-ghost use Rattle.unit_grammar.specs.Grammar.{is_body, has_body, may_define};
+ghost use Rattle.c_grammar.specs.UnitGrammar.Grammar.{is_body, has_body, may_define};
 ghost use Rattle.c_parser.specs.Suffixes.{params_in};
 
 use crate::declared::makes_types;

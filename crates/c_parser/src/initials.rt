@@ -3,9 +3,9 @@
 ghost use Rattle.std.specs.Prelude.{◌+◌, ◌-◌, ◌*◌, ◌<◌, ◌^◌, length};
 ghost use Rattle.c_tree.specs.Symbol.{symbols_of};
 ghost use Rattle.c_grammar.specs.Reading.{read as read_expressions};
-ghost use Rattle.unit_grammar.specs.Construct.{BracedInitials};
-ghost use Rattle.unit_grammar.specs.DeclarationSteps as steps;
-ghost use Rattle.unit_grammar.specs.Reading.{read};
+ghost use Rattle.c_grammar.specs.UnitGrammar.Construct.{BracedInitials};
+ghost use Rattle.c_grammar.specs.UnitGrammar.DeclarationSteps as steps;
+ghost use Rattle.c_grammar.specs.UnitGrammar.Reading.{read};
 ghost use Rattle.c_expr.specs.Gives.{Gives, AsBefore, left, Spends};
 ghost use Rattle.c_expr.specs.Standing.{Over};
 ghost use Rattle.c_parser.specs.CommaLists.{GivesCommaList, OverCommaList, left_by_comma_list};

@@ -3,9 +3,9 @@
 ghost use Rattle.std.specs.Prelude.{◌≡◌, ◌+◌, ◌-◌, ◌*◌, ◌<◌, ◌≤◌, ◌^◌, ◌∷◌, length};
 ghost use Rattle.c_tree.specs.Symbol.{Reserved, symbols_of};
 ghost use Rattle.c_grammar.specs.Reading.{read as read_expressions};
-ghost use Rattle.unit_grammar.specs.Construct.{OneStatement};
-ghost use Rattle.unit_grammar.specs.StatementSteps as steps;
-ghost use Rattle.unit_grammar.specs.Reading.{read};
+ghost use Rattle.c_grammar.specs.UnitGrammar.Construct.{OneStatement};
+ghost use Rattle.c_grammar.specs.UnitGrammar.StatementSteps as steps;
+ghost use Rattle.c_grammar.specs.UnitGrammar.Reading.{read};
 ghost use Rattle.c_expr.specs.Standing.{Over, Passes};
 ghost use Rattle.c_expr.specs.Gives.{Gives, AsBefore, left, done, Spends};
 ghost use Rattle.c_parser.specs.Parts.{GivesMaybe, left_by_maybe, OverMaybe};

@@ -9,3 +9,5 @@ pub mod Phrase
 pub mod Tokens
 pub mod TokenPlaces
 pub mod Compared
+pub mod PathSubjects
+pub mod PassedTokens

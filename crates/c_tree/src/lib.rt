@@ -1,4 +1,5 @@
-//! Tokens, places and syntax trees of C, from which every other part of the checker reads.
+//! Tokens, places and syntax trees of C, from which every other part of the checker reads, what events and patterns are about, and which
+//! tokens a tree has.
 #![tactic(auto, using(crate::proofs::Rows::nodes_out))]
 
 mod alike;
@@ -7,6 +8,8 @@ mod expression;
 mod heights;
 mod keyword;
 mod operator;
+mod passed_tokens;
+mod path_subjects;
 mod place;
 mod punctuator;
 mod statement;
@@ -19,6 +22,8 @@ pub use expression::{Operation, Primary};
 pub use heights::height;
 pub use keyword::Keyword;
 pub use operator::{AssignOp, BinaryOp, StructOrUnion, UnaryOp};
+pub use passed_tokens::tree_tokens;
+pub use path_subjects::{Subject, trees_stand_at_their_first_tokens};
 pub use place::Place;
 pub use punctuator::Punctuator;
 pub use statement::{Iteration, Jump, Statement};

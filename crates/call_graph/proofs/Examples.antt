@@ -4,9 +4,9 @@ use Rattle.c_tree.specs.declared.place.Place.{Place}
 use Rattle.c_tree.specs.Node.{Node, node, Statement, Block, no_more}
 use Rattle.c_tree.specs.Symbol.{Word}
 use Rattle.c_tree.specs.Syntax as syntax
-use Rattle.c_typing.specs.Functions.{Defined}
-use Rattle.programs.specs.Bodies.{body_of}
-use Rattle.programs.specs.Repeats.{link_fault}
+use Rattle.type_rules.specs.Functions.{Defined}
+use Rattle.call_graph.specs.OfPrograms.Bodies.{body_of}
+use Rattle.call_graph.specs.OfPrograms.Repeats.{link_fault}
 use Rattle.call_graph.specs.Callees.{calls}
 
 abbrev there : ℕ → ℕ → Place

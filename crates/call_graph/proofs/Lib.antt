@@ -1,2 +1,4 @@
 pub mod Linked
 mod Examples
+pub mod OfPrograms
+pub mod FunctionGraphs

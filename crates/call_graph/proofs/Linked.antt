@@ -6,10 +6,10 @@ use Rattle.std.specs.Coded.{Coded-set, codes}
 use Rattle.std.specs.Option.{option_map}
 use Rattle.std.specs.Prelude.{Result, Ok, Err, IfErr, IsErrAnd}
 use Rattle.c_tree.specs.declared.place.Place.{Place}
-use Rattle.c_typing.specs.Functions.{Defined}
-use Rattle.programs.specs.Definitions.{defined_by, definitions, kept_in, trees_in}
-use Rattle.programs.specs.Repeats.{repeats, first_repeat, link_fault, name_and_place}
-use Rattle.programs.proofs.Listed.{map-length}
+use Rattle.type_rules.specs.Functions.{Defined}
+use Rattle.call_graph.specs.OfPrograms.Definitions.{defined_by, definitions, kept_in, trees_in}
+use Rattle.call_graph.specs.OfPrograms.Repeats.{repeats, first_repeat, link_fault, name_and_place}
+use Rattle.call_graph.proofs.OfPrograms.Listed.{map-length}
 use Rattle.call_graph.specs.declared.fault.LinkFault.{LinkFault}
 use Rattle.call_graph.specs.declared.fault.LinkFault.TheVariants.{DuplicateFunction, NoMemory}
 use Rattle.call_graph.specs.Faults.{IsRepeat, IsLinkFault}

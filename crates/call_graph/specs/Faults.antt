@@ -1,7 +1,7 @@
 -- Which fault of linking there is.
 use Rattle.std.specs.Prelude.{◌≡◌, ℕ, Option, Some, ⊤}
 use Rattle.c_tree.specs.declared.place.Place.{Place}
-use Rattle.c_typing.specs.Functions.{Defined}
+use Rattle.type_rules.specs.Functions.{Defined}
 use Rattle.call_graph.specs.declared.fault.LinkFault.{LinkFault}
 use Rattle.call_graph.specs.declared.fault.LinkFault.TheVariants.{DuplicateFunction, NoMemory}
 

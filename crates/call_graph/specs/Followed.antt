@@ -2,14 +2,14 @@
 use Rattle.std.specs.Prelude.{ℕ, List, Option, None, Bool, false, cond}
 use Rattle.std.specs.List.{list_any}
 use Rattle.c_tree.specs.Node.{Node}
-use Rattle.c_typing.specs.Definition.{Table}
-use Rattle.c_typing.specs.Functions.{Defined}
-use Rattle.c_typing.specs.Options.{◌>?◌}
-use Rattle.c_typing.specs.Scopes.{Scopes}
+use Rattle.type_rules.specs.Definition.{Table}
+use Rattle.type_rules.specs.Functions.{Defined}
+use Rattle.type_rules.specs.Options.{◌>?◌}
+use Rattle.type_rules.specs.Scopes.{Scopes}
 use Rattle.call_graph.specs.Callees.{calls}
-use Rattle.metal_machines.specs.Machine.{Item, Base, Rule, Machine}
-use Rattle.programs.specs.Bodies.{body_of}
-use Rattle.programs.specs.Calls.{called_name, called_name_at}
+use Rattle.metal_tree.specs.MetalMachines.Machine.{Item, Base, Rule, Machine}
+use Rattle.call_graph.specs.OfPrograms.Bodies.{body_of}
+use Rattle.call_graph.specs.OfPrograms.Calls.{called_name, called_name_at}
 
 -- a base pattern in which the name is called
 abbrev pub item_calls : ℕ → Item → Bool

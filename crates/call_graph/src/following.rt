@@ -4,19 +4,19 @@ ghost use Rattle.std.specs.Prelude.{◌≡◌, ◌<◌, length, Some, IfSome, sl
 ghost use Rattle.std.specs.Borrow.{Bor};
 ghost use Rattle.std.specs.Option.{option_map};
 ghost use Rattle.c_tree.specs.Views.{node_of, nodes_of};
-ghost use Rattle.c_typing.specs.Roles.{Role};
-ghost use Rattle.c_typing.specs.Scopes.{Scopes};
+ghost use Rattle.type_rules.specs.Roles.{Role};
+ghost use Rattle.type_rules.specs.Scopes.{Scopes};
 ghost use Rattle.call_graph.specs.Followed.{body_followed, followed, followed_at};
 ghost use Rattle.metal_tree.specs.Whole.{machine_view};
-ghost use Rattle.programs.specs.Calls.{table_in};
-ghost use Rattle.programs.specs.Definitions.{definitions, trees_in};
+ghost use Rattle.call_graph.specs.OfPrograms.Calls.{table_in};
+ghost use Rattle.call_graph.specs.OfPrograms.Definitions.{definitions, trees_in};
 ghost use Rattle.typed_unit.specs.declared.typed_unit.TypedUnit.{TypedUnit};
 ghost use Rattle.typed_unit.specs.Places.{StandsAt};
 
 use crate::patterns::machine_calls;
+use crate::programs::{FnId, Program, called_name};
 use c_tree::Tree;
 use metal_tree::Machine;
-use programs::{FnId, Program, called_name};
 
 // The body of a name in a file, if the checker's patterns don't call it.
 fn body_followed(program: &Program, machine: &Machine, file: u16, name: u32) -> Option<FnId>

@@ -1,11 +1,15 @@
-//! The calls of a program: linking of its units, and the calls that are followed under a checker.
+//! Programs: typed units side by side, linked, with the flow graph of each function, and the calls that are followed under a checker.
 #![tactic(auto, using(c_tree::proofs::Rows::nodes_out))]
 
 mod fault;
 mod following;
+mod function_graphs;
 mod linking;
 mod patterns;
+mod programs;
 
 pub use fault::LinkFault;
 pub use following::followed;
+pub use function_graphs::{UnitFacts, build};
 pub use linking::link;
+pub use programs::{FnId, Functions, Program, units_are_listed};

@@ -1,14 +1,14 @@
 //! Linking: from typed units to a program.
 
 ghost use Rattle.std.specs.Prelude.{◌≡◌, ◌+◌, ◌<◌, ◌≤◌, ◌^◌, ◌++◌, [], ◌∷◌, length, map, List, None, IfOk, IfErr, OnOk};
-ghost use Rattle.c_typing.specs.Functions.{Defined};
+ghost use Rattle.type_rules.specs.Functions.{Defined};
 ghost use Rattle.call_graph.specs.Faults.{IsRepeat, IsLinkFault};
-ghost use Rattle.programs.specs.Definitions.{AreNumbered, defined_by, definitions, kept_in, trees_in};
-ghost use Rattle.programs.specs.Repeats.{AreApart, first_repeat, link_fault};
+ghost use Rattle.call_graph.specs.OfPrograms.Definitions.{AreNumbered, defined_by, definitions, kept_in, trees_in};
+ghost use Rattle.call_graph.specs.OfPrograms.Repeats.{AreApart, first_repeat, link_fault};
 ghost use Rattle.typed_unit.specs.Functions.{function_of};
 
 use crate::fault::LinkFault;
-use programs::{Functions, Program, units_are_listed};
+use crate::programs::{Functions, Program, units_are_listed};
 use typed_unit::{TypedFunction, TypedUnit};
 
 // Adds a function, unless it repeats an earlier one.

@@ -7,12 +7,12 @@ use Rattle.c_tree.specs.declared.operator.UnaryOp.TheVariants as unary
 use Rattle.c_tree.specs.declared.place.Place.{Place}
 use Rattle.c_tree.specs.Node.{Node, node, Primary, Operation, Initializer, Specifier, Declarator, Part, Outer, Statement, Iteration, Jump, PrimaryShape, OperationShape, InitializerShape, OuterShape, StatementShape, IterationShape, JumpShape, Ident, Constant, StrConst, Paren, VaArg, Offsetof, Hole, Index, Call, Member, Arrow, CompoundLit, Unary, SizeofType, Cast, Binary, Cond, Assign, Init, Braces, Designated, Declaration, Function, Empty, Block, ExprStmt, If, Switch, Case, Default, Label, While, Do, For, ForDeclaration, Goto, Continue, Break, Return, MaybeNode, absent, present, Nodes, no_more, more}
 use Rattle.path_theory.specs.Marks.{EventMark}
-use Rattle.c_paths.specs.Events.{Event, Variable, called, dereferenced}
-use Rattle.c_paths.specs.Facts.{Facts}
-use Rattle.c_paths.specs.Forms.{Form, Plain, Inverts, Chooses, Row, done, operand, item}
-use Rattle.c_paths.specs.Occurrences.{InForm, InRow, InMaybe, InFlow, InFlows}
-use Rattle.c_paths.specs.TreeForms.{is_zero, itself, call_itself, unary_form, binary_form, form_of, primary_form, operation_form, initializer_form, operands}
-use Rattle.c_paths.specs.TreeFlow.{maybe_row, maybe_form, declared_then, initialized_then, declarator_then, declarators_row, outer_row, declaration_row, flow_of, statement_flow, iteration_flow, jump_flow, maybe_flow, flows_of}
+use Rattle.flow_graph.specs.CPaths.Events.{Event, Variable, called, dereferenced}
+use Rattle.flow_graph.specs.CPaths.Facts.{Facts}
+use Rattle.flow_graph.specs.CPaths.Forms.{Form, Plain, Inverts, Chooses, Row, done, operand, item}
+use Rattle.flow_graph.specs.CPaths.Occurrences.{InForm, InRow, InMaybe, InFlow, InFlows}
+use Rattle.flow_graph.specs.CPaths.TreeForms.{is_zero, itself, call_itself, unary_form, binary_form, form_of, primary_form, operation_form, initializer_form, operands}
+use Rattle.flow_graph.specs.CPaths.TreeFlow.{maybe_row, maybe_form, declared_then, initialized_then, declarator_then, declarators_row, outer_row, declaration_row, flow_of, statement_flow, iteration_flow, jump_flow, maybe_flow, flows_of}
 use Rattle.call_sites.specs.Calls.{with_expression, with_primary, unless_sizeof, with_operation, with_initializer, with_all, with_maybe, with_initial, with_declarator, with_declarators, with_outer, with_declaration, with_jump, with_statement, with_plain, with_iteration, with_else, with_items, calls_of}
 use Rattle.call_sites.proofs.Gains.{Gains, nothing, in_turn, by_same, pushed}
 

@@ -9,8 +9,8 @@ use Rattle.c_tree.specs.declared.operator.UnaryOp.TheVariants as unary
 use Rattle.c_tree.specs.declared.tree.Tree.{Tree}
 use Rattle.c_tree.specs.Node.{Node, node, Primary, Operation, Initializer, Outer, Statement, Iteration, Jump, PrimaryShape, OperationShape, InitializerShape, OuterShape, StatementShape, IterationShape, JumpShape, Paren, VaArg, Index, Call, Member, Arrow, CompoundLit, Unary, SizeofType, Cast, Binary, Cond, Assign, Init, Braces, Designated, Declaration, Block, ExprStmt, If, Switch, Case, Default, Label, While, Do, For, ForDeclaration, Return, MaybeNode, absent, present, Nodes, no_more, more}
 use Rattle.c_tree.specs.Views.{node_of}
-use Rattle.c_paths.specs.Events.{Variable}
-use Rattle.c_paths.specs.Facts.{Facts}
+use Rattle.flow_graph.specs.CPaths.Events.{Variable}
+use Rattle.flow_graph.specs.CPaths.Facts.{Facts}
 
 -- the nodes that these trees are
 abbrev pub nodes_at : List (Bor Tree) → List Node

@@ -1,9 +1,9 @@
 //! The calls in bodies of functions.
 
 ghost use Rattle.std.specs.Prelude.{◌≡◌, ◌↔◌, true, IfOk, Contains};
-ghost use Rattle.c_paths.specs.Events.{called};
-ghost use Rattle.c_paths.specs.Occurrences.{InFlow};
-ghost use Rattle.c_paths.specs.TreeFlow.{flow_of};
+ghost use Rattle.flow_graph.specs.CPaths.Events.{called};
+ghost use Rattle.flow_graph.specs.CPaths.Occurrences.{InFlow};
+ghost use Rattle.flow_graph.specs.CPaths.TreeFlow.{flow_of};
 ghost use Rattle.c_tree.specs.declared.place.Place.{Place};
 ghost use Rattle.c_tree.specs.Node.{Node};
 ghost use Rattle.c_tree.specs.Views.{node_of};

@@ -10,9 +10,9 @@ use Rattle.command.specs.declared.status.Status.{Status}
 use Rattle.command.specs.declared.status.Status.TheVariants.{Clean, Reports, Usage, Refused, ReadFault, WriteFault, NoMemory}
 use Rattle.command.proofs.GivenCommands.{command_alone, one_command}
 use Rattle.command.proofs.Turns.{all_turns}
-use Rattle.judged_files.specs.FirstFault.{IsFirstFault}
-use Rattle.judged_files.specs.Judged.{AreAccepted, AreAllSound, AreJudged, AreLinked}
-use Rattle.judged_files.specs.Linking.{HaveLinkFault}
+use Rattle.command.specs.JudgedFiles.FirstFault.{IsFirstFault}
+use Rattle.command.specs.JudgedFiles.Judged.{AreAccepted, AreAllSound, AreJudged, AreLinked}
+use Rattle.command.specs.JudgedFiles.Linking.{HaveLinkFault}
 use Rattle.request_files.specs.Faults.{Located, total_limit}
 use Rattle.request_files.specs.Reading.{Agree, AreFrom, FaultyAt, IsFaultless, IsSound, UnsoundAt, left_after}
 use Rattle.request_files.specs.Turns.{Turn}

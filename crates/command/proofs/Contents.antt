@@ -2,7 +2,7 @@
 use Rattle.std.proofs.Common.{◌≡◌, ℕ, List, [], ◌∷◌, length, Option, Some, None, ◌∙◌, subst, arith}
 use Rattle.mx_io.specs.Reads.{Stands}
 use Rattle.report_model.specs.declared.report.Report.{Report}
-use Rattle.judged_files.specs.Judged.{AreAccepted, AreJudged}
+use Rattle.command.specs.JudgedFiles.Judged.{AreAccepted, AreJudged}
 use Rattle.request_files.specs.Reading.{Agree}
 use Rattle.request_files.specs.Turns.{turns}
 

@@ -8,3 +8,6 @@ mod Statuses
 mod Complete
 mod Contents
 mod Generating
+pub mod GeneratedProgram
+pub mod CheckerReports
+pub mod JudgedFiles

@@ -15,10 +15,10 @@ use Rattle.command.specs.declared.status.Status.{Status}
 use Rattle.command.specs.declared.status.Status.TheVariants as status
 use Rattle.command.proofs.GivenCommands.{command_alone}
 use Rattle.command.proofs.Turns.{all_turns}
-use Rattle.judged_files.specs.FirstFault.{AnswersUnjudged}
-use Rattle.judged_files.specs.Judged.{AreAccepted}
-use Rattle.judged_files.specs.declared.unjudged.Unjudged.{Unjudged}
-use Rattle.judged_files.specs.declared.unjudged.Unjudged.TheVariants.{NotRead, Faulty, NoMemory}
+use Rattle.command.specs.JudgedFiles.FirstFault.{AnswersUnjudged}
+use Rattle.command.specs.JudgedFiles.Judged.{AreAccepted}
+use Rattle.command.specs.declared.judged_files.unjudged.Unjudged.{Unjudged}
+use Rattle.command.specs.declared.judged_files.unjudged.Unjudged.TheVariants.{NotRead, Faulty, NoMemory}
 use Rattle.request_files.specs.Turns.{turns}
 use Rattle.request_files.specs.Views.{located_of, words_of}
 

@@ -7,8 +7,8 @@ use Rattle.command.specs.Measured.{IsMeasured, measure_line}
 use Rattle.command.specs.Rendered.{IsText}
 use Rattle.command.specs.declared.status.Status.{Status}
 use Rattle.command.specs.declared.status.Status.TheVariants.{Clean, Reports, Usage, Refused, ReadFault, WriteFault, NoMemory}
-use Rattle.judged_files.specs.FirstFault.{IsFirstFault}
-use Rattle.judged_files.specs.Judged.{AreAccepted}
+use Rattle.command.specs.JudgedFiles.FirstFault.{IsFirstFault}
+use Rattle.command.specs.JudgedFiles.Judged.{AreAccepted}
 use Rattle.request_files.specs.Faults.{Located, refused_line}
 use Rattle.request_files.specs.Reading.{FailedAt}
 

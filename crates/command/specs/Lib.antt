@@ -10,3 +10,6 @@ pub mod Requests
 pub mod Statuses
 pub mod Tasks
 pub mod Written
+pub mod GeneratedProgram
+pub mod CheckerReports
+pub mod JudgedFiles

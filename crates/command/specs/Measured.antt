@@ -3,8 +3,8 @@ use Rattle.std.specs.Prelude.{◌≡◌, ◌≢◌, ℕ, ◌+◌, Bool, MatchBoo
 use Rattle.std.specs.Fmt.{decimal}
 use Rattle.report_model.specs.declared.report.Report.{Report}
 use Rattle.command.specs.Checker.{free_text}
-use Rattle.generated_program.specs.Generated.{generated}
-use Rattle.judged_files.specs.Judged.{AreJudged}
+use Rattle.command.specs.GeneratedProgram.Generated.{generated}
+use Rattle.command.specs.JudgedFiles.Judged.{AreJudged}
 
 -- the names of the two files
 abbrev pub checker_name : List ℕ

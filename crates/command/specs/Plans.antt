@@ -3,8 +3,8 @@ use Rattle.std.specs.Prelude.{◌≡◌, ◌<◌, ℕ, List, [], slice_get, Some
 use Rattle.command.specs.Due.{not_read_line}
 use Rattle.command.specs.declared.status.Status.{Status}
 use Rattle.command.specs.declared.status.Status.TheVariants as status
-use Rattle.judged_files.specs.declared.unjudged.Unjudged.{Unjudged}
-use Rattle.judged_files.specs.declared.unjudged.Unjudged.TheVariants.{NotRead, Faulty, NoMemory}
+use Rattle.command.specs.declared.judged_files.unjudged.Unjudged.{Unjudged}
+use Rattle.command.specs.declared.judged_files.unjudged.Unjudged.TheVariants.{NotRead, Faulty, NoMemory}
 use Rattle.request_files.specs.Faults.{refused_line}
 use Rattle.request_files.specs.Turns.{Turn, turns}
 use Rattle.request_files.specs.Views.{located_of}

@@ -11,7 +11,7 @@ use Rattle.command.specs.declared.status.Status.{Status}
 use Rattle.command.specs.declared.status.Status.TheVariants.{Clean, Reports, Usage, Refused, ReadFault, WriteFault, NoMemory}
 use Rattle.command.specs.Tasks.{IsEmptiedAt}
 use Rattle.command.specs.Written.{SinkStep, Written, Took, IsStill}
-use Rattle.judged_files.specs.Judged.{AreJudged}
+use Rattle.command.specs.JudgedFiles.Judged.{AreJudged}
 use Rattle.request_files.specs.Turns.{Turn}
 
 abbrev pub sink_step : Option (List ℕ) → Option (List ℕ) → ℕ → ℕ → SinkStep

@@ -1,8 +1,11 @@
-//! What the command does: the words, the files of each kind, their reports, what is measured of a generated program, the plan of what is
-//! due, and its writing.
+//! What the command does: the files of each kind, their reports, what is measured of a generated program, the plan of what is due,
+//! and its writing.
 #![tactic(auto)]
 
+mod checker_reports;
+mod generated_program;
 mod generation;
+mod judged_files;
 mod kinds;
 mod lines;
 mod measuring;

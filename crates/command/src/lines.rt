@@ -4,8 +4,7 @@ ghost use Rattle.std.specs.Prelude.{◌≡◌, ◌++◌, flat_map, IfOk, OnOk};
 ghost use Rattle.report_model.specs.Lines.{text_of};
 
 use mx_base::Text;
-use report_model::Report;
-use reporters::write_line;
+use report_model::{Report, write_line};
 use std::alloc::{AllocError, Global};
 
 /// Appends texts, one behind the other.

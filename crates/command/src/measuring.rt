@@ -4,9 +4,9 @@ ghost use Rattle.std.specs.Prelude.{◌≡◌, ◌++◌, ◌+◌, ◌<◌, ◌�
 ghost use Rattle.std.specs.Fmt.{decimal};
 ghost use Rattle.command.specs.Measured.{IsMeasure};
 
+use crate::generated_program::write_program;
 use crate::lines::append_all;
 use crate::reported::program_reports;
-use generated_program::write_program;
 use itoa::Buffer;
 use mx_base::Text;
 use std::alloc::{AllocError, Global};

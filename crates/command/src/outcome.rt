@@ -1,13 +1,13 @@
 //! What the files of a task come to.
 
 ghost use Rattle.std.specs.Prelude.{◌≡◌, ◌≤◌, length, IfOk, IfErr, OnOk};
-ghost use Rattle.judged_files.specs.FirstFault.{AnswersUnjudged};
-ghost use Rattle.judged_files.specs.Judged.{AreAccepted};
+ghost use Rattle.command.specs.JudgedFiles.FirstFault.{AnswersUnjudged};
+ghost use Rattle.command.specs.JudgedFiles.Judged.{AreAccepted};
 ghost use Rattle.request_files.specs.Views.{words_of};
 
+use crate::judged_files::{Unjudged, judge_files};
 use crate::kinds::empty_places;
 use bumpalo::Bump;
-use judged_files::{Unjudged, judge_files};
 use mx_base::Names;
 use mx_io::Files;
 use report_model::Report;

@@ -10,6 +10,7 @@ ghost use Rattle.command.specs.Tasks.{LeavesAt, command_of};
 ghost use Rattle.request_files.specs.Views.{words_of};
 
 use crate::generation::plan_generation;
+use crate::judged_files::Unjudged;
 use crate::kinds::{checkers_among, sources_among, word_at};
 use crate::outcome::reports_of;
 use crate::refusal::{not_read, refused, usage};
@@ -17,9 +18,8 @@ use crate::rendering::{Plan, plan_reports};
 use crate::status::Status;
 use crate::words::{Task, task_of};
 use command_words::read_generation;
-use judged_files::Unjudged;
 use mx_io::Files;
-use reporters::Reporter;
+use report_model::Reporter;
 use std::alloc::{AllocError, Global};
 
 /// What is due where the files of a task gave no reports.

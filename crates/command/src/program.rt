@@ -5,8 +5,8 @@ ghost use Rattle.mx_io.specs.Causes.{Rose};
 ghost use Rattle.command.specs.Commands.{Command, GiveNone, IsCommand, IsOther, checkers_of, sources_of, turns_of};
 ghost use Rattle.command_words.specs.Generation.{IsGeneration};
 ghost use Rattle.command.specs.Ran.{Answers, Completes, CompletesMeasure, Misses, Misuses, NoRise, Ran, Refuses, Tells, reporter_step, sink_step};
-ghost use Rattle.judged_files.specs.Judged.{AreLinked};
-ghost use Rattle.judged_files.specs.Linking.{HaveLinkFault};
+ghost use Rattle.command.specs.JudgedFiles.Judged.{AreLinked};
+ghost use Rattle.command.specs.JudgedFiles.Linking.{HaveLinkFault};
 ghost use Rattle.request_files.specs.Faults.{Located};
 ghost use Rattle.request_files.specs.Reading.{AreFrom, IsFaultless, UnsoundAt};
 
@@ -14,7 +14,7 @@ use crate::plan::decide;
 use crate::status::Status;
 use crate::write_out::carry_out;
 use mx_io::{Files, Sink};
-use reporters::Reporter;
+use report_model::Reporter;
 use std::alloc::Global;
 
 /// Decides, and then writes.

@@ -6,8 +6,7 @@ ghost use Rattle.command.specs.Rendered.{IsPlanFor, IsText};
 use crate::lines::write_lines;
 use crate::status::Status;
 use mx_base::Text;
-use report_model::Report;
-use reporters::{Reporter, render_at};
+use report_model::{Report, Reporter, render_at};
 use std::alloc::{AllocError, Global};
 
 /// A status, the text for `out` and the line for `errs`.

@@ -8,7 +8,7 @@ ghost use Rattle.command_words.specs.Generation.{IsGeneration};
 
 use crate::words::task_of;
 use command_words::read_generation;
-use reporters::Reporter;
+use report_model::Reporter;
 use std::alloc::{AllocError, Global};
 
 /// What words ask for, by positions in the lists that were handed in.

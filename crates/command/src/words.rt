@@ -5,7 +5,7 @@ ghost use Rattle.command.specs.Commands.{Command, IsCommand, GiveNoCommand};
 ghost use Rattle.command.specs.Tasks.{command_of};
 
 use command_words::read_asked;
-use reporters::{Reporter, place_of};
+use report_model::{Reporter, place_of};
 
 /// What the words give to do, as parts of these words.
 #[derive(Clone, Copy)]

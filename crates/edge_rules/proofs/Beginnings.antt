@@ -3,15 +3,15 @@ use Rattle.std.proofs.Common.{◌≡◌, inl, inr, ℕ, ◌<◌, ◌+◌, ◌++�
 use Rattle.std.proofs.lemmas.Option.{slice_get_within, slice_get-get_or, get_or_from_slice_get}
 use Rattle.std.specs.Option.{option_map}
 use Rattle.c_objects.specs.Objects.{Object}
-use Rattle.c_paths.specs.Building.{Graph}
-use Rattle.c_typing.specs.Functions.{Defined}
-use Rattle.checker_graphs.specs.Graphs.{function_at, graph_at}
-use Rattle.checker_graphs.proofs.Calls.{root-number}
-use Rattle.checker_model.specs.Checkers.{model, origins}
-use Rattle.checker_model.specs.Happenings.{Function}
-use Rattle.checker_model.specs.Reports.{Checker}
-use Rattle.checker_programs.specs.Relevant.{Relevant}
-use Rattle.checker_programs.specs.Texts.{function_of, functions_in}
+use Rattle.flow_graph.specs.CPaths.Building.{Graph}
+use Rattle.type_rules.specs.Functions.{Defined}
+use Rattle.path_model.specs.CheckerGraphs.Graphs.{function_at, graph_at}
+use Rattle.path_model.proofs.CheckerGraphs.Calls.{root-number}
+use Rattle.path_model.specs.CheckerModel.Checkers.{model, origins}
+use Rattle.path_model.specs.CheckerModel.Happenings.{Function}
+use Rattle.path_model.specs.CheckerModel.Reports.{Checker}
+use Rattle.path_model.specs.CheckerPrograms.Relevant.{Relevant}
+use Rattle.path_model.specs.CheckerPrograms.Texts.{function_of, functions_in}
 use Rattle.typed_unit.specs.Texts.{Text}
 use Rattle.flow_graph.specs.Seen.{graph_in}
 use Rattle.least_set.specs.Logs.{IsExactly, SomeGives}
@@ -20,16 +20,16 @@ use Rattle.path_edges.specs.Edges.{tuple_in}
 use Rattle.path_edges.specs.Relations.{Begins}
 use Rattle.path_theory.specs.Facts.{FactOf}
 use Rattle.path_theory.specs.Flows.{Starts, StartsNone, StartsUnknown}
-use Rattle.programs.specs.declared.functions.FnId.{FnId}
-use Rattle.engine_tables.specs.declared.frames.Frame.{Frame}
-use Rattle.engine_tables.specs.declared.tables.Tables.{Tables}
-use Rattle.engine_tables.specs.Known.{AreKnown, checker_in, texts_in, graphs_in}
-use Rattle.edge_steps.specs.Steps.{BeginsIn, first_edge, first_edges, start_tuple, unknown_at}
-use Rattle.edge_steps.proofs.Lists.{contains-first, contains-later, contains-cases, contains-map, map-contains, exactly-none, given-next}
-use Rattle.engine_tables.proofs.Places.{IsPlace, named, apart-in}
-use Rattle.edge_steps.proofs.Views.{tuple-fact, tuple-seen}
+use Rattle.call_graph.specs.declared.programs.functions.FnId.{FnId}
+use Rattle.function_tables.specs.declared.engine_tables.frames.Frame.{Frame}
+use Rattle.function_tables.specs.declared.engine_tables.tables.Tables.{Tables}
+use Rattle.function_tables.specs.EngineTables.Known.{AreKnown, checker_in, texts_in, graphs_in}
+use Rattle.path_edges.specs.EdgeSteps.Steps.{BeginsIn, first_edge, first_edges, start_tuple, unknown_at}
+use Rattle.path_edges.proofs.EdgeSteps.Lists.{contains-first, contains-later, contains-cases, contains-map, map-contains, exactly-none, given-next}
+use Rattle.function_tables.proofs.EngineTables.Places.{IsPlace, named, apart-in}
+use Rattle.path_edges.proofs.EdgeSteps.Views.{tuple-fact, tuple-seen}
 use Rattle.state_tuples.specs.declared.tuple.Tuple.{Tuple}
-use Rattle.tuple_flows.specs.Facts.{fact_in}
+use Rattle.block_flows.specs.TupleFlows.Facts.{fact_in}
 
 one-function : (f g : Function) → Some f ≡ Some g → f ≡ g
 one-function f g e = cc

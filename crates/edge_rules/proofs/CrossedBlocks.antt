@@ -1,29 +1,29 @@
 -- From the tuples that flow over a block's events to those that stand behind an edge, and back.
 use Rattle.std.proofs.Common.{◌≡◌, List, [], map, slice_get, None, Some, sym, ap, subst, ◌∙◌}
 use Rattle.block_flows.specs.Ends.{IsEnd}
-use Rattle.c_paths.specs.BlockGraphs.{events_at}
-use Rattle.c_paths.specs.Building.{Graph}
-use Rattle.checker_graphs.specs.Graphs.{flow_graphs, function_at}
-use Rattle.checker_model.specs.Checkers.{model, origins}
-use Rattle.checker_model.specs.Happenings.{Function, Happening}
-use Rattle.checker_model.specs.Reports.{Checker}
-use Rattle.checker_programs.specs.Relevant.{Relevant}
-use Rattle.checker_programs.specs.Texts.{function_of, happening}
+use Rattle.flow_graph.specs.CPaths.BlockGraphs.{events_at}
+use Rattle.flow_graph.specs.CPaths.Building.{Graph}
+use Rattle.path_model.specs.CheckerGraphs.Graphs.{flow_graphs, function_at}
+use Rattle.path_model.specs.CheckerModel.Checkers.{model, origins}
+use Rattle.path_model.specs.CheckerModel.Happenings.{Function, Happening}
+use Rattle.path_model.specs.CheckerModel.Reports.{Checker}
+use Rattle.path_model.specs.CheckerPrograms.Relevant.{Relevant}
+use Rattle.path_model.specs.CheckerPrograms.Texts.{function_of, happening}
 use Rattle.typed_unit.specs.Texts.{Text}
-use Rattle.edge_steps.proofs.FollowedObjects.{crosses-over}
+use Rattle.path_edges.proofs.EdgeSteps.FollowedObjects.{crosses-over}
 use Rattle.flow_graph.specs.Seen.{graph_in}
 use Rattle.least_set.specs.Logs.{IsExactly}
 use Rattle.path_edges.specs.declared.edges.Edge.{Edge}
 use Rattle.path_edges.specs.Edges.{edge_in, tuple_in}
 use Rattle.path_theory.specs.BlockEdges.{Crosses}
-use Rattle.engine_tables.specs.declared.frames.Frame.{Frame}
-use Rattle.engine_tables.specs.declared.tables.Tables.{Tables}
-use Rattle.engine_tables.specs.Known.{checker_in, texts_in, graphs_in}
-use Rattle.edge_steps.specs.Steps.{StandsBehind}
-use Rattle.edge_steps.proofs.Lists.{exactly-same, exactly-none}
-use Rattle.engine_tables.proofs.Places.{IsPlace, named}
+use Rattle.function_tables.specs.declared.engine_tables.frames.Frame.{Frame}
+use Rattle.function_tables.specs.declared.engine_tables.tables.Tables.{Tables}
+use Rattle.function_tables.specs.EngineTables.Known.{checker_in, texts_in, graphs_in}
+use Rattle.path_edges.specs.EdgeSteps.Steps.{StandsBehind}
+use Rattle.path_edges.proofs.EdgeSteps.Lists.{exactly-same, exactly-none}
+use Rattle.function_tables.proofs.EngineTables.Places.{IsPlace, named}
 use Rattle.state_tuples.specs.declared.tuple.Tuple.{Tuple}
-use Rattle.tuple_flows.specs.Facts.{listed}
+use Rattle.block_flows.specs.TupleFlows.Facts.{listed}
 
 one-function : (f g : Function) → Some f ≡ Some g → f ≡ g
 one-function f g e = cc

@@ -1,25 +1,25 @@
 -- Ends of called frames.
 use Rattle.std.proofs.Common.{◌≡◌, ◌↔◌, ℕ, Bool, true, false, ◌&&◌, not, true≢false, List, slice_get, Option, None, Some, refl, sym, ap, subst, ◌∙◌}
 use Rattle.std.specs.Option.{option_map}
-use Rattle.c_paths.specs.Building.{Graph}
-use Rattle.c_paths.specs.Events.{Event}
-use Rattle.c_paths.specs.Graphs.{Block, Ending, ToAny, Calls, Stops}
-use Rattle.checker_graphs.specs.Graphs.{function_at, graph_at}
-use Rattle.checker_model.specs.Happenings.{Function}
-use Rattle.checker_model.specs.Reports.{Checker}
-use Rattle.checker_programs.specs.Texts.{function_of}
+use Rattle.flow_graph.specs.CPaths.Building.{Graph}
+use Rattle.flow_graph.specs.CPaths.Events.{Event}
+use Rattle.flow_graph.specs.CPaths.Graphs.{Block, Ending, ToAny, Calls, Stops}
+use Rattle.path_model.specs.CheckerGraphs.Graphs.{function_at, graph_at}
+use Rattle.path_model.specs.CheckerModel.Happenings.{Function}
+use Rattle.path_model.specs.CheckerModel.Reports.{Checker}
+use Rattle.path_model.specs.CheckerPrograms.Texts.{function_of}
 use Rattle.typed_unit.specs.Texts.{Text}
 use Rattle.flow_graph.specs.Seen.{graph_in}
 use Rattle.path_edges.specs.declared.edges.Context.{Context}
 use Rattle.path_edges.specs.declared.edges.Edge.{Edge}
 use Rattle.path_edges.specs.Edges.{context_in}
 use Rattle.path_edges.specs.Relations.{IsEndOf}
-use Rattle.engine_tables.specs.declared.frames.Frame.{Frame}
-use Rattle.engine_tables.specs.declared.tables.Tables.{Tables}
-use Rattle.engine_tables.specs.Known.{checker_in, texts_in, graphs_in, is_stop}
-use Rattle.edge_steps.specs.Steps.{IsLast}
-use Rattle.engine_tables.proofs.Places.{IsPlace, named}
-use Rattle.edge_steps.proofs.Views.{context-seen}
+use Rattle.function_tables.specs.declared.engine_tables.frames.Frame.{Frame}
+use Rattle.function_tables.specs.declared.engine_tables.tables.Tables.{Tables}
+use Rattle.function_tables.specs.EngineTables.Known.{checker_in, texts_in, graphs_in, is_stop}
+use Rattle.path_edges.specs.EdgeSteps.Steps.{IsLast}
+use Rattle.function_tables.proofs.EngineTables.Places.{IsPlace, named}
+use Rattle.path_edges.proofs.EdgeSteps.Views.{context-seen}
 
 ending-of : (o : Option Block) (end : Ending) → option_map (λ b. b.ending) o ≡ Some end → (es : List Event) × (o ≡ Some (record { events = es; ending = end }))
 ending-of None end e = cc

@@ -1,15 +1,15 @@
 -- The edges with which a callee is entered, as lists.
 use Rattle.std.proofs.Common.{◌≡◌, ℕ, false, List, map, Contains, sym, ap, subst, ◌∙◌}
 use Rattle.c_objects.specs.Objects.{Object}
-use Rattle.checker_model.specs.Happenings.{Function, Site}
-use Rattle.checker_model.specs.Reports.{Checker}
+use Rattle.path_model.specs.CheckerModel.Happenings.{Function, Site}
+use Rattle.path_model.specs.CheckerModel.Reports.{Checker}
 use Rattle.edge_rules.specs.Entries.{IsEntry}
-use Rattle.edge_steps.proofs.Lists.{contains-map, map-contains}
-use Rattle.edge_steps.specs.Steps.{frame_edge}
+use Rattle.path_edges.proofs.EdgeSteps.Lists.{contains-map, map-contains}
+use Rattle.path_edges.specs.EdgeSteps.Steps.{frame_edge}
 use Rattle.least_set.specs.Logs.{IsExactly}
 use Rattle.path_edges.specs.declared.edges.Edge.{Edge}
 use Rattle.state_tuples.specs.declared.tuple.Tuple.{Tuple}
-use Rattle.tuple_flows.specs.Passed.{IsEntered}
+use Rattle.block_flows.specs.TupleFlows.Passed.{IsEntered}
 
 -- one edge for each tuple with which it is entered
 pub entries-exactly : (c : Checker) (s : Site) (h : Function) (objects : List Object) (k b : ℕ) (t : Tuple) (entries : List Tuple) (list : List Edge)

@@ -3,31 +3,31 @@ use Rattle.std.proofs.Common.{◌≡◌, ℕ, false, List, [], ◌∷◌, map, O
 use Rattle.std.specs.Prelude.{flat_map}
 use Rattle.std.specs.Option.{option_map}
 use Rattle.c_objects.specs.Objects.{Object}
-use Rattle.c_paths.specs.Building.{Graph}
-use Rattle.c_paths.specs.Events.{Event}
-use Rattle.c_paths.specs.Fragments.{Has}
-use Rattle.c_paths.specs.Graphs.{Block, Ending, ToAny, Calls, Stops}
+use Rattle.flow_graph.specs.CPaths.Building.{Graph}
+use Rattle.flow_graph.specs.CPaths.Events.{Event}
+use Rattle.flow_graph.specs.CPaths.Fragments.{Has}
+use Rattle.flow_graph.specs.CPaths.Graphs.{Block, Ending, ToAny, Calls, Stops}
 use Rattle.c_tree.specs.Node.{Node}
-use Rattle.c_typing.specs.Options.{◌>?◌}
-use Rattle.checker_graphs.specs.Graphs.{flow_graphs, function_at, graph_at}
-use Rattle.checker_graphs.proofs.Numbers.{one-number}
-use Rattle.checker_model.specs.Checkers.{model, origins}
-use Rattle.checker_model.specs.Choices.{State}
-use Rattle.checker_model.specs.Happenings.{Function}
-use Rattle.checker_model.specs.Reports.{Checker}
-use Rattle.checker_programs.specs.Relevant.{Relevant}
-use Rattle.checker_programs.specs.Roots.{followed_into}
-use Rattle.checker_programs.specs.Texts.{function_of, site}
+use Rattle.type_rules.specs.Options.{◌>?◌}
+use Rattle.path_model.specs.CheckerGraphs.Graphs.{flow_graphs, function_at, graph_at}
+use Rattle.path_model.proofs.CheckerGraphs.Numbers.{one-number}
+use Rattle.path_model.specs.CheckerModel.Checkers.{model, origins}
+use Rattle.path_model.specs.CheckerModel.Choices.{State}
+use Rattle.path_model.specs.CheckerModel.Happenings.{Function}
+use Rattle.path_model.specs.CheckerModel.Reports.{Checker}
+use Rattle.path_model.specs.CheckerPrograms.Relevant.{Relevant}
+use Rattle.path_model.specs.CheckerPrograms.Roots.{followed_into}
+use Rattle.path_model.specs.CheckerPrograms.Texts.{function_of, site}
 use Rattle.typed_unit.specs.Texts.{Text}
 use Rattle.edge_rules.specs.Entries.{IsEntry}
-use Rattle.edge_steps.specs.Steps.{StandsBehind, IsNext, Onward, Inward, edge_at, frame_edge}
-use Rattle.edge_steps.proofs.FollowedObjects.{call-over}
-use Rattle.edge_steps.proofs.Lists.{exactly-same, exactly-none}
-use Rattle.edge_steps.proofs.Nexts.{leads-next, next-leads, jump-next, passed-next, last-next}
-use Rattle.engine_tables.specs.declared.frames.Frame.{Frame}
-use Rattle.engine_tables.specs.declared.tables.Tables.{Tables}
-use Rattle.engine_tables.specs.Known.{checker_in, texts_in, graphs_in}
-use Rattle.engine_tables.proofs.Places.{IsPlace, named, apart-in, ending-there}
+use Rattle.path_edges.specs.EdgeSteps.Steps.{StandsBehind, IsNext, Onward, Inward, edge_at, frame_edge}
+use Rattle.path_edges.proofs.EdgeSteps.FollowedObjects.{call-over}
+use Rattle.path_edges.proofs.EdgeSteps.Lists.{exactly-same, exactly-none}
+use Rattle.path_edges.proofs.EdgeSteps.Nexts.{leads-next, next-leads, jump-next, passed-next, last-next}
+use Rattle.function_tables.specs.declared.engine_tables.frames.Frame.{Frame}
+use Rattle.function_tables.specs.declared.engine_tables.tables.Tables.{Tables}
+use Rattle.function_tables.specs.EngineTables.Known.{checker_in, texts_in, graphs_in}
+use Rattle.function_tables.proofs.EngineTables.Places.{IsPlace, named, apart-in, ending-there}
 use Rattle.flow_graph.specs.Seen.{graph_in}
 use Rattle.least_set.specs.Logs.{IsExactly, SomeGives}
 use Rattle.path_edges.specs.declared.edges.Edge.{Edge}
@@ -35,8 +35,8 @@ use Rattle.path_edges.specs.Edges.{edge_in}
 use Rattle.path_edges.specs.Relations.{LeadsTo}
 use Rattle.path_theory.specs.Flows.{CallFlow}
 use Rattle.state_tuples.specs.declared.tuple.Tuple.{Tuple}
-use Rattle.tabulation_rules.specs.Rules as rules
-use Rattle.tuple_flows.specs.Facts.{fact_in, listed}
+use Rattle.path_theory.specs.TabulationRules.Rules as rules
+use Rattle.block_flows.specs.TupleFlows.Facts.{fact_in, listed}
 
 one-function : (f g : Function) → Some f ≡ Some g → f ≡ g
 one-function f g e = cc

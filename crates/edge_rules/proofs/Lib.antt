@@ -3,3 +3,4 @@ mod Endings
 mod Beginnings
 mod Entered
 mod Followed
+pub mod WaitRules

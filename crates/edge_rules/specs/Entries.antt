@@ -1,12 +1,12 @@
 -- How callees are entered.
 use Rattle.std.specs.Prelude.{◌≡◌, ℕ, List, false}
 use Rattle.c_objects.specs.Objects.{Object}
-use Rattle.checker_model.specs.Happenings.{Function, Site}
-use Rattle.checker_model.specs.Reports.{Checker}
-use Rattle.edge_steps.specs.Steps.{frame_edge}
+use Rattle.path_model.specs.CheckerModel.Happenings.{Function, Site}
+use Rattle.path_model.specs.CheckerModel.Reports.{Checker}
+use Rattle.path_edges.specs.EdgeSteps.Steps.{frame_edge}
 use Rattle.path_edges.specs.declared.edges.Edge.{Edge}
 use Rattle.state_tuples.specs.declared.tuple.Tuple.{Tuple}
-use Rattle.tuple_flows.specs.Passed.{IsEntered}
+use Rattle.block_flows.specs.TupleFlows.Passed.{IsEntered}
 
 -- AN EDGE AT THE ENTRY of a callee with this number, which begins with this block and in which these objects are followed, where this tuple
 -- stands before the call

@@ -1,15 +1,14 @@
 //! Where path edges begin.
 
 ghost use Rattle.std.specs.Prelude.{IfOk};
-ghost use Rattle.edge_steps.specs.Steps.{BeginsIn};
+ghost use Rattle.path_edges.specs.EdgeSteps.Steps.{BeginsIn};
 ghost use Rattle.least_set.specs.Logs.{IsExactly, SomeGives};
 ghost use Rattle.path_edges.specs.Relations.{Begins};
-ghost use Rattle.engine_tables.specs.Known.{AreKnown, IsFrame, checker_in, texts_in, graphs_in};
+ghost use Rattle.function_tables.specs.EngineTables.Known.{AreKnown, IsFrame, checker_in, texts_in, graphs_in};
 
-use edge_steps::first_edges;
-use engine_tables::{Frame, Tables};
-use path_edges::Edge;
-use programs::FnId;
+use call_graph::FnId;
+use function_tables::{Frame, Tables};
+use path_edges::{Edge, first_edges};
 use std::alloc::{AllocError, Global};
 
 // The first edges of a root's own frame, in a function that is there.

@@ -1,21 +1,20 @@
 //! The callees of followed calls.
 
 ghost use Rattle.std.specs.Prelude.{◌≡◌, ℕ, List, IfSome, Some, slice_get};
-ghost use Rattle.c_paths.specs.Events.{Event};
-ghost use Rattle.c_paths.specs.Fragments.{Has};
-ghost use Rattle.c_paths.specs.Graphs.{Calls};
+ghost use Rattle.flow_graph.specs.CPaths.Events.{Event};
+ghost use Rattle.flow_graph.specs.CPaths.Fragments.{Has};
+ghost use Rattle.flow_graph.specs.CPaths.Graphs.{Calls};
 ghost use Rattle.c_tree.specs.Node.{Node};
-ghost use Rattle.c_typing.specs.Functions.{Defined};
-ghost use Rattle.c_typing.specs.Options.{◌>?◌};
-ghost use Rattle.checker_graphs.specs.Graphs.{function_at};
-ghost use Rattle.checker_programs.specs.Roots.{followed_into};
-ghost use Rattle.checker_programs.specs.Texts.{function_of, functions_in, site};
-ghost use Rattle.engine_tables.specs.Known.{AreKnown, IsFrame, checker_in, texts_in};
+ghost use Rattle.type_rules.specs.Functions.{Defined};
+ghost use Rattle.type_rules.specs.Options.{◌>?◌};
+ghost use Rattle.path_model.specs.CheckerGraphs.Graphs.{function_at};
+ghost use Rattle.path_model.specs.CheckerPrograms.Roots.{followed_into};
+ghost use Rattle.path_model.specs.CheckerPrograms.Texts.{function_of, functions_in, site};
+ghost use Rattle.function_tables.specs.EngineTables.Known.{AreKnown, IsFrame, checker_in, texts_in};
 ghost use Rattle.flow_graph.specs.Seen.{graph_in};
 ghost use Rattle.function_tables.specs.Tables.{AreBlockTables};
 
-use engine_tables::{Frame, Tables, callee_at};
-use function_tables::FunctionTable;
+use function_tables::{Frame, FunctionTable, Tables, callee_at};
 
 /// A function that is called, with its number.
 #[derive(Drop)]

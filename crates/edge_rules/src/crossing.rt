@@ -2,11 +2,11 @@
 
 ghost use Rattle.std.specs.Prelude.{◌≡◌, IfOk};
 ghost use Rattle.least_set.specs.Logs.{IsExactly};
-ghost use Rattle.engine_tables.specs.Known.{AreKnown, IsFrame, checker_in, texts_in, graphs_in};
-ghost use Rattle.edge_steps.specs.Steps.{StandsBehind};
+ghost use Rattle.function_tables.specs.EngineTables.Known.{AreKnown, IsFrame, checker_in, texts_in, graphs_in};
+ghost use Rattle.path_edges.specs.EdgeSteps.Steps.{StandsBehind};
 
 use block_flows::ends;
-use engine_tables::{Frame, Tables, item};
+use function_tables::{Frame, Tables, item};
 use path_edges::Edge;
 use state_tuples::Tuple;
 use std::alloc::{AllocError, Global};

@@ -1,20 +1,19 @@
 //! How a callee is entered.
 
 ghost use Rattle.std.specs.Prelude.{◌≡◌, ◌≤◌, IfOk};
-ghost use Rattle.checker_model.specs.Happenings.{Function, Site as Form};
-ghost use Rattle.checker_model.specs.Reports.{Checker};
+ghost use Rattle.path_model.specs.CheckerModel.Happenings.{Function, Site as Form};
+ghost use Rattle.path_model.specs.CheckerModel.Reports.{Checker};
 ghost use Rattle.edge_rules.specs.Entries.{IsEntry};
 ghost use Rattle.flow_graph.specs.Seen.{graph_in};
 ghost use Rattle.least_set.specs.Logs.{IsExactly, SomeGives};
-ghost use Rattle.tuple_flows.specs.Passed.{IsSite};
+ghost use Rattle.block_flows.specs.TupleFlows.Passed.{IsSite};
 
 use crate::callees::Callee;
-use edge_steps::entered;
-use path_edges::Edge;
+use block_flows::into_call;
+use path_edges::{Edge, entered};
 use refine_restore::Site;
 use state_tuples::Tuple;
 use std::alloc::{AllocError, Global};
-use tuple_flows::into_call;
 
 // The first edges of a callee where this tuple stands before the call.
 fn entered_with(

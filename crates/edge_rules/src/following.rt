@@ -2,10 +2,10 @@
 
 ghost use Rattle.std.specs.Prelude.{◌≡◌, Some, IfOk, slice_get};
 ghost use Rattle.std.specs.Option.{option_map};
-ghost use Rattle.c_paths.specs.Graphs.{Calls};
+ghost use Rattle.flow_graph.specs.CPaths.Graphs.{Calls};
 ghost use Rattle.c_tree.specs.Views.{node_of};
-ghost use Rattle.edge_steps.specs.Steps.{StandsBehind};
-ghost use Rattle.engine_tables.specs.Known.{AreKnown, IsFrame, checker_in, texts_in, graphs_in};
+ghost use Rattle.path_edges.specs.EdgeSteps.Steps.{StandsBehind};
+ghost use Rattle.function_tables.specs.EngineTables.Known.{AreKnown, IsFrame, checker_in, texts_in, graphs_in};
 ghost use Rattle.flow_graph.specs.Seen.{graph_in};
 ghost use Rattle.flow_graph.specs.Values.{ending_of};
 ghost use Rattle.least_set.specs.Logs.{IsExactly};
@@ -14,10 +14,9 @@ ghost use Rattle.path_edges.specs.Relations.{LeadsTo};
 use crate::callees::callee_of;
 use crate::entering::entered_edges;
 use c_tree::Tree;
-use edge_steps::onward;
-use engine_tables::{Frame, Tables, end_at};
 use flow_graph::End;
-use path_edges::Edge;
+use function_tables::{Frame, Tables, end_at};
+use path_edges::{Edge, onward};
 use state_tuples::Tuple;
 use std::alloc::{AllocError, Global};
 

@@ -6,12 +6,11 @@ ghost use Rattle.path_edges.specs.declared.edges.Context.{Context as Called};
 ghost use Rattle.flow_graph.specs.Seen.{graph_in};
 ghost use Rattle.flow_graph.specs.Values.{ending_of};
 ghost use Rattle.path_edges.specs.Relations.{IsEndOf};
-ghost use Rattle.engine_tables.specs.Known.{AreKnown, checker_in, texts_in, graphs_in, is_stop};
+ghost use Rattle.function_tables.specs.EngineTables.Known.{AreKnown, checker_in, texts_in, graphs_in, is_stop};
 
-use edge_steps::copy_context;
-use engine_tables::{Tables, end_at};
 use flow_graph::{End, Graph};
-use path_edges::{Context, Edge};
+use function_tables::{Tables, end_at};
+use path_edges::{Context, Edge, copy_context};
 
 // Whether a block ends the function.
 fn is_exit(end: &End) -> bool

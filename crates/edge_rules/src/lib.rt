@@ -1,5 +1,4 @@
-//! What follows from a path edge alone, by the rules of tabulation: where edges begin, the tuples at the end of an edge's block, the edges to
-//! which it leads, and the called frame that ends there.
+//! The rules of tabulation: which path edges follow from one, by how its block ends, and who waits for the end of a function and is woken.
 #![tactic(auto)]
 
 mod base;
@@ -8,8 +7,10 @@ mod crossing;
 mod entering;
 mod following;
 mod frame_ends;
+mod wait_rules;
 
 pub use base::begin;
 pub use crossing::behind;
 pub use following::next_edges;
 pub use frame_ends::end_of;
+pub use wait_rules::{waits, wake};

@@ -3,13 +3,13 @@
 use Rattle.std.proofs.Common.{◌≡◌, ℕ, List, ◌∷◌, [], refl, sym, ap, ◌∙◌}
 use Rattle.c_tree.specs.Node.{Node, Nodes, more}
 use Rattle.path_theory.specs.Marks.{EventMark}
-use Rattle.c_paths.specs.Events.{Event}
-use Rattle.c_paths.specs.Facts.{Facts}
-use Rattle.c_paths.specs.Forms.{Form, Plain, Inverts, Keeps, Both, Any, Chooses, Follows, Row, done, operand, item}
-use Rattle.c_paths.specs.Fragments.{Way, To, ToEither}
-use Rattle.c_paths.specs.TreeForms.{form_of, operands}
-use Rattle.c_paths.specs.TreeFlow.{declarator_then, declarators_row}
-use Rattle.c_paths.specs.Building.{Draft, Made, lead, split_blocks, form_blocks, row_blocks}
+use Rattle.flow_graph.specs.CPaths.Events.{Event}
+use Rattle.flow_graph.specs.CPaths.Facts.{Facts}
+use Rattle.flow_graph.specs.CPaths.Forms.{Form, Plain, Inverts, Keeps, Both, Any, Chooses, Follows, Row, done, operand, item}
+use Rattle.flow_graph.specs.CPaths.Fragments.{Way, To, ToEither}
+use Rattle.flow_graph.specs.CPaths.TreeForms.{form_of, operands}
+use Rattle.flow_graph.specs.CPaths.TreeFlow.{declarator_then, declarators_row}
+use Rattle.flow_graph.specs.CPaths.Building.{Draft, Made, lead, split_blocks, form_blocks, row_blocks}
 use Rattle.flow_graph.specs.Chosen.{chosen_blocks}
 use Rattle.flow_graph.proofs.Backwards.{operands_split, declarator_split}
 

@@ -1,13 +1,13 @@
 -- What stands behind a row of operands or a declarator is built first.
 use Rattle.std.proofs.Common.{◌≡◌, ℕ, List, Option, None, Some, refl, ap}
 use Rattle.c_tree.specs.Node.{Node, node, Primary, Operation, Initializer, Specifier, Declarator, Part, Outer, Statement, Iteration, Jump, Init, Braces, Designated, Nodes, no_more, more}
-use Rattle.c_paths.specs.Events.{Variable}
-use Rattle.c_paths.specs.Facts.{Facts}
-use Rattle.c_paths.specs.Forms.{Form, Row, done, operand}
-use Rattle.c_paths.specs.Fragments.{To}
-use Rattle.c_paths.specs.TreeForms.{form_of, operands}
-use Rattle.c_paths.specs.TreeFlow.{declared_then, initialized_then, declarator_then}
-use Rattle.c_paths.specs.Building.{Draft, form_blocks, row_blocks}
+use Rattle.flow_graph.specs.CPaths.Events.{Variable}
+use Rattle.flow_graph.specs.CPaths.Facts.{Facts}
+use Rattle.flow_graph.specs.CPaths.Forms.{Form, Row, done, operand}
+use Rattle.flow_graph.specs.CPaths.Fragments.{To}
+use Rattle.flow_graph.specs.CPaths.TreeForms.{form_of, operands}
+use Rattle.flow_graph.specs.CPaths.TreeFlow.{declared_then, initialized_then, declarator_then}
+use Rattle.flow_graph.specs.CPaths.Building.{Draft, form_blocks, row_blocks}
 
 pub operands_split : (F : Facts) (ns : Nodes) (r : Row) (v : ℕ) (ds : List Draft) → row_blocks (operands F ns r) v ds ≡ (let c = row_blocks r v ds in row_blocks (operands F ns done) c.block c.drafts)
 operands_split F no_more r v ds = refl

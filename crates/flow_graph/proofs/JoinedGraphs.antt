@@ -2,13 +2,13 @@
 use Rattle.std.proofs.Common.{◌≡◌, ◌≢◌, ◌↔◌, ℕ, zero, suc, ◌<◌, ◌⊎◌, inl, inr, List, [], ◌∷◌, ◌++◌, length, Some, refl, sym, ap, ◌∙◌, subst}
 use Rattle.std.specs.Prelude.{slice_get, slice_set}
 use Rattle.path_theory.specs.Marks.{EventMark, CallMark}
-use Rattle.c_paths.specs.Events.{Event, Item}
-use Rattle.c_paths.specs.Exits.{NoExits}
-use Rattle.c_paths.specs.Graphs.{Block, Ending, ToAny, Calls, Stops, GraphTrace}
-use Rattle.c_paths.specs.Fragments.{Has}
-use Rattle.c_paths.specs.Occurrences.{InEvents, InEnding, InGraph}
-use Rattle.c_paths.specs.SoundGraphs.{IsSoundEnd, AreSound, IsSoundGraph}
-use Rattle.c_paths.proofs.JoinedBlocks.{same_traces}
+use Rattle.flow_graph.specs.CPaths.Events.{Event, Item}
+use Rattle.flow_graph.specs.CPaths.Exits.{NoExits}
+use Rattle.flow_graph.specs.CPaths.Graphs.{Block, Ending, ToAny, Calls, Stops, GraphTrace}
+use Rattle.flow_graph.specs.CPaths.Fragments.{Has}
+use Rattle.flow_graph.specs.CPaths.Occurrences.{InEvents, InEnding, InGraph}
+use Rattle.flow_graph.specs.CPaths.SoundGraphs.{IsSoundEnd, AreSound, IsSoundGraph}
+use Rattle.flow_graph.proofs.CPaths.JoinedBlocks.{same_traces}
 use Rattle.flow_graph.specs.Joins.{IsJoined}
 
 pub joined_same : (g : List Block) → IsJoined g g

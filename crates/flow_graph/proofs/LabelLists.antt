@@ -1,9 +1,9 @@
 -- The blocks of labels, one label more.
 use Rattle.std.proofs.Common.{◌≡◌, ℕ, Bool, true, false, cond, nat_eq, List, [], ◌∷◌, ◌++◌, Option, None, Some, refl, sym, ap, ◌∙◌, append_assoc, append-nil, arith}
 use Rattle.std.specs.Prelude.{◌==◌, Vec}
-use Rattle.c_paths.specs.Listing.{if_so}
-use Rattle.c_paths.specs.Layout as layout
-use Rattle.c_paths.specs.Building.{label_blocks}
+use Rattle.flow_graph.specs.CPaths.Listing.{if_so}
+use Rattle.flow_graph.specs.CPaths.Layout as layout
+use Rattle.flow_graph.specs.CPaths.Building.{label_blocks}
 use Rattle.flow_graph.specs.declared.labels.Entry.{Entry}
 use Rattle.flow_graph.specs.Labels.{entry_in, entries_in, items_of}
 

@@ -11,3 +11,5 @@ mod Arms
 mod Loops
 mod TakenOver
 mod Turns
+pub mod CPaths
+pub mod ReachedBlocks

@@ -2,11 +2,11 @@
 use Rattle.std.proofs.Common.{◌≡◌, ℕ, ◌<◌, List, [], ◌∷◌, ◌++◌, Option, Some, length, get_or, refl, sym, ap, ◌∙◌, subst, arith}
 use Rattle.std.proofs.lemmas.Option.{slice_get_within, slice_get-get_or}
 use Rattle.std.proofs.lemmas.List.{length-map}
-use Rattle.c_paths.specs.Forms.{Form, Row, done}
-use Rattle.c_paths.specs.Flow.{Flow, While, Do, For}
-use Rattle.c_paths.specs.Fragments.{Way}
-use Rattle.c_paths.specs.Building.{Draft, Made, Placed, Waits, push, form_blocks, row_blocks, test_blocks, flow_blocks}
-use Rattle.c_paths.proofs.DraftGrowth.{get_seam, form_grown, row_grown, flow_grown}
+use Rattle.flow_graph.specs.CPaths.Forms.{Form, Row, done}
+use Rattle.flow_graph.specs.CPaths.Flow.{Flow, While, Do, For}
+use Rattle.flow_graph.specs.CPaths.Fragments.{Way}
+use Rattle.flow_graph.specs.CPaths.Building.{Draft, Made, Placed, Waits, push, form_blocks, row_blocks, test_blocks, flow_blocks}
+use Rattle.flow_graph.proofs.CPaths.DraftGrowth.{get_seam, form_grown, row_grown, flow_grown}
 use Rattle.flow_graph.specs.declared.draft.Draft as drafts
 use Rattle.flow_graph.specs.declared.statements.BodyBuilder.{BodyBuilder}
 use Rattle.flow_graph.specs.Values.{draft_of, drafts_of, made}

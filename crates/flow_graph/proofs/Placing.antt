@@ -1,13 +1,13 @@
 -- How statements that were built one after the other are put together.
 use Rattle.std.proofs.Common.{◌≡◌, ℕ, List, [], ◌∷◌, ◌++◌, refl, sym, ap, ◌∙◌, subst, append_assoc, append-nil}
 use Rattle.std.specs.Prelude.{not}
-use Rattle.c_paths.specs.Forms.{Form, Row}
-use Rattle.c_paths.specs.Flow.{Flow, If, Switch, Flows, flows}
-use Rattle.c_paths.specs.Fragments.{ToEither}
-use Rattle.c_paths.specs.Graphs.{ToAny}
-use Rattle.c_paths.specs.Layout.{Entry}
-use Rattle.c_paths.specs.Listing.{if_so, has_default}
-use Rattle.c_paths.specs.Building.{Draft, Made, Placed, Settled, push, simple, form_blocks, row_blocks, flow_blocks, flows_blocks}
+use Rattle.flow_graph.specs.CPaths.Forms.{Form, Row}
+use Rattle.flow_graph.specs.CPaths.Flow.{Flow, If, Switch, Flows, flows}
+use Rattle.flow_graph.specs.CPaths.Fragments.{ToEither}
+use Rattle.flow_graph.specs.CPaths.Graphs.{ToAny}
+use Rattle.flow_graph.specs.CPaths.Layout.{Entry}
+use Rattle.flow_graph.specs.CPaths.Listing.{if_so, has_default}
+use Rattle.flow_graph.specs.CPaths.Building.{Draft, Made, Placed, Settled, push, simple, form_blocks, row_blocks, flow_blocks, flows_blocks}
 use Rattle.flow_graph.specs.declared.statements.Ahead.{Ahead}
 use Rattle.flow_graph.specs.declared.statements.BodyBuilder.{BodyBuilder}
 use Rattle.flow_graph.specs.Values.{drafts_of, made}

@@ -2,9 +2,9 @@
 use Rattle.std.proofs.Common.{◌≡◌, Bool, ◌||◌, refl}
 use Rattle.c_tree.specs.declared.place.Place.{Place}
 use Rattle.c_tree.specs.Node.{Node, node, Primary, Operation, Initializer, Specifier, Declarator, Part, Outer, Statement, Iteration, Jump, StatementShape, IterationShape, JumpShape, Block, ExprStmt, If, Switch, Case, Default, Label, While, Do, For, ForDeclaration, Goto, Continue, Break, Return, MaybeNode, absent, present, Nodes, no_more, more}
-use Rattle.c_paths.specs.Facts.{Facts}
-use Rattle.c_paths.specs.Listing.{has_default, has_default_in}
-use Rattle.c_paths.specs.TreeFlow.{flow_of, statement_flow, iteration_flow, jump_flow, maybe_flow, flows_of}
+use Rattle.flow_graph.specs.CPaths.Facts.{Facts}
+use Rattle.flow_graph.specs.CPaths.Listing.{has_default, has_default_in}
+use Rattle.flow_graph.specs.CPaths.TreeFlow.{flow_of, statement_flow, iteration_flow, jump_flow, maybe_flow, flows_of}
 
 same_either : {a b c d : Bool} → a ≡ b → c ≡ d → (a || c) ≡ (b || d)
 same_either e h = cc

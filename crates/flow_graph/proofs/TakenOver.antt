@@ -2,8 +2,8 @@
 use Rattle.std.proofs.Common.{◌≡◌, ◌≢◌, ℕ, ◌<◌, List, ◌∷◌, [], ◌++◌, length, map, get_or, Option, Some, sym, ap, ◌∙◌, subst}
 use Rattle.std.specs.Prelude.{slice_get, slice_set}
 use Rattle.std.proofs.lemmas.List.{map-set, length-map}
-use Rattle.c_paths.specs.Events.{Event}
-use Rattle.c_paths.specs.Graphs as graphs
+use Rattle.flow_graph.specs.CPaths.Events.{Event}
+use Rattle.flow_graph.specs.CPaths.Graphs as graphs
 use Rattle.flow_graph.specs.declared.graph.Block.{Block}
 use Rattle.flow_graph.specs.Values.{event_of, ending_of, block_of, blocks_of}
 use Rattle.flow_graph.specs.Joins.{IsJoined, IsNext}

@@ -6,12 +6,12 @@ use Rattle.c_tree.specs.declared.tree.Trees.{Trees, out-Trees}
 use Rattle.c_tree.specs.Node.{more}
 use Rattle.c_tree.specs.Views.{node_of, nodes_of, nodes_in}
 use Rattle.c_tree.proofs.Rows.{nodes_out, nodes_drop}
-use Rattle.c_paths.specs.Facts.{Facts}
-use Rattle.c_paths.specs.Forms.{done}
-use Rattle.c_paths.specs.Fragments.{To}
-use Rattle.c_paths.specs.TreeForms.{form_of, operands}
-use Rattle.c_paths.specs.TreeFlow.{declarator_then, declarators_row, flow_of, flows_of}
-use Rattle.c_paths.specs.Building.{Draft, Made, form_blocks, row_blocks, flow_blocks, flows_blocks}
+use Rattle.flow_graph.specs.CPaths.Facts.{Facts}
+use Rattle.flow_graph.specs.CPaths.Forms.{done}
+use Rattle.flow_graph.specs.CPaths.Fragments.{To}
+use Rattle.flow_graph.specs.CPaths.TreeForms.{form_of, operands}
+use Rattle.flow_graph.specs.CPaths.TreeFlow.{declarator_then, declarators_row, flow_of, flows_of}
+use Rattle.flow_graph.specs.CPaths.Building.{Draft, Made, form_blocks, row_blocks, flow_blocks, flows_blocks}
 use Rattle.flow_graph.specs.declared.statements.BodyBuilder.{BodyBuilder}
 use Rattle.flow_graph.specs.Values.{drafts_of}
 use Rattle.flow_graph.specs.Statements.{IsPlaced}

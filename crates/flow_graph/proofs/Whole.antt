@@ -2,17 +2,17 @@
 use Rattle.std.proofs.Common.{◌≡◌, ◌↔◌, ◌⊎◌, ℕ, List, [], ◌∷◌, ◌++◌, map, refl, sym, ap, ◌∙◌, subst}
 use Rattle.c_tree.specs.declared.place.Place.{Place}
 use Rattle.c_tree.specs.Node.{Node}
-use Rattle.c_paths.specs.Events.{Item, Exited}
-use Rattle.c_paths.specs.Facts.{Facts}
-use Rattle.c_paths.specs.Graphs.{Block, ToAny, Stops, GraphTrace}
-use Rattle.c_paths.specs.Traces.{Definition, Trace}
-use Rattle.c_paths.specs.Occurrences.{InGraph}
-use Rattle.c_paths.specs.SoundGraphs.{IsSoundGraph}
-use Rattle.c_paths.specs.TreeFlow.{flow_of}
-use Rattle.c_paths.specs.Building.{Draft as Sketched, Made, Placed, Settled, Graph, push, flow_blocks, settled, graph_of}
-use Rattle.c_paths.proofs.BuiltGraphs.{built_traces}
-use Rattle.c_paths.proofs.SoundDrafts.{built_graph_sound}
-use Rattle.c_paths.proofs.BuiltTexts.{built_graph_text}
+use Rattle.flow_graph.specs.CPaths.Events.{Item, Exited}
+use Rattle.flow_graph.specs.CPaths.Facts.{Facts}
+use Rattle.flow_graph.specs.CPaths.Graphs.{Block, ToAny, Stops, GraphTrace}
+use Rattle.flow_graph.specs.CPaths.Traces.{Definition, Trace}
+use Rattle.flow_graph.specs.CPaths.Occurrences.{InGraph}
+use Rattle.flow_graph.specs.CPaths.SoundGraphs.{IsSoundGraph}
+use Rattle.flow_graph.specs.CPaths.TreeFlow.{flow_of}
+use Rattle.flow_graph.specs.CPaths.Building.{Draft as Sketched, Made, Placed, Settled, Graph, push, flow_blocks, settled, graph_of}
+use Rattle.flow_graph.proofs.CPaths.BuiltGraphs.{built_traces}
+use Rattle.flow_graph.proofs.CPaths.SoundDrafts.{built_graph_sound}
+use Rattle.flow_graph.proofs.CPaths.BuiltTexts.{built_graph_text}
 use Rattle.flow_graph.specs.declared.draft.Draft.{Draft}
 use Rattle.flow_graph.specs.declared.statements.BodyBuilder.{BodyBuilder}
 use Rattle.flow_graph.specs.Values.{drafts_of, made}

@@ -1,7 +1,7 @@
 -- A list that is gone through by value.
 use Rattle.std.proofs.Common.{◌≡◌, ◌∷◌, ◌++◌, [], List, length, map, refl, sym, ap, ◌∙◌, arith}
-use Rattle.c_paths.specs.Layout.{Entry}
-use Rattle.c_paths.specs.Building.{settled}
+use Rattle.flow_graph.specs.CPaths.Layout.{Entry}
+use Rattle.flow_graph.specs.CPaths.Building.{settled}
 use Rattle.flow_graph.specs.declared.graph.Block.{Block}
 use Rattle.flow_graph.specs.declared.draft.Draft.{Draft}
 use Rattle.flow_graph.specs.Values.{block_of, blocks_of, draft_of, drafts_of}

@@ -1,12 +1,12 @@
 -- What is promised of the graph of a function.
 use Rattle.std.specs.Prelude.{◌≡◌, ◌↔◌, ◌⊎◌, List}
-use Rattle.c_paths.specs.Events.{Item, exited}
-use Rattle.c_paths.specs.Facts.{Facts}
-use Rattle.c_paths.specs.TreeFlow.{flow_of}
-use Rattle.c_paths.specs.Traces.{Definition, Trace}
-use Rattle.c_paths.specs.Graphs.{GraphTrace}
-use Rattle.c_paths.specs.Occurrences.{InFlow, InGraph}
-use Rattle.c_paths.specs.Building.{Graph}
+use Rattle.flow_graph.specs.CPaths.Events.{Item, exited}
+use Rattle.flow_graph.specs.CPaths.Facts.{Facts}
+use Rattle.flow_graph.specs.CPaths.TreeFlow.{flow_of}
+use Rattle.flow_graph.specs.CPaths.Traces.{Definition, Trace}
+use Rattle.flow_graph.specs.CPaths.Graphs.{GraphTrace}
+use Rattle.flow_graph.specs.CPaths.Occurrences.{InFlow, InGraph}
+use Rattle.flow_graph.specs.CPaths.Building.{Graph}
 
 -- it has exactly the traces of the function
 abbrev pub HasTraces : Graph → Facts → Definition → Type 0

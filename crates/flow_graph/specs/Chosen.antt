@@ -1,8 +1,8 @@
 -- The blocks of a choice whose last two operands lead on this way.
 use Rattle.std.specs.Prelude.{List}
-use Rattle.c_paths.specs.Forms.{Form}
-use Rattle.c_paths.specs.Fragments.{Way, ToEither}
-use Rattle.c_paths.specs.Building.{Draft, Made, form_blocks}
+use Rattle.flow_graph.specs.CPaths.Forms.{Form}
+use Rattle.flow_graph.specs.CPaths.Fragments.{Way, ToEither}
+use Rattle.flow_graph.specs.CPaths.Building.{Draft, Made, form_blocks}
 
 abbrev pub chosen_blocks : Form → Form → Form → Way → List Draft → Made
 chosen_blocks x y z way ds =

@@ -1,7 +1,7 @@
 -- Whether a statement has a `default` is seen from its shape alone: it doesn't matter what is known, nor where its function is.
 use Rattle.std.specs.Prelude.{false, None}
 use Rattle.c_tree.specs.declared.place.Place.{Place}
-use Rattle.c_paths.specs.Facts.{Facts}
+use Rattle.flow_graph.specs.CPaths.Facts.{Facts}
 
 -- nothing is known
 abbrev pub silent : Facts

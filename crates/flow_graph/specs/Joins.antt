@@ -1,10 +1,10 @@
 -- What stays where blocks are joined.
 use Rattle.std.specs.Prelude.{◌≡◌, ◌≢◌, ◌↔◌, ℕ, List, [], ◌∷◌, length}
-use Rattle.c_paths.specs.Events.{Event, Item}
-use Rattle.c_paths.specs.Graphs.{Block, Ending, ToAny, Stops, GraphTrace}
-use Rattle.c_paths.specs.Fragments.{Has}
-use Rattle.c_paths.specs.Occurrences.{InGraph}
-use Rattle.c_paths.specs.SoundGraphs.{IsSoundGraph}
+use Rattle.flow_graph.specs.CPaths.Events.{Event, Item}
+use Rattle.flow_graph.specs.CPaths.Graphs.{Block, Ending, ToAny, Stops, GraphTrace}
+use Rattle.flow_graph.specs.CPaths.Fragments.{Has}
+use Rattle.flow_graph.specs.CPaths.Occurrences.{InGraph}
+use Rattle.flow_graph.specs.CPaths.SoundGraphs.{IsSoundGraph}
 
 -- the new blocks have the traces of the old ones, and nothing new stands in them
 pub record IsJoined (old new : List Block) : Type 0 where

@@ -1,7 +1,7 @@
 -- Labels with their blocks, as plain values.
 use Rattle.std.specs.Prelude.{ℕ, nat_eq, List, [], Vec, map, Option, None, Some}
 use Rattle.indexmap.specs.IndexMap.{IndexMap, get}
-use Rattle.c_paths.specs.Layout as layout
+use Rattle.flow_graph.specs.CPaths.Layout as layout
 use Rattle.flow_graph.specs.declared.labels.Entry.{Entry}
 
 abbrev pub entry_in : Entry → layout.Entry

@@ -6,3 +6,5 @@ pub mod Defaults
 pub mod Statements
 pub mod Bodies
 pub mod Joins
+pub mod CPaths
+pub mod ReachedBlocks

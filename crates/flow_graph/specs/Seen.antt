@@ -1,5 +1,5 @@
 -- What a contract sees of a flow graph.
-use Rattle.c_paths.specs.Building as building
+use Rattle.flow_graph.specs.CPaths.Building as building
 use Rattle.flow_graph.specs.declared.graph.Graph.{Graph}
 use Rattle.flow_graph.specs.Values.{blocks_of}
 

@@ -1,7 +1,7 @@
 -- What the builder of statements has made.
 use Rattle.std.specs.Prelude.{◌≡◌, ℕ, List, ◌++◌}
-use Rattle.c_paths.specs.Flow.{Flow, Flows}
-use Rattle.c_paths.specs.Building.{Draft, Placed, flow_blocks, flows_blocks}
+use Rattle.flow_graph.specs.CPaths.Flow.{Flow, Flows}
+use Rattle.flow_graph.specs.CPaths.Building.{Draft, Placed, flow_blocks, flows_blocks}
 use Rattle.flow_graph.specs.declared.statements.Ahead.{Ahead}
 use Rattle.flow_graph.specs.declared.statements.BodyBuilder.{BodyBuilder}
 use Rattle.flow_graph.specs.Values.{drafts_of}

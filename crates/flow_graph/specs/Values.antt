@@ -1,11 +1,11 @@
 -- What the types of the program stand for: events, blocks and drafts as plain values.
 use Rattle.std.specs.Prelude.{ℕ, List, map}
 use Rattle.c_tree.specs.Views.{node_of}
-use Rattle.c_paths.specs.Events as events
-use Rattle.path_subjects.specs.Values.{subject_of}
-use Rattle.c_paths.specs.Graphs as graphs
-use Rattle.c_paths.specs.Fragments as ways
-use Rattle.c_paths.specs.Building as building
+use Rattle.flow_graph.specs.CPaths.Events as events
+use Rattle.c_tree.specs.PathSubjects.Values.{subject_of}
+use Rattle.flow_graph.specs.CPaths.Graphs as graphs
+use Rattle.flow_graph.specs.CPaths.Fragments as ways
+use Rattle.flow_graph.specs.CPaths.Building as building
 use Rattle.flow_graph.specs.declared.event.Variable.{Variable}
 use Rattle.flow_graph.specs.declared.event.Event.{Event}
 use Rattle.flow_graph.specs.declared.event.Event.TheVariants as event

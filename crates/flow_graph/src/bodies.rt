@@ -2,7 +2,7 @@
 
 ghost use Rattle.std.specs.Prelude.{IfOk};
 ghost use Rattle.c_tree.specs.Views.{node_of};
-ghost use Rattle.c_paths.specs.SoundGraphs.{IsSoundGraph};
+ghost use Rattle.flow_graph.specs.CPaths.SoundGraphs.{IsSoundGraph};
 ghost use Rattle.flow_graph.specs.Bodies.{HasTraces, StandsInText};
 ghost use Rattle.flow_graph.specs.Seen.{graph_in};
 

@@ -3,17 +3,16 @@
 
 ghost use Rattle.std.specs.Prelude.{◌≡◌, ◌<◌, [], ◌∷◌, length, map, IfOk, OnOk};
 ghost use Rattle.c_tree.specs.Views.{node_of};
-ghost use Rattle.c_paths.specs.Events.{Exited};
-ghost use Rattle.c_paths.specs.Graphs.{Stops};
-ghost use Rattle.c_paths.specs.TreeForms.{itself, call_itself};
-ghost use Rattle.c_paths.specs.Building.{Settled, Waits, push, lead, filled, split_blocks, row_blocks};
+ghost use Rattle.flow_graph.specs.CPaths.Events.{Exited};
+ghost use Rattle.flow_graph.specs.CPaths.Graphs.{Stops};
+ghost use Rattle.flow_graph.specs.CPaths.TreeForms.{itself, call_itself};
+ghost use Rattle.flow_graph.specs.CPaths.Building.{Settled, Waits, push, lead, filled, split_blocks, row_blocks};
 ghost use Rattle.flow_graph.specs.Values.{event_of, sketch_of, drafts_of, way_of, made};
 
 use crate::draft::{Draft, DraftEnd, Way};
 use crate::event::Event;
 use crate::graph::End;
-use c_tree::{Place, Tree};
-use path_subjects::Subject;
+use c_tree::{Place, Subject, Tree};
 use std::alloc::{AllocError, Global};
 
 /// The blocks of a function, while they are built.

@@ -3,9 +3,9 @@
 
 ghost use Rattle.std.specs.Prelude.{◌≡◌, IfOk};
 ghost use Rattle.c_tree.specs.Views.{node_of, nodes_of, outer_shape};
-ghost use Rattle.c_paths.specs.Forms.{done};
-ghost use Rattle.c_paths.specs.TreeFlow.{declarator_then, declarators_row, outer_row, declaration_row};
-ghost use Rattle.c_paths.specs.Building.{row_blocks};
+ghost use Rattle.flow_graph.specs.CPaths.Forms.{done};
+ghost use Rattle.flow_graph.specs.CPaths.TreeFlow.{declarator_then, declarators_row, outer_row, declaration_row};
+ghost use Rattle.flow_graph.specs.CPaths.Building.{row_blocks};
 ghost use Rattle.flow_graph.specs.Values.{drafts_of, made};
 
 use crate::builder::Builder;

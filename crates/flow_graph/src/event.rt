@@ -1,7 +1,6 @@
 //! What happens in a function, as far as a checker sees it.
 
-use c_tree::{Place, Tree};
-use path_subjects::Subject;
+use c_tree::{Place, Subject, Tree};
 
 /// A variable of a block with automatic storage (ISO 9899:1990, 6.1.2.4). A parameter is none.
 #[derive(Clone, Copy, Debug, PartialEq, Eq)]

@@ -2,19 +2,18 @@
 
 ghost use Rattle.std.specs.Prelude.{◌≡◌, IfOk};
 ghost use Rattle.c_tree.specs.Views.{node_of, nodes_of, option_node, primary_shape, operation_shape, initializer_shape};
-ghost use Rattle.c_paths.specs.Events.{dereferenced};
-ghost use Rattle.c_paths.specs.Forms.{Plain, done, operand, item};
-ghost use Rattle.c_paths.specs.TreeForms.{itself, call_itself, form_of, primary_form, operation_form, initializer_form, operands};
-ghost use Rattle.c_paths.specs.TreeFlow.{maybe_row};
-ghost use Rattle.c_paths.specs.Building.{form_blocks, row_blocks};
+ghost use Rattle.flow_graph.specs.CPaths.Events.{dereferenced};
+ghost use Rattle.flow_graph.specs.CPaths.Forms.{Plain, done, operand, item};
+ghost use Rattle.flow_graph.specs.CPaths.TreeForms.{itself, call_itself, form_of, primary_form, operation_form, initializer_form, operands};
+ghost use Rattle.flow_graph.specs.CPaths.TreeFlow.{maybe_row};
+ghost use Rattle.flow_graph.specs.CPaths.Building.{form_blocks, row_blocks};
 ghost use Rattle.flow_graph.specs.Values.{drafts_of, way_of, made};
 
 use crate::builder::Builder;
 use crate::draft::Way;
 use crate::event::Event;
 use crate::facts::Facts;
-use c_tree::{Initializer, Kind, Operation, Primary, Tree, Trees};
-use path_subjects::Subject;
+use c_tree::{Initializer, Kind, Operation, Primary, Subject, Tree, Trees};
 use std::alloc::AllocError;
 
 impl<'a> Builder<'a> {

@@ -3,7 +3,7 @@
 ghost use Rattle.std.specs.Prelude.{◌≡◌};
 ghost use Rattle.std.specs.Option.{option_map};
 ghost use Rattle.c_tree.specs.Views.{node_of};
-ghost use Rattle.c_paths.specs.Facts.{Facts as KnownFacts};
+ghost use Rattle.flow_graph.specs.CPaths.Facts.{Facts as KnownFacts};
 ghost use Rattle.flow_graph.specs.Values.{variable_in};
 
 use crate::event::Variable;

@@ -2,7 +2,7 @@
 //! happens in the other and how that ends; an exit keeps a block of its own. What was taken over stays, and nothing leads to it.
 
 ghost use Rattle.std.specs.Prelude.{◌≡◌, ◌<◌, ◌≢◌, false, [], ◌∷◌, length, IfOk, IfSome, OnOk};
-ghost use Rattle.c_paths.specs.Graphs.{ToAny, Stops};
+ghost use Rattle.flow_graph.specs.CPaths.Graphs.{ToAny, Stops};
 ghost use Rattle.flow_graph.specs.Values.{ending_of, blocks_of};
 ghost use Rattle.flow_graph.specs.Joins.{IsJoined, IsNext};
 

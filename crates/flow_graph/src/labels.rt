@@ -1,8 +1,8 @@
 //! The labels of a function, with the blocks where their statements begin (ISO 9899:1990, 6.6.1).
 
 ghost use Rattle.std.specs.Prelude.{◌≡◌, ◌==◌, ℕ, [], ◌∷◌, ◌++◌, IfOk, MatchResult};
-ghost use Rattle.c_paths.specs.Listing.{if_so};
-ghost use Rattle.c_paths.specs.Building.{label_blocks};
+ghost use Rattle.flow_graph.specs.CPaths.Listing.{if_so};
+ghost use Rattle.flow_graph.specs.CPaths.Building.{label_blocks};
 ghost use Rattle.flow_graph.specs.Labels.{entry_in, blocks_at};
 
 use indexmap::IndexMap;
@@ -27,8 +27,8 @@ pub(crate) struct Labels {
 
 impl Model for Labels {
     ghost use Rattle.std.specs.Prelude.{◌≡◌, ℕ, List};
-    ghost use Rattle.c_paths.specs.Building.{label_blocks};
-    ghost use Rattle.c_paths.specs.Layout.{Entry as LabelEntry};
+    ghost use Rattle.flow_graph.specs.CPaths.Building.{label_blocks};
+    ghost use Rattle.flow_graph.specs.CPaths.Layout.{Entry as LabelEntry};
     ghost use Rattle.flow_graph.specs.Labels.{entries_in, blocks_at};
 
     ghost Value = { List LabelEntry };

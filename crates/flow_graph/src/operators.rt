@@ -3,9 +3,9 @@
 
 ghost use Rattle.std.specs.Prelude.{◌≡◌, IfOk};
 ghost use Rattle.c_tree.specs.Views.{node_of};
-ghost use Rattle.c_paths.specs.Forms.{Plain, Inverts, Keeps, Both, Any, Chooses, Follows, operand};
-ghost use Rattle.c_paths.specs.TreeForms.{is_zero, itself, unary_form, binary_form, form_of};
-ghost use Rattle.c_paths.specs.Building.{form_blocks};
+ghost use Rattle.flow_graph.specs.CPaths.Forms.{Plain, Inverts, Keeps, Both, Any, Chooses, Follows, operand};
+ghost use Rattle.flow_graph.specs.CPaths.TreeForms.{is_zero, itself, unary_form, binary_form, form_of};
+ghost use Rattle.flow_graph.specs.CPaths.Building.{form_blocks};
 ghost use Rattle.flow_graph.specs.Values.{drafts_of, way_of, made};
 ghost use Rattle.flow_graph.specs.Chosen.{chosen_blocks};
 

@@ -1,7 +1,7 @@
 //! Drafts become blocks, once each label has its blocks.
 
 ghost use Rattle.std.specs.Prelude.{◌≡◌, map, IfOk};
-ghost use Rattle.c_paths.specs.Building.{settled_ending, settled};
+ghost use Rattle.flow_graph.specs.CPaths.Building.{settled_ending, settled};
 ghost use Rattle.flow_graph.specs.Values.{ending_of, sketch_of, block_of, blocks_of, draft_of, drafts_of};
 
 use crate::draft::{Draft, DraftEnd};

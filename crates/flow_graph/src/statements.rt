@@ -2,11 +2,11 @@
 
 ghost use Rattle.std.specs.Prelude.{◌≡◌, ◌<◌, [], length, IfOk, OnOk};
 ghost use Rattle.c_tree.specs.Views.{node_of, nodes_of, option_node, statement_shape, iteration_shape, jump_shape};
-ghost use Rattle.c_paths.specs.Forms.{done, operand};
-ghost use Rattle.c_paths.specs.Flow.{Switch, While, Do, For};
-ghost use Rattle.c_paths.specs.TreeForms.{form_of};
-ghost use Rattle.c_paths.specs.TreeFlow.{maybe_row, maybe_form, flow_of, statement_flow, iteration_flow, jump_flow, maybe_flow, flows_of};
-ghost use Rattle.c_paths.specs.Building.{test_blocks, simple};
+ghost use Rattle.flow_graph.specs.CPaths.Forms.{done, operand};
+ghost use Rattle.flow_graph.specs.CPaths.Flow.{Switch, While, Do, For};
+ghost use Rattle.flow_graph.specs.CPaths.TreeForms.{form_of};
+ghost use Rattle.flow_graph.specs.CPaths.TreeFlow.{maybe_row, maybe_form, flow_of, statement_flow, iteration_flow, jump_flow, maybe_flow, flows_of};
+ghost use Rattle.flow_graph.specs.CPaths.Building.{test_blocks, simple};
 ghost use Rattle.flow_graph.specs.Values.{drafts_of, made};
 ghost use Rattle.flow_graph.specs.Statements.{IsPlaced, blocks_ahead, rows_ahead};
 

@@ -2,8 +2,8 @@
 
 ghost use Rattle.std.specs.Prelude.{◌≡◌, ◌++◌, not, OnOk};
 ghost use Rattle.c_tree.specs.Views.{node_of, nodes_of, option_node, statement_shape, iteration_shape};
-ghost use Rattle.c_paths.specs.Listing.{if_so, has_default, has_default_in};
-ghost use Rattle.c_paths.specs.TreeFlow.{flow_of, statement_flow, iteration_flow, maybe_flow, flows_of};
+ghost use Rattle.flow_graph.specs.CPaths.Listing.{if_so, has_default, has_default_in};
+ghost use Rattle.flow_graph.specs.CPaths.TreeFlow.{flow_of, statement_flow, iteration_flow, maybe_flow, flows_of};
 ghost use Rattle.flow_graph.specs.Defaults.{silent, nowhere};
 
 use c_tree::{Iteration, Jump, Kind, Statement, Tree, Trees};

@@ -2,7 +2,7 @@
 
 ghost use Rattle.std.specs.Prelude.{◌≡◌};
 ghost use Rattle.c_tree.specs.Views.{node_of};
-ghost use Rattle.c_paths.specs.TreeForms.{is_zero_kind, is_zero};
+ghost use Rattle.flow_graph.specs.CPaths.TreeForms.{is_zero_kind, is_zero};
 
 use c_tree::{Kind, Operation, Primary, TokenKind, Tree};
 

@@ -1,8 +1,8 @@
 -- What the tests of flow graphs know: each call calls a function with a body, and each plain declarator declares a variable.
 use Rattle.std.specs.Prelude.{true, Option, None, Some}
 use Rattle.c_tree.specs.Node.{Node, node, Declarator, Named}
-use Rattle.c_paths.specs.Events.{Variable}
-use Rattle.c_paths.specs.Facts.{Facts}
+use Rattle.flow_graph.specs.CPaths.Events.{Variable}
+use Rattle.flow_graph.specs.CPaths.Facts.{Facts}
 
 abbrev pub plain_variable : Node → Option Variable
 plain_variable (node _ _ (Declarator (Named pointers name suffixes))) = Some (record { place = name.place; name = name.name })

@@ -1,9 +1,8 @@
 //! Events as words.
 
-use c_tree::{BinaryOp, Initializer, Kind, Operation, Place, Primary, Tree, UnaryOp};
+use c_tree::{BinaryOp, Initializer, Kind, Operation, Place, Primary, Subject, Tree, UnaryOp};
 use flow_graph::Event;
 use mx_base::Names;
-use path_subjects::Subject;
 use std::alloc::AllocError;
 
 /// The place of a function's closing brace in these tests.

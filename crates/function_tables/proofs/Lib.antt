@@ -1,3 +1,4 @@
 mod OneByOne
 mod OfBlocks
 mod OfFunctions
+pub mod EngineTables

@@ -1,16 +1,16 @@
 -- The tables of blocks.
 use Rattle.std.proofs.Common.{◌≡◌, ℕ, ◌+◌, ◌<◌, ◌≤◌, List, [], ◌∷◌, ◌++◌, map, length, take, get_or, Option, Some, slice_get, Bor, refl, sym, ap, ◌∙◌, subst}
-use Rattle.applied_rules.specs.declared.rules.EventRules.{EventRules}
-use Rattle.applied_rules.specs.Events.{AreOfEvent}
-use Rattle.c_paths.specs.Graphs as graphs
+use Rattle.state_tuples.specs.declared.applied_rules.rules.EventRules.{EventRules}
+use Rattle.state_tuples.specs.AppliedRules.Events.{AreOfEvent}
+use Rattle.flow_graph.specs.CPaths.Graphs as graphs
 use Rattle.c_tree.specs.Node.{Node}
-use Rattle.c_typing.specs.Definition.{Table}
-use Rattle.c_typing.specs.Functions.{Defined}
-use Rattle.c_typing.specs.Options.{◌>?◌}
+use Rattle.type_rules.specs.Definition.{Table}
+use Rattle.type_rules.specs.Functions.{Defined}
+use Rattle.type_rules.specs.Options.{◌>?◌}
 use Rattle.call_graph.specs.Followed.{followed}
-use Rattle.checker_graphs.proofs.Units.{functions-are, table-is, happening-is}
-use Rattle.checker_model.specs.Happenings.{Function, Happening}
-use Rattle.checker_programs.specs.Texts.{functions_in, function_of as named, table_of, happening}
+use Rattle.path_model.proofs.CheckerGraphs.Units.{functions-are, table-is, happening-is}
+use Rattle.path_model.specs.CheckerModel.Happenings.{Function, Happening}
+use Rattle.path_model.specs.CheckerPrograms.Texts.{functions_in, function_of as named, table_of, happening}
 use Rattle.typed_unit.specs.Texts.{Text, texts_of}
 use Rattle.flow_graph.specs.declared.event.Event.{Event}
 use Rattle.flow_graph.specs.declared.graph.Block.{Block}
@@ -20,9 +20,9 @@ use Rattle.function_tables.specs.Ends.{call_in}
 use Rattle.function_tables.specs.Rules.{AreOfEvents}
 use Rattle.function_tables.specs.Tables.{IsBlockTable, AreBlockTables}
 use Rattle.function_tables.proofs.OneByOne.{zip-next, zip-all, map-at}
-use Rattle.metal_machines.specs.Machine.{Machine}
-use Rattle.programs.specs.Calls.{table_in}
-use Rattle.programs.specs.Definitions.{definitions, trees_in}
+use Rattle.metal_tree.specs.MetalMachines.Machine.{Machine}
+use Rattle.call_graph.specs.OfPrograms.Calls.{table_in}
+use Rattle.call_graph.specs.OfPrograms.Definitions.{definitions, trees_in}
 use Rattle.state_tuples.specs.declared.frame.Frame.{Frame}
 use Rattle.state_tuples.specs.Values.{happening_in, function_of as framed}
 use Rattle.typed_unit.specs.declared.functions.TypedFunction.{TypedFunction}

@@ -6,22 +6,22 @@ use Rattle.std.proofs.lemmas.Option.{same_Some}
 use Rattle.std.proofs.lemmas.Slice.Zip.{AllZip-long}
 use Rattle.std.specs.Coded.{Coded-set, codes}
 use Rattle.std.specs.List.{AllZip}
-use Rattle.c_paths.specs.SoundGraphs.{IsSoundGraph}
-use Rattle.c_typing.specs.Functions.{Defined}
-use Rattle.checker_graphs.specs.Graphs.{IsFlowGraphIn}
-use Rattle.checker_graphs.proofs.Building.{graph-built}
-use Rattle.checker_graphs.proofs.Units.{functions-are, place-filed}
-use Rattle.checker_programs.specs.Texts.{functions_in}
+use Rattle.flow_graph.specs.CPaths.SoundGraphs.{IsSoundGraph}
+use Rattle.type_rules.specs.Functions.{Defined}
+use Rattle.path_model.specs.CheckerGraphs.Graphs.{IsFlowGraphIn}
+use Rattle.path_model.proofs.CheckerGraphs.Building.{graph-built}
+use Rattle.path_model.proofs.CheckerGraphs.Units.{functions-are, place-filed}
+use Rattle.path_model.specs.CheckerPrograms.Texts.{functions_in}
 use Rattle.typed_unit.specs.Texts.{Text, texts_of}
 use Rattle.flow_graph.specs.Bodies.{HasTraces}
 use Rattle.flow_graph.specs.Seen.{graph_in}
-use Rattle.function_graphs.specs.Bodies.{definition_in}
-use Rattle.function_graphs.specs.Known.{facts_in}
+use Rattle.call_graph.specs.FunctionGraphs.Bodies.{definition_in}
+use Rattle.call_graph.specs.FunctionGraphs.Known.{facts_in}
 use Rattle.function_tables.specs.declared.table.FunctionTable.{FunctionTable}
 use Rattle.function_tables.specs.Tables.{AreBlockTables, IsFunctionTable, AreTables}
 use Rattle.function_tables.proofs.OneByOne.{zip-next, zip-all, zip-at, zip-map, there}
-use Rattle.metal_machines.specs.Machine.{Machine}
-use Rattle.programs.specs.Definitions.{definitions, trees_in}
+use Rattle.metal_tree.specs.MetalMachines.Machine.{Machine}
+use Rattle.call_graph.specs.OfPrograms.Definitions.{definitions, trees_in}
 use Rattle.typed_unit.specs.declared.functions.TypedFunction.{TypedFunction}
 use Rattle.typed_unit.specs.declared.typed_unit.TypedUnit.{TypedUnit}
 use Rattle.typed_unit.specs.Functions.{function_of}

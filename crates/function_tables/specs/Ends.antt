@@ -1,6 +1,6 @@
 -- How blocks end.
 use Rattle.std.specs.Prelude.{Option, None, Some}
-use Rattle.c_paths.specs.Graphs.{Ending, ToAny, Calls, Stops}
+use Rattle.flow_graph.specs.CPaths.Graphs.{Ending, ToAny, Calls, Stops}
 use Rattle.c_tree.specs.Node.{Node}
 
 -- the call in which a block ends, if it does in one

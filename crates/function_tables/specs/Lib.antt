@@ -1,3 +1,4 @@
 pub mod Rules
 pub mod Ends
 pub mod Tables
+pub mod EngineTables

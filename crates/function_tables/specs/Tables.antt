@@ -1,19 +1,19 @@
 -- WHAT THE TABLES OF FUNCTIONS SAY.
 use Rattle.std.specs.Prelude.{◌≡◌, ℕ, List, map, slice_get, None, Some}
 use Rattle.std.specs.List.{AllZip}
-use Rattle.c_paths.specs.Graphs.{Block}
+use Rattle.flow_graph.specs.CPaths.Graphs.{Block}
 use Rattle.c_tree.specs.Node.{Node}
-use Rattle.c_typing.specs.Functions.{Defined}
+use Rattle.type_rules.specs.Functions.{Defined}
 use Rattle.call_graph.specs.Followed.{followed}
-use Rattle.checker_graphs.specs.Graphs.{AreGraphs, IsFlowGraphIn}
-use Rattle.checker_programs.specs.Texts.{functions_in, function_of, table_of, happening}
+use Rattle.path_model.specs.CheckerGraphs.Graphs.{AreGraphs, IsFlowGraphIn}
+use Rattle.path_model.specs.CheckerPrograms.Texts.{functions_in, function_of, table_of, happening}
 use Rattle.typed_unit.specs.Texts.{Text}
 use Rattle.flow_graph.specs.Seen.{graph_in}
 use Rattle.function_tables.specs.declared.table.BlockTable.{BlockTable}
 use Rattle.function_tables.specs.declared.table.FunctionTable.{FunctionTable}
 use Rattle.function_tables.specs.Ends.{call_in}
 use Rattle.function_tables.specs.Rules.{AreOfEvents}
-use Rattle.metal_machines.specs.Machine.{Machine}
+use Rattle.metal_tree.specs.MetalMachines.Machine.{Machine}
 
 -- THE TABLE OF A BLOCK of a function of these texts: the rules of its events, and the function into which the call at its end is followed,
 -- by its number

@@ -1,26 +1,25 @@
 //! The tables of the blocks of a function.
 
 ghost use Rattle.std.specs.Prelude.{◌≡◌, ◌≤◌, ◌<◌, length, IfOk};
-ghost use Rattle.c_typing.specs.Options.{◌>?◌};
+ghost use Rattle.type_rules.specs.Options.{◌>?◌};
 ghost use Rattle.call_graph.specs.Followed.{followed};
-ghost use Rattle.checker_programs.specs.Texts.{function_of as named};
+ghost use Rattle.path_model.specs.CheckerPrograms.Texts.{function_of as named};
 ghost use Rattle.typed_unit.specs.Texts.{texts_of};
 ghost use Rattle.flow_graph.specs.Seen.{graph_in};
 ghost use Rattle.flow_graph.specs.Values.{block_of, ending_of};
 ghost use Rattle.function_tables.specs.Ends.{call_in};
 ghost use Rattle.function_tables.specs.Tables.{IsBlockTable, AreBlockTables};
 ghost use Rattle.metal_tree.specs.Whole.{machine_view};
-ghost use Rattle.programs.specs.Calls.{table_in};
-ghost use Rattle.programs.specs.Definitions.{definitions, trees_in};
+ghost use Rattle.call_graph.specs.OfPrograms.Calls.{table_in};
+ghost use Rattle.call_graph.specs.OfPrograms.Definitions.{definitions, trees_in};
 ghost use Rattle.state_tuples.specs.Values.{function_of as framed};
 ghost use Rattle.typed_unit.specs.Functions.{function_of};
 
 use crate::events::rules_of;
 use crate::table::BlockTable;
-use call_graph::followed;
+use call_graph::{Program, followed};
 use flow_graph::{Block, End, Graph};
 use metal_tree::Machine;
-use programs::Program;
 use state_tuples::Frame;
 use std::alloc::{AllocError, Global};
 use typed_unit::TypedFunction;

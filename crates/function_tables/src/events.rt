@@ -5,10 +5,9 @@ ghost use Rattle.function_tables.specs.Rules.{AreOfEvents};
 ghost use Rattle.metal_tree.specs.Whole.{machine_view};
 ghost use Rattle.state_tuples.specs.Values.{happening_in, function_of};
 
-use applied_rules::EventRules;
 use flow_graph::Event;
 use metal_tree::Machine;
-use state_tuples::Frame;
+use state_tuples::{EventRules, Frame};
 use std::alloc::{AllocError, Global};
 use typed_unit::TypedUnit;
 

@@ -1,11 +1,13 @@
-//! What an engine asks of each function of a program: its flow graph, the checker's rules that apply at each event of it, and the functions
-//! into which its calls are followed. It is found once, before any path is followed.
+//! What an engine asks of a program under a checker, computed before any tuple flows: graphs, the rules of each event, followed calls,
+//! followed objects and roots, all by number.
 #![tactic(auto)]
 
 mod blocks;
+mod engine_tables;
 mod events;
 mod table;
 mod tables;
 
+pub use engine_tables::{Frame, Tables, callee_at, end_at, item};
 pub use table::{BlockTable, FunctionTable};
 pub use tables::build_tables;

@@ -1,7 +1,7 @@
 //! Tables of blocks and of functions.
 
-use applied_rules::EventRules;
 use flow_graph::Graph;
+use state_tuples::EventRules;
 
 /// What is asked of a basic block.
 #[derive(Drop)]

@@ -1,17 +1,16 @@
 //! The tables of all functions of a program.
 
 ghost use Rattle.std.specs.Prelude.{◌≡◌, ◌≤◌, ◌<◌, length, Some, slice_get, IfOk};
-ghost use Rattle.c_typing.specs.Functions.{Defined};
+ghost use Rattle.type_rules.specs.Functions.{Defined};
 ghost use Rattle.typed_unit.specs.Texts.{texts_of};
 ghost use Rattle.function_tables.specs.Tables.{IsFunctionTable, AreTables};
 ghost use Rattle.metal_tree.specs.Whole.{machine_view};
-ghost use Rattle.programs.specs.Definitions.{definitions, trees_in};
+ghost use Rattle.call_graph.specs.OfPrograms.Definitions.{definitions, trees_in};
 
 use crate::blocks::block_tables;
 use crate::table::FunctionTable;
-use function_graphs::build;
+use call_graph::{FnId, Program, build};
 use metal_tree::Machine;
-use programs::{FnId, Program};
 use std::alloc::{AllocError, Global};
 
 // The table of a function of a program.

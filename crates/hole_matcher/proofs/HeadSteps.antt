@@ -7,8 +7,8 @@ use Rattle.c_tree.specs.declared.tree.Tree as tree
 use Rattle.c_tree.specs.declared.tree.Trees as code_trees
 use Rattle.c_tree.specs.Forget.{primary_view, operation_view, initializer_view}
 use Rattle.c_tree.specs.Views.{node_of, nodes_of}
-use Rattle.c_typing.specs.Options.{◌>?◌}
-use Rattle.hole_bindings.specs.Bindings.{behind}
+use Rattle.type_rules.specs.Options.{◌>?◌}
+use Rattle.hole_matcher.specs.HoleBindings.Bindings.{behind}
 use Rattle.hole_matcher.proofs.WalkSteps.{then-some, then-same, one_matched, two_matched, front_matched}
 use Rattle.hole_matcher.specs.declared.seat.Seat as code_seat
 use Rattle.hole_matcher.specs.Walks.{matched_opened, seat_of}
@@ -18,15 +18,15 @@ use Rattle.hole_matching.specs.Matching.{Binding, Elsewhere, first_seat, next_se
 use Rattle.hole_matching.specs.Pattern.{Pattern, Patterns, likewise, more, no_more, Cond, Braces, Designated, same_head}
 use Rattle.hole_matching.specs.Subjects.{trees, trees_then}
 use Rattle.hole_matching.specs.Written.{one_part, two_parts, primary_pattern, operation_pattern, initializer_pattern}
-use Rattle.path_subjects.specs.declared.subject.Subject as code_subject
-use Rattle.path_subjects.specs.Subjects.{Subject, Tree}
-use Rattle.path_subjects.specs.Values.{subject_of}
-use Rattle.tree_levels.specs.declared.heads.One.{One}
-use Rattle.tree_levels.specs.declared.heads.Two.{Two}
-use Rattle.tree_levels.specs.declared.heads.Front.{Front}
-use Rattle.tree_levels.specs.declared.heads.Level.{Level}
-use Rattle.tree_levels.specs.declared.heads.Level.TheVariants as level
-use Rattle.tree_levels.specs.Levels.{Opened, one_head, two_head, front_head, level_opened}
+use Rattle.c_tree.specs.declared.path_subjects.subject.Subject as code_subject
+use Rattle.c_tree.specs.PathSubjects.Subjects.{Subject, Tree}
+use Rattle.c_tree.specs.PathSubjects.Values.{subject_of}
+use Rattle.tree_comparison.specs.declared.tree_levels.heads.One.{One}
+use Rattle.tree_comparison.specs.declared.tree_levels.heads.Two.{Two}
+use Rattle.tree_comparison.specs.declared.tree_levels.heads.Front.{Front}
+use Rattle.tree_comparison.specs.declared.tree_levels.heads.Level.{Level}
+use Rattle.tree_comparison.specs.declared.tree_levels.heads.Level.TheVariants as level
+use Rattle.tree_comparison.specs.TreeLevels.Levels.{Opened, one_head, two_head, front_head, level_opened}
 
 pub one-step : (g : Setting) (h k : One) (p : Pattern) (part : code_subject.Subject) (l : Level) (b : Binding) (r : Option Binding)
     → l ≡ level.One k part → same_head (one_head k) (one_head h) ≡ true → r ≡ matched g p (subject_of part) b

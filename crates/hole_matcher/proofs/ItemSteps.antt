@@ -3,17 +3,17 @@ use Rattle.std.proofs.Common.{arith, ◌≡◌, ◌<◌, ◌≤◌, ℕ, zero, s
 use Rattle.std.specs.Option.{option_map}
 use Rattle.std.specs.Prelude.{slice_get}
 use Rattle.std.proofs.lemmas.List.{drop_all}
-use Rattle.c_typing.specs.Options.{◌>?◌}
-use Rattle.hole_bindings.specs.Bindings.{behind}
+use Rattle.type_rules.specs.Options.{◌>?◌}
+use Rattle.hole_matcher.specs.HoleBindings.Bindings.{behind}
 use Rattle.hole_matcher.specs.Items.{matched_item, item_holds}
 use Rattle.hole_matching.specs.Alternatives.{matched_bases, all_hold}
 use Rattle.hole_matching.specs.Holes.{Setting}
 use Rattle.hole_matching.specs.Matching.{Binding}
-use Rattle.metal_machines.specs.Machine as machine
+use Rattle.metal_tree.specs.MetalMachines.Machine as machine
 use Rattle.metal_tree.specs.declared.patterns.Alternative.{Alternative}
 use Rattle.metal_tree.specs.declared.patterns.Item.{Item}
 use Rattle.metal_tree.specs.Views.{item_view, items_view}
-use Rattle.path_subjects.specs.Subjects.{Subject}
+use Rattle.c_tree.specs.PathSubjects.Subjects.{Subject}
 
 bases-step : (g : Setting) (x : machine.Item) (xs : List machine.Item) (s : Subject) (b : Binding) → matched_bases g (x ∷ xs) s b ≡ (matched_item g x s b >? matched_bases g xs s)
 bases-step g (machine.Base e) xs s b = refl

@@ -4,3 +4,5 @@ pub mod ListSteps
 pub mod NoHoles
 pub mod RuleSteps
 pub mod WalkSteps
+pub mod HoleBindings
+pub mod HoleMessages

@@ -6,7 +6,7 @@ use Rattle.c_tree.proofs.Rows.{nodes_drop}
 use Rattle.c_tree.specs.declared.tree.Tree.{Tree}
 use Rattle.c_tree.specs.Forget.{view, view_all, syntaxes_of}
 use Rattle.c_tree.specs.Views.{node_of, nodes_in}
-use Rattle.c_typing.specs.Options.{◌>?◌}
+use Rattle.type_rules.specs.Options.{◌>?◌}
 use Rattle.hole_matcher.proofs.WalkSteps.{rest_behind, list-rest, list-end, list-step}
 use Rattle.hole_matcher.specs.Walks.{behind_it}
 use Rattle.hole_matching.specs.Holes.{Setting}
@@ -15,7 +15,7 @@ use Rattle.hole_matching.specs.Matching.{Many, Binding, Seat, next_seat}
 use Rattle.hole_matching.specs.Pattern.{Pattern, Patterns, other, no_more, more}
 use Rattle.hole_matching.specs.Subjects.{trees}
 use Rattle.hole_matching.specs.Written.{pattern_of, patterns_of}
-use Rattle.path_subjects.specs.Subjects as subjects
+use Rattle.c_tree.specs.PathSubjects.Subjects as subjects
 
 abbrev are_none : List Tree → Bool
 are_none [] = true

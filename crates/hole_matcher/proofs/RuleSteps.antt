@@ -6,9 +6,9 @@ use Rattle.hole_matching.specs.Alternatives.{Matches, matched_alternative}
 use Rattle.hole_matching.specs.MachineMatches.{RuleMatches, setting_of}
 use Rattle.hole_matching.specs.Matching.{Binding}
 use Rattle.hole_matching.specs.Theorems.{AlternativesAreMatched}
-use Rattle.metal_machines.specs.Machine.{Item, Machine}
-use Rattle.metal_machines.specs.Rules.{alternative_numbered}
-use Rattle.path_subjects.specs.Subjects.{Subject}
+use Rattle.metal_tree.specs.MetalMachines.Machine.{Item, Machine}
+use Rattle.metal_tree.specs.MetalMachines.Rules.{alternative_numbered}
+use Rattle.c_tree.specs.PathSubjects.Subjects.{Subject}
 
 pub found-matches : (m : Machine) (n k : ℕ) (u : Facts) (depth function : ℕ) (s : Subject) (items : List Item) (o : Option Binding)
     → alternative_numbered m.rules n k ≡ Some items → o ≡ matched_alternative (setting_of m u depth function) items s → AlternativesAreMatched

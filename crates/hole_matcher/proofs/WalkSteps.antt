@@ -4,14 +4,14 @@ use Rattle.c_tree.specs.Node.{Nodes}
 use Rattle.c_tree.specs.Node as nodes
 use Rattle.c_tree.specs.Syntax.{Syntaxes}
 use Rattle.c_tree.specs.Syntax as syntax
-use Rattle.c_typing.specs.Options.{if_there, ◌>?◌}
-use Rattle.tree_levels.specs.declared.heads.One.{One}
-use Rattle.tree_levels.specs.declared.heads.One.TheVariants as one
-use Rattle.tree_levels.specs.declared.heads.Two.{Two}
-use Rattle.tree_levels.specs.declared.heads.Two.TheVariants as two
-use Rattle.tree_levels.specs.declared.heads.Front.{Front}
-use Rattle.tree_levels.specs.declared.heads.Front.TheVariants as front
-use Rattle.tree_levels.specs.Levels.{Opened, opened, one_head, two_head, front_head}
+use Rattle.type_rules.specs.Options.{if_there, ◌>?◌}
+use Rattle.tree_comparison.specs.declared.tree_levels.heads.One.{One}
+use Rattle.tree_comparison.specs.declared.tree_levels.heads.One.TheVariants as one
+use Rattle.tree_comparison.specs.declared.tree_levels.heads.Two.{Two}
+use Rattle.tree_comparison.specs.declared.tree_levels.heads.Two.TheVariants as two
+use Rattle.tree_comparison.specs.declared.tree_levels.heads.Front.{Front}
+use Rattle.tree_comparison.specs.declared.tree_levels.heads.Front.TheVariants as front
+use Rattle.tree_comparison.specs.TreeLevels.Levels.{Opened, opened, one_head, two_head, front_head}
 use Rattle.hole_matcher.specs.Walks.{hole_in, matched_opened, seat_of, behind_it}
 use Rattle.hole_matcher.specs.declared.seat.Seat as code
 use Rattle.hole_matcher.specs.declared.seat.Seat.TheVariants as seats
@@ -22,7 +22,7 @@ use Rattle.hole_matching.specs.Matching.{Many, Binding, Seat, Callee, Argument, 
 use Rattle.hole_matching.specs.Pattern.{Head, Pattern, hole, likewise, other, Patterns, no_more, more}
 use Rattle.hole_matching.specs.Subjects.{inner, head_of, parts_of, trees, trees_then}
 use Rattle.hole_matching.specs.Written.{pattern_of, patterns_of, patterns_then, one_part, two_parts}
-use Rattle.path_subjects.specs.Subjects.{Subject, Tree}
+use Rattle.c_tree.specs.PathSubjects.Subjects.{Subject, Tree}
 
 -- a pattern that is no hole
 pub by_level : (g : Setting) (p : Pattern) (s : Subject) (b : Binding) (x : Option Opened)

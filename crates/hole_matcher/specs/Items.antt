@@ -5,8 +5,8 @@ use Rattle.hole_matching.specs.Holes.{Setting}
 use Rattle.hole_matching.specs.Matched.{matched}
 use Rattle.hole_matching.specs.Matching.{Binding}
 use Rattle.hole_matching.specs.Written.{pattern_of}
-use Rattle.metal_machines.specs.Machine.{Item, Base, Holds, EndOfPath}
-use Rattle.path_subjects.specs.Subjects.{Subject}
+use Rattle.metal_tree.specs.MetalMachines.Machine.{Item, Base, Holds, EndOfPath}
+use Rattle.c_tree.specs.PathSubjects.Subjects.{Subject}
 
 -- the binding behind a base pattern; the others change none
 abbrev pub matched_item : Setting → Item → Subject → Binding → Option Binding

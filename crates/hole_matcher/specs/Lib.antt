@@ -1,2 +1,4 @@
 pub mod Items
 pub mod Walks
+pub mod HoleBindings
+pub mod HoleMessages

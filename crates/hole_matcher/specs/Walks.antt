@@ -2,7 +2,7 @@
 use Rattle.std.specs.Prelude.{ℕ, Bool, true, false, cond, Option, None, Some}
 use Rattle.hole_matcher.specs.declared.seat.Seat as code
 use Rattle.hole_matcher.specs.declared.seat.Seat.TheVariants as seat
-use Rattle.tree_levels.specs.Levels.{Opened}
+use Rattle.tree_comparison.specs.TreeLevels.Levels.{Opened}
 use Rattle.hole_matching.specs.Holes.{Setting}
 use Rattle.hole_matching.specs.Matched.{matched_all}
 use Rattle.hole_matching.specs.Matching.{Binding, Seat, Argument, Elsewhere, first_seat}

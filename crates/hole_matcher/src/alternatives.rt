@@ -2,8 +2,8 @@
 
 ghost use Rattle.std.specs.Prelude.{◌≡◌, ◌↔◌, ◌≤◌, ℕ, length, map, slice_get, Some};
 ghost use Rattle.std.specs.Option.{option_map};
-ghost use Rattle.hole_bindings.specs.Bindings.{binding_of, behind};
-ghost use Rattle.hole_bindings.specs.Settings.{setting_in};
+ghost use Rattle.hole_matcher.specs.HoleBindings.Bindings.{binding_of, behind};
+ghost use Rattle.hole_matcher.specs.HoleBindings.Settings.{setting_in};
 ghost use Rattle.hole_matcher.specs.Items.{matched_item, item_holds};
 ghost use Rattle.hole_matching.specs.Alternatives.{matched_bases, all_hold, matched_alternative};
 ghost use Rattle.hole_matching.specs.Callouts.{holds};
@@ -12,13 +12,13 @@ ghost use Rattle.hole_matching.specs.Matching.{Binding as Seen};
 ghost use Rattle.metal_tree.specs.Views.{callout_view, item_view, items_view};
 ghost use Rattle.metal_tree.specs.Whole.{machine_view};
 ghost use Rattle.objects.specs.Units.{facts_in};
-ghost use Rattle.path_subjects.specs.Values.{subject_of};
+ghost use Rattle.c_tree.specs.PathSubjects.Values.{subject_of};
 
+use crate::hole_bindings::{Binding, Setting, holds};
 use crate::walk::match_tree;
-use hole_bindings::{Binding, Setting, holds};
+use c_tree::Subject;
 use hole_matching::alternatives_are_matched;
 use metal_tree::{Alternative, Callout, Item, Machine, Rule};
-use path_subjects::Subject;
 use typed_unit::TypedUnit;
 
 // Goes on over an item, if it is a base pattern.

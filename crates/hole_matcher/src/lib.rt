@@ -1,11 +1,14 @@
-//! Patterns of checkers over trees of C: which alternatives of rules match, and with which binding, and what
-//! callouts answer. What holes may take, and the level of a tree, stand in the crates below.
-#![tactic(auto, using(c_tree::proofs::Rows::nodes_out, c_tree::proofs::Rows::nodes_roll, tree_levels::proofs::Apart::heads_apart))]
+//! Patterns of checkers over trees of C: what holes take, which alternatives of rules match, and with which binding, what callouts answer,
+//! and the texts of messages.
+#![tactic(auto, using(c_tree::proofs::Rows::nodes_out, c_tree::proofs::Rows::nodes_roll, tree_comparison::proofs::TreeLevels::Apart::heads_apart))]
 
 mod alternatives;
+mod hole_bindings;
+mod hole_messages;
 mod patterns;
 mod seat;
 mod walk;
 
 pub use alternatives::{all_hold, callout, match_items, matches};
-pub use hole_bindings::{Binding, Taken};
+pub use hole_bindings::{Binding, Setting, Taken};
+pub use hole_messages::{from_place, name_text, write_message};

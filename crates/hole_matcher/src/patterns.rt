@@ -2,16 +2,16 @@
 
 ghost use Rattle.std.specs.Prelude.{◌≡◌};
 ghost use Rattle.c_tree.specs.Forget.{view, primary_view};
-ghost use Rattle.hole_bindings.specs.Settings.{setting_in};
+ghost use Rattle.hole_matcher.specs.HoleBindings.Settings.{setting_in};
 ghost use Rattle.hole_matcher.specs.Walks.{hole_in, seat_of, behind_it};
 ghost use Rattle.hole_matching.specs.Matched.{rest_hole};
 ghost use Rattle.hole_matching.specs.Matching.{Argument};
 ghost use Rattle.hole_matching.specs.Pattern.{no_more};
 ghost use Rattle.hole_matching.specs.Written.{pattern_of, primary_pattern};
 
+use crate::hole_bindings::{Setting, takes_rest};
 use crate::seat::Seat;
 use c_tree::{Kind, Primary, Tree};
-use hole_bindings::{Setting, takes_rest};
 
 /// The hole that a pattern is, in any parentheses.
 #[tactic(auto, using(crate::proofs::NoHoles::no_holes))]

@@ -6,9 +6,9 @@ ghost use Rattle.c_tree.specs.Forget.{view, maybe_view, kind_view, list_view, pr
 ghost use Rattle.c_tree.specs.Symbol.{symbols_of};
 ghost use Rattle.c_tree.specs.Views.{node_of, nodes_of};
 ghost use Rattle.c_tree.specs.declared.operator.UnaryOp.TheVariants as unary;
-ghost use Rattle.c_typing.specs.Options.{◌>?◌};
-ghost use Rattle.hole_bindings.specs.Bindings.{binding_of, behind};
-ghost use Rattle.hole_bindings.specs.Settings.{setting_in};
+ghost use Rattle.type_rules.specs.Options.{◌>?◌};
+ghost use Rattle.hole_matcher.specs.HoleBindings.Bindings.{binding_of, behind};
+ghost use Rattle.hole_matcher.specs.HoleBindings.Settings.{setting_in};
 ghost use Rattle.hole_matcher.specs.Walks.{matched_opened, seat_of};
 ghost use Rattle.hole_matching.specs.Matched.{matched, matched_all};
 ghost use Rattle.hole_matching.specs.Matching.{Binding as Seen};
@@ -17,19 +17,19 @@ ghost use Rattle.hole_matching.specs.Pattern.{Member, Unary, Cond, Braces, Desig
 ghost use Rattle.hole_matching.specs.Subjects.{trees, trees_then};
 ghost use Rattle.hole_matching.specs.Written.{pattern_of, patterns_of, patterns_then, primary_pattern, operation_pattern, initializer_pattern, part_pattern, one_part, two_parts, around_written, written_specs, spellings};
 ghost use Rattle.objects.specs.Units.{facts_in};
-ghost use Rattle.path_subjects.specs.Subjects.{Tree as TreeSubject};
-ghost use Rattle.path_subjects.specs.Values.{subject_of};
-ghost use Rattle.tree_levels.specs.Levels.{leaf_head, one_head, two_head, front_head, level_opened};
+ghost use Rattle.c_tree.specs.PathSubjects.Subjects.{Tree as TreeSubject};
+ghost use Rattle.c_tree.specs.PathSubjects.Values.{subject_of};
+ghost use Rattle.tree_comparison.specs.TreeLevels.Levels.{leaf_head, one_head, two_head, front_head, level_opened};
 
+use crate::hole_bindings::{Binding, Setting, Taken, bind, take};
 use crate::patterns::{hole_of, rest_hole};
 use crate::seat::Seat;
-use c_tree::{Initializer, Kind, Operation, Part, Primary, Specifier, Token, Tree, Trees, UnaryOp};
-use hole_bindings::{Binding, Setting, Taken, bind, take};
-use matched_types::is_written_type;
-use path_subjects::Subject;
-use tree_comparison::{same_front, same_leaf, same_one, same_two};
-use tree_levels::{
-    Front, Leaf, Level, One, Two, are_written, inner, level_of, spelling, written_constant,
+use c_tree::{
+    Initializer, Kind, Operation, Part, Primary, Specifier, Subject, Token, Tree, Trees, UnaryOp,
+};
+use tree_comparison::{
+    Front, Leaf, Level, One, Two, are_written, inner, is_written_type, level_of, same_front,
+    same_leaf, same_one, same_two, spelling, written_constant,
 };
 
 // Where the patterns behind the first one stand.

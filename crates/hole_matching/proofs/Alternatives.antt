@@ -1,13 +1,13 @@
 -- The match of a pattern and of an alternative is exactly the relation, and its binding is the only one.
 use Rattle.std.proofs.Common.{◌≡◌, List, [], ◌∷◌, ◌++◌, Bool, true, false, None, Some, refl, ◌∙◌, sym, ap, subst, cond}
-use Rattle.c_typing.specs.Options.{◌>?◌}
-use Rattle.metal_machines.specs.Machine.{Item, Base, Holds, EndOfPath}
+use Rattle.type_rules.specs.Options.{◌>?◌}
+use Rattle.metal_tree.specs.MetalMachines.Machine.{Item, Base, Holds, EndOfPath}
 use Rattle.hole_matching.specs.Alternatives.{BasesStand, all_hold, Matches, matched_bases, matched_alternative}
 use Rattle.hole_matching.specs.Holes.{Setting}
 use Rattle.hole_matching.specs.Matched.{matched, nothing_taken}
 use Rattle.hole_matching.specs.Matching.{Taking, Binding, Stands, IsBinding}
 use Rattle.hole_matching.specs.Pattern.{Pattern}
-use Rattle.path_subjects.specs.Subjects.{Subject}
+use Rattle.c_tree.specs.PathSubjects.Subjects.{Subject}
 use Rattle.hole_matching.specs.Written.{pattern_of}
 use Rattle.hole_matching.proofs.Bindings.{bound_all, bound_all-append, all-bound, bound-all, at-first, HaveSlots, slots-append}
 use Rattle.hole_matching.proofs.Standing.{then-same, then-found, stands-matched, stands-slots, matched-stands}

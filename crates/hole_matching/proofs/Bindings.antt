@@ -2,9 +2,9 @@
 use Rattle.std.proofs.Common.{arith, ◌≡◌, ℕ, zero, suc, ◌<◌, List, [], ◌∷◌, ◌++◌, length, replicate, ◌⊎◌, inl, inr, Bool, true, false, Option, None, Some, refl, ◌∙◌, sym, ap, subst, cond, nat_eq}
 use Rattle.std.specs.Bool.{⊤}
 use Rattle.c_objects.specs.Facts.{Facts}
-use Rattle.c_typing.specs.Options.{or_else, ◌>?◌}
+use Rattle.type_rules.specs.Options.{or_else, ◌>?◌}
 use Rattle.hole_matching.specs.ComparedSubjects.{compared, compared_all}
-use Rattle.metal_machines.specs.Limits.{most_holes}
+use Rattle.metal_tree.specs.MetalMachines.Limits.{most_holes}
 use Rattle.hole_matching.specs.Matched.{nothing_taken, put, are_equal, bound_in, bound}
 use Rattle.hole_matching.specs.Matching.{Taken, One, Many, Taking, taking, Binding, slot, first_taken, AreEqual, IsEqualTo, IsTaken, IsBinding}
 use Rattle.hole_matching.specs.Pattern.{same_pattern, same_patterns}

@@ -17,15 +17,15 @@ use Rattle.c_tree.specs.Node.{Node, node, Shape}
 use Rattle.c_tree.specs.Node as nodes
 use Rattle.c_tree.specs.Symbol.{Symbol, Word, Sign, Reserved, IntLiteral, StringLiteral}
 use Rattle.c_tree.specs.Syntax.{Syntax, Primary, Operation, Specifier, Declarator, Part, Ident, Constant, StrConst, Paren, Hole, Index, Call, Member, Arrow, Unary, SizeofType, Cast, Binary, Assign, TypeName, Specs, StructTag, Unnamed, SpecWord, absent, present, Syntaxes, no_more, more}
-use Rattle.c_typing.specs.Options.{◌>?◌}
-use Rattle.c_typing.specs.Arithmetic as kind
-use Rattle.c_typing.specs.Types.{Arith, Pointer, Struct, Union, int}
-use Rattle.metal_machines.specs.Machine.{AnyExpr, AnyScalar, AnyPointer, AnyArguments, AnyFnCall, Named, Basic, Tag}
+use Rattle.type_rules.specs.Options.{◌>?◌}
+use Rattle.type_rules.specs.Arithmetic as kind
+use Rattle.type_rules.specs.Types.{Arith, Pointer, Struct, Union, int}
+use Rattle.metal_tree.specs.MetalMachines.Machine.{AnyExpr, AnyScalar, AnyPointer, AnyArguments, AnyFnCall, Named, Basic, Tag}
 use Rattle.hole_matching.specs.Holes.{Setting}
-use Rattle.metal_machines.specs.Machine as holes
+use Rattle.metal_tree.specs.MetalMachines.Machine as holes
 use Rattle.hole_matching.specs.Matched.{matched, nothing_taken}
 use Rattle.hole_matching.specs.Matching.{Taken, Binding, slot}
-use Rattle.path_subjects.specs.Subjects.{Subject, Tree}
+use Rattle.c_tree.specs.PathSubjects.Subjects.{Subject, Tree}
 use Rattle.hole_matching.specs.Written.{pattern_of}
 
 -- the types of the nodes 8 to 15: `char *`, `struct t *`, `struct t`, `int`, `unsigned int`, an untagged `struct *`, `union t *`,

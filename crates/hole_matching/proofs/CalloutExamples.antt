@@ -6,13 +6,13 @@ use Rattle.c_objects.proofs.Building.{p, s, name, constant, number, paren, star,
 use Rattle.c_tree.specs.declared.operator.AssignOp.TheVariants as assign
 use Rattle.c_tree.specs.declared.token.TokenKind.TheVariants as kinds
 use Rattle.c_tree.specs.Node.{Node, Primary, StrConst}
-use Rattle.c_typing.specs.Options.{◌>?◌}
-use Rattle.metal_machines.specs.Machine.{Item, Base, Holds, EndOfPath, Condition}
+use Rattle.type_rules.specs.Options.{◌>?◌}
+use Rattle.metal_tree.specs.MetalMachines.Machine.{Item, Base, Holds, EndOfPath, Condition}
 use Rattle.hole_matching.specs.Alternatives.{matched_alternative, IsPlainAlternative, AppliesAtEnd, has_end_of_path, all_hold, bound_object}
 use Rattle.hole_matching.specs.Callouts.{holds}
 use Rattle.hole_matching.specs.Matched.{nothing_taken}
 use Rattle.hole_matching.specs.Matching.{One, Many}
-use Rattle.path_subjects.specs.Subjects.{Subject, Tree, DerefOf}
+use Rattle.c_tree.specs.PathSubjects.Subjects.{Subject, Tree, DerefOf}
 use Rattle.hole_matching.proofs.Building.{setting, hole, named, calling, starred, assigning, call_of, assigned, initialized, braces}
 
 abbrev condition : ℕ → ℕ → Condition

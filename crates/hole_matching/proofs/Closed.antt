@@ -4,7 +4,7 @@ use Rattle.hole_matching.specs.ComparedSubjects.{with_parts, compared, compared_
 use Rattle.hole_matching.specs.Holes.{Setting}
 use Rattle.hole_matching.specs.Matching.{Taking, Seat, Callee, Argument, Elsewhere, first_seat, next_seat, TakesRest, Stands, StandAll}
 use Rattle.hole_matching.specs.Pattern.{Head, Pattern, hole, likewise, other, Patterns, no_more, more}
-use Rattle.path_subjects.specs.Subjects.{Subject}
+use Rattle.c_tree.specs.PathSubjects.Subjects.{Subject}
 use Rattle.hole_matching.specs.Subjects.{inner, head_of, parts_of}
 use Rattle.hole_matching.specs.Theorems.{IsWithoutHoles, AreWithoutHoles}
 use Rattle.hole_matching.proofs.Levels.{level}

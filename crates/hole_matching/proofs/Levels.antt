@@ -6,7 +6,7 @@ use Rattle.c_tree.specs.Node.{Node, node, Shape, Primary, Operation, Initializer
 use Rattle.c_tree.specs.Node as nodes
 use Rattle.hole_matching.specs.ComparedSubjects.{with_parts, compared, compared_all, compared_node, compared_nodes, compared_then, compared_part}
 use Rattle.hole_matching.specs.Pattern.{Offsetof, Call, Assign, Braces, Designated, likewise, other, Patterns, more}
-use Rattle.path_subjects.specs.Subjects.{Subject, Tree, DerefOf}
+use Rattle.c_tree.specs.PathSubjects.Subjects.{Subject, Tree, DerefOf}
 use Rattle.hole_matching.specs.Subjects.{inside, inner, is_braced, head_of, parts_of, part_head, part_parts, trees, trees_then}
 use Rattle.hole_matching.specs.Written.{two_parts}
 

@@ -3,9 +3,9 @@ use Rattle.std.proofs.Common.{◌≡◌, ℕ, true, false, [], ◌∷◌, Option
 use Rattle.std.specs.Prelude.{is_some}
 use Rattle.c_objects.specs.Objects.{Object, path}
 use Rattle.c_objects.proofs.Building.{p, name, paren, star}
-use Rattle.metal_machines.specs.Machine.{AnyExpr, FromGlobal, FromObject, ToObject, ToUnknown, Always, Base, Holds, EndOfPath, Machine}
+use Rattle.metal_tree.specs.MetalMachines.Machine.{AnyExpr, FromGlobal, FromObject, ToObject, ToUnknown, Always, Base, Holds, EndOfPath, Machine}
 use Rattle.hole_matching.specs.MachineMatches.{RuleAppliesAtEnd, matched_rule, object_bound}
-use Rattle.path_subjects.specs.Subjects.{Subject, Tree, DerefOf}
+use Rattle.c_tree.specs.PathSubjects.Subjects.{Subject, Tree, DerefOf}
 use Rattle.hole_matching.proofs.Building.{some_facts, hole, named, calling, starred, call_of}
 
 -- `start: { g(v) } ==> v.freed; v.freed: { *v } && ${ mc_in_function("..") } || { g(v) } ==> v.stop

@@ -8,7 +8,7 @@ use Rattle.c_tree.specs.declared.token.TokenKind.TheVariants as kinds
 use Rattle.c_tree.specs.Node as nodes
 use Rattle.c_tree.specs.Symbol.{CharLiteral}
 use Rattle.hole_matching.specs.Matching.{One, Many}
-use Rattle.path_subjects.specs.Subjects.{Tree, DerefOf}
+use Rattle.c_tree.specs.PathSubjects.Subjects.{Tree, DerefOf}
 use Rattle.hole_matching.proofs.Building.{hole, named, in_parens, symbol, decimal, strings, calling, starred, indexed, dotted, arrowed, combining, assigning, numbered, call_of, assigned, sum, initialized, braces, match, does_match, taken}
 
 -- `{ *v }` over `*p`

@@ -11,9 +11,9 @@ use Rattle.c_tree.specs.declared.punctuator.Punctuator.TheVariants as marks
 use Rattle.c_tree.specs.declared.token.Mark.TheVariants as marked
 use Rattle.c_tree.specs.Node.{Node, node, Primary, Operation, Initializer, Declarator, Ident, Paren, Arrow, Init, Named, no_more}
 use Rattle.hole_matching.specs.Matching.{One, Many}
-use Rattle.metal_machines.specs.Machine.{Bytes, HoleText}
+use Rattle.metal_tree.specs.MetalMachines.Machine.{Bytes, HoleText}
 use Rattle.hole_matching.specs.Message.{Source, message, shortened}
-use Rattle.path_subjects.specs.Subjects.{Tree, DerefOf}
+use Rattle.c_tree.specs.PathSubjects.Subjects.{Tree, DerefOf}
 use Rattle.hole_matching.proofs.Building.{setting}
 
 -- a token with this spelling, as the one of this number

@@ -2,15 +2,15 @@
 use Rattle.std.proofs.Common.{arith, ◌≡◌, ℕ, ◌<◌, List, [], ◌∷◌, ◌++◌, inl, inr, Bool, true, false, Option, None, Some, refl, ◌∙◌, sym, ap, subst, cond, nat_lt, not, ◌&&◌, ◌||◌, is_some}
 use Rattle.std.specs.Prelude.{slice_get}
 use Rattle.c_objects.specs.Facts.{Facts}
-use Rattle.c_typing.specs.Options.{if_there, ◌>?◌}
-use Rattle.c_typing.specs.Types.{CType}
-use Rattle.metal_machines.specs.Machine.{HoleType, AnyExpr, AnyScalar, AnyPointer, AnyArguments, AnyFnCall, Named}
-use Rattle.metal_machines.specs.Limits.{most_holes}
+use Rattle.type_rules.specs.Options.{if_there, ◌>?◌}
+use Rattle.type_rules.specs.Types.{CType}
+use Rattle.metal_tree.specs.MetalMachines.Machine.{HoleType, AnyExpr, AnyScalar, AnyPointer, AnyArguments, AnyFnCall, Named}
+use Rattle.metal_tree.specs.MetalMachines.Limits.{most_holes}
 use Rattle.hole_matching.specs.Holes.{Setting, has_slot, takes_type, is_rest_type, is_variable, may_take, takes_rest}
 use Rattle.hole_matching.specs.Matched.{bound, rest_hole, is_head, matched, matched_all}
 use Rattle.hole_matching.specs.Matching.{Taken, One, Many, Taking, taking, Binding, Seat, Callee, Argument, Elsewhere, first_seat, next_seat, TakesRest, Stands, StandAll}
 use Rattle.hole_matching.specs.Pattern.{Head, Pattern, hole, likewise, other, Patterns, no_more, more}
-use Rattle.path_subjects.specs.Subjects.{Subject}
+use Rattle.c_tree.specs.PathSubjects.Subjects.{Subject}
 use Rattle.hole_matching.specs.Subjects.{inner, is_expression, subject_type, subject_object, head_of, parts_of}
 use Rattle.hole_matching.proofs.Bindings.{bound_all, bound_all-append, HaveSlots, slots-append}
 use Rattle.hole_matching.proofs.Heads.{and-left, same_head-true, same_head-refl}

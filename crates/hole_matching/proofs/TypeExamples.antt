@@ -8,7 +8,7 @@ use Rattle.c_tree.specs.declared.operator.StructOrUnion.TheVariants as which_wor
 use Rattle.c_tree.specs.declared.operator.UnaryOp.TheVariants as unary
 use Rattle.c_tree.specs.Node.{Node, Operation, Unary, Arrow}
 use Rattle.hole_matching.specs.Matching.{One}
-use Rattle.path_subjects.specs.Subjects.{Tree, DerefOf}
+use Rattle.c_tree.specs.PathSubjects.Subjects.{Tree, DerefOf}
 use Rattle.hole_matching.proofs.Building.{hole, named, calling, type_of_words, pointer_to_tag, casting, size_of, numbered, call_of, cast_to, size_in, match, does_match, taken}
 
 -- any_expr over i, p, s, a, g

@@ -2,13 +2,13 @@
 -- that are asked at the end of a function, where there is no subject.
 use Rattle.std.specs.Prelude.{◌≡◌, ℕ, List, [], ◌∷◌, ◌++◌, true, false, Bool, cond, ◌&&◌, Option, None, Some}
 use Rattle.c_objects.specs.Objects.{Object}
-use Rattle.c_typing.specs.Options.{◌>?◌}
-use Rattle.metal_machines.specs.Machine.{Item, Base, Holds, EndOfPath}
+use Rattle.type_rules.specs.Options.{◌>?◌}
+use Rattle.metal_tree.specs.MetalMachines.Machine.{Item, Base, Holds, EndOfPath}
 use Rattle.hole_matching.specs.Callouts.{holds}
 use Rattle.hole_matching.specs.Holes.{Setting}
 use Rattle.hole_matching.specs.Matched.{matched, nothing_taken}
 use Rattle.hole_matching.specs.Matching.{Taking, Taken, One, Many, Binding, slot, Stands, IsBinding}
-use Rattle.path_subjects.specs.Subjects.{Subject}
+use Rattle.c_tree.specs.PathSubjects.Subjects.{Subject}
 use Rattle.hole_matching.specs.Subjects.{subject_object}
 use Rattle.hole_matching.specs.Written.{pattern_of}
 

@@ -1,15 +1,15 @@
 -- Callouts, `${ .. }` in Metal: what they ask of a binding.
 use Rattle.std.specs.Prelude.{ℕ, nat_eq, List, [], ◌∷◌, get_or, Bool, true, false, cond, not, ◌&&◌, Option, None, Some, is_none}
-use Rattle.metal_machines.specs.Machine.{Condition}
+use Rattle.metal_tree.specs.MetalMachines.Machine.{Condition}
 use Rattle.c_objects.specs.Facts.{Facts, numbered_type, numbered_var}
 use Rattle.c_objects.specs.Objects.{is_static_var}
 use Rattle.c_tree.specs.Node.{Node, node, Primary, Operation, PrimaryShape, OperationShape, Ident, Constant, StrConst, Paren, Cast}
-use Rattle.c_typing.specs.Options.{if_there}
-use Rattle.c_typing.specs.Types.{is_arithmetic}
-use Rattle.c_typing.specs.Vars.{CVar, Param, Local}
+use Rattle.type_rules.specs.Options.{if_there}
+use Rattle.type_rules.specs.Types.{is_arithmetic}
+use Rattle.type_rules.specs.Vars.{CVar, Param, Local}
 use Rattle.hole_matching.specs.Holes.{Setting}
 use Rattle.hole_matching.specs.Matching.{Taken, One, Many, Binding, slot}
-use Rattle.path_subjects.specs.Subjects.{Subject, Tree, DerefOf}
+use Rattle.c_tree.specs.PathSubjects.Subjects.{Subject, Tree, DerefOf}
 use Rattle.hole_matching.specs.Subjects.{subject_object}
 
 -- a name without a variable whose type is arithmetic is an enumerator: the name of a function has function type

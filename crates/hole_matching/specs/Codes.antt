@@ -8,8 +8,8 @@ use Rattle.c_tree.specs.declared.operator.StructOrUnion.{StructOrUnion}
 use Rattle.c_tree.specs.declared.operator.StructOrUnion.TheVariants as which_word
 use Rattle.c_tree.specs.declared.operator.UnaryOp.{UnaryOp}
 use Rattle.c_tree.specs.declared.operator.UnaryOp.TheVariants as unary
-use Rattle.c_typing.specs.Arithmetic.{Arithmetic}
-use Rattle.c_typing.specs.Arithmetic as kind
+use Rattle.type_rules.specs.Arithmetic.{Arithmetic}
+use Rattle.type_rules.specs.Arithmetic as kind
 
 abbrev pub unary_code : UnaryOp → ℕ
 unary_code unary.PostInc = 0

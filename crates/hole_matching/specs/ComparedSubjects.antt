@@ -7,9 +7,9 @@ use Rattle.c_tree.specs.declared.operator.UnaryOp.TheVariants as unary
 use Rattle.c_tree.specs.declared.operator.AssignOp.TheVariants as assign
 use Rattle.c_tree.specs.Node.{Node, node, Shape, Primary, Operation, Initializer, Specifier, Part, PrimaryShape, OperationShape, InitializerShape, SpecifierShape, PartShape, Ident, Constant, StrConst, Paren, Hole, Init, TypeName, Nodes}
 use Rattle.c_tree.specs.Node as nodes
-use Rattle.c_typing.specs.Options.{if_there}
+use Rattle.type_rules.specs.Options.{if_there}
 use Rattle.hole_matching.specs.Pattern.{Head, VaArg, Index, Call, CompoundLit, Unary, SizeofType, Cast, Binary, Cond, Assign, Member, Offsetof, IndexDesignator, Braces, Designated, Pattern, likewise, other, Patterns, no_more, more}
-use Rattle.path_subjects.specs.Subjects.{Subject, Tree, DerefOf}
+use Rattle.c_tree.specs.PathSubjects.Subjects.{Subject, Tree, DerefOf}
 use Rattle.hole_matching.specs.Subjects.{is_braced, primary_head, specifier_head, part_head}
 use Rattle.hole_matching.specs.Written.{one_part, two_parts}
 

@@ -1,14 +1,14 @@
 -- Holes: which subjects they take.
-use Rattle.metal_machines.specs.Machine.{NamedType, Basic, Tag, Pointer, HoleType, AnyExpr, AnyScalar, AnyPointer, AnyArguments, AnyFnCall, Named}
-use Rattle.metal_machines.specs.Limits.{most_holes}
+use Rattle.metal_tree.specs.MetalMachines.Machine.{NamedType, Basic, Tag, Pointer, HoleType, AnyExpr, AnyScalar, AnyPointer, AnyArguments, AnyFnCall, Named}
+use Rattle.metal_tree.specs.MetalMachines.Limits.{most_holes}
 use Rattle.std.specs.Prelude.{ℕ, nat_lt, List, slice_get, Bool, true, false, not, ◌&&◌, ◌||◌, Some, is_some}
 use Rattle.c_objects.specs.Facts.{Facts}
-use Rattle.c_typing.specs.Options.{if_there}
-use Rattle.c_typing.specs.Types.{CType}
-use Rattle.c_typing.specs.Types as types
+use Rattle.type_rules.specs.Options.{if_there}
+use Rattle.type_rules.specs.Types.{CType}
+use Rattle.type_rules.specs.Types as types
 use Rattle.hole_matching.specs.MatchedTypes.{MatchedType, Tagged, matched_type, basic, same_type}
 use Rattle.hole_matching.specs.MatchedTypes as matched
-use Rattle.path_subjects.specs.Subjects.{Subject}
+use Rattle.c_tree.specs.PathSubjects.Subjects.{Subject}
 use Rattle.hole_matching.specs.Subjects.{is_expression, subject_type, subject_object}
 
 abbrev pub named_type : NamedType → MatchedType

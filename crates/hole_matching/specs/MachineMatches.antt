@@ -2,13 +2,13 @@
 use Rattle.std.specs.Prelude.{◌≡◌, ℕ, List, map, Option, Some}
 use Rattle.c_objects.specs.Facts.{Facts}
 use Rattle.c_objects.specs.Objects.{Object}
-use Rattle.c_typing.specs.Options.{◌>?◌}
-use Rattle.metal_machines.specs.Machine.{Item, Machine}
-use Rattle.metal_machines.specs.Rules.{alternative_numbered}
+use Rattle.type_rules.specs.Options.{◌>?◌}
+use Rattle.metal_tree.specs.MetalMachines.Machine.{Item, Machine}
+use Rattle.metal_tree.specs.MetalMachines.Rules.{alternative_numbered}
 use Rattle.hole_matching.specs.Alternatives.{Matches, AppliesAtEnd, matched_alternative, bound_object}
 use Rattle.hole_matching.specs.Holes.{Setting}
 use Rattle.hole_matching.specs.Matching.{Binding}
-use Rattle.path_subjects.specs.Subjects.{Subject}
+use Rattle.c_tree.specs.PathSubjects.Subjects.{Subject}
 
 -- what a machine is matched under in a function of this name, where objects have this depth
 abbrev pub setting_of : Machine → Facts → ℕ → ℕ → Setting

@@ -1,13 +1,13 @@
 -- The match as a plain function: it goes through the pattern and the subject in the order of the text, and fills slots.
 use Rattle.std.specs.Prelude.{ℕ, zero, suc, List, [], ◌∷◌, replicate, Bool, false, cond, Option, None, Some}
 use Rattle.c_objects.specs.Facts.{Facts}
-use Rattle.c_typing.specs.Options.{if_there, ◌>?◌}
+use Rattle.type_rules.specs.Options.{if_there, ◌>?◌}
 use Rattle.hole_matching.specs.ComparedSubjects.{compared, compared_all}
-use Rattle.metal_machines.specs.Limits.{most_holes}
+use Rattle.metal_tree.specs.MetalMachines.Limits.{most_holes}
 use Rattle.hole_matching.specs.Holes.{Setting, may_take, takes_rest}
 use Rattle.hole_matching.specs.Matching.{Taken, One, Many, Binding, slot, Seat, Argument, first_seat, next_seat}
 use Rattle.hole_matching.specs.Pattern.{Head, Pattern, hole, likewise, other, Patterns, no_more, more, same_head, same_pattern, same_patterns}
-use Rattle.path_subjects.specs.Subjects.{Subject}
+use Rattle.c_tree.specs.PathSubjects.Subjects.{Subject}
 use Rattle.hole_matching.specs.Subjects.{inner, head_of, parts_of}
 
 abbrev pub nothing_taken : Binding

@@ -4,10 +4,10 @@ use Rattle.c_objects.specs.Facts.{Facts, tag_in}
 use Rattle.c_tree.specs.declared.keyword.Keyword.{Keyword}
 use Rattle.c_tree.specs.declared.operator.StructOrUnion.{StructOrUnion}
 use Rattle.c_tree.specs.declared.operator.StructOrUnion.TheVariants as which_word
-use Rattle.c_typing.specs.Arithmetic.{Arithmetic}
-use Rattle.c_typing.specs.Specified.{basic_type}
-use Rattle.c_typing.specs.Types.{CType}
-use Rattle.c_typing.specs.Types as types
+use Rattle.type_rules.specs.Arithmetic.{Arithmetic}
+use Rattle.type_rules.specs.Specified.{basic_type}
+use Rattle.type_rules.specs.Types.{CType}
+use Rattle.type_rules.specs.Types as types
 use Rattle.hole_matching.specs.Codes.{which_code, arithmetic_code}
 
 pub data MatchedType : Type 0 where

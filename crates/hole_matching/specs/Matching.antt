@@ -2,10 +2,10 @@
 use Rattle.std.specs.Prelude.{◌≡◌, ◌⊎◌, ℕ, zero, suc, nat_eq, List, [], ◌∷◌, ◌++◌, length, true, cond, Option, None, Some}
 use Rattle.c_objects.specs.Facts.{Facts}
 use Rattle.hole_matching.specs.ComparedSubjects.{compared, compared_all}
-use Rattle.metal_machines.specs.Limits.{most_holes}
+use Rattle.metal_tree.specs.MetalMachines.Limits.{most_holes}
 use Rattle.hole_matching.specs.Holes.{Setting, may_take, takes_rest}
 use Rattle.hole_matching.specs.Pattern.{Head, Call, Pattern, hole, likewise, other, Patterns, no_more, more}
-use Rattle.path_subjects.specs.Subjects.{Subject}
+use Rattle.c_tree.specs.PathSubjects.Subjects.{Subject}
 use Rattle.hole_matching.specs.Subjects.{inner, head_of, parts_of}
 
 -- One subject, or the arguments that are the rest of a list.

@@ -1,6 +1,6 @@
 -- The text of a message (Metal: the action `err`).
 use Rattle.std.specs.Prelude.{ℕ, nat_eq, nat_le, List, [], ◌∷◌, ◌++◌, length, take, map, flat_map, Bool, cond, ◌&&◌, Option, codes}
-use Rattle.metal_machines.specs.Machine.{Piece, Bytes, HoleText}
+use Rattle.metal_tree.specs.MetalMachines.Machine.{Piece, Bytes, HoleText}
 use Rattle.c_objects.specs.Objects.{Object}
 use Rattle.c_objects.specs.Text.{text_of, object_text}
 use Rattle.c_tree.specs.declared.place.Place.{Place}
@@ -8,10 +8,10 @@ use Rattle.c_tree.specs.declared.token.Token.{Token}
 use Rattle.c_tree.specs.Forget.{syntax_of}
 use Rattle.c_tree.specs.Node.{Node}
 use Rattle.c_tree.specs.Tokens.{tokens_of}
-use Rattle.c_typing.specs.Options.{if_there}
+use Rattle.type_rules.specs.Options.{if_there}
 use Rattle.hole_matching.specs.Holes.{Setting, is_variable}
 use Rattle.hole_matching.specs.Matching.{Taken, One, Many, Binding, slot}
-use Rattle.path_subjects.specs.Subjects.{Subject, Tree, DerefOf, first_of}
+use Rattle.c_tree.specs.PathSubjects.Subjects.{Subject, Tree, DerefOf, first_of}
 
 -- What messages are written from: the texts of names by their numbers, and the tokens of the unit.
 pub record Source : Type 0 where

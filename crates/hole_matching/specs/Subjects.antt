@@ -11,9 +11,9 @@ use Rattle.c_tree.specs.declared.token.TokenKind.{TokenKind}
 use Rattle.c_tree.specs.declared.token.TokenKind.TheVariants as kinds
 use Rattle.c_tree.specs.Node.{Node, node, Shape, Primary, Operation, Initializer, Specifier, Part, PrimaryShape, OperationShape, InitializerShape, SpecifierShape, PartShape, Ident, Constant, StrConst, Paren, Hole, Init, TypeName, Nodes}
 use Rattle.c_tree.specs.Node as nodes
-use Rattle.c_typing.specs.Options.{if_there}
-use Rattle.c_typing.specs.Types.{CType, pointed}
-use Rattle.path_subjects.specs.Subjects.{Subject, Tree, DerefOf}
+use Rattle.type_rules.specs.Options.{if_there}
+use Rattle.type_rules.specs.Types.{CType, pointed}
+use Rattle.c_tree.specs.PathSubjects.Subjects.{Subject, Tree, DerefOf}
 use Rattle.hole_matching.specs.MatchedTypes.{matched_type}
 use Rattle.hole_matching.specs.Pattern.{Head, Identifier, Integer, Spelled, Strings, VaArg, Offsetof, Index, Call, Member, CompoundLit, Unary, SizeofType, Cast, Binary, Cond, Assign, Named, MemberDesignator, IndexDesignator, Braces, Designated}
 

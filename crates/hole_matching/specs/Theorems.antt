@@ -4,7 +4,7 @@ use Rattle.c_objects.specs.Facts.{Facts}
 use Rattle.c_tree.specs.Compared as forms
 use Rattle.c_tree.specs.Forget.{syntax_of}
 use Rattle.c_tree.specs.Node.{Node}
-use Rattle.metal_machines.specs.Machine.{Item}
+use Rattle.metal_tree.specs.MetalMachines.Machine.{Item}
 use Rattle.hole_matching.specs.Alternatives.{Matches, matched_alternative}
 use Rattle.hole_matching.specs.ComparedSubjects.{compared, compared_all, with_parts}
 use Rattle.hole_matching.specs.Holes.{Setting}
@@ -13,7 +13,7 @@ use Rattle.hole_matching.specs.Matching.{Taking, Binding, Stands, IsBinding}
 use Rattle.hole_matching.specs.Pattern.{Pattern, hole, likewise, other, Patterns, no_more, more}
 use Rattle.hole_matching.specs.Plain.{IsPlain}
 use Rattle.hole_matching.specs.Written.{pattern_of}
-use Rattle.path_subjects.specs.Subjects.{Subject, Tree}
+use Rattle.c_tree.specs.PathSubjects.Subjects.{Subject, Tree}
 use Rattle.hole_matching.specs.Subjects.{inner, head_of, parts_of}
 
 abbrev mutual

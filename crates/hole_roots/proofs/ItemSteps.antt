@@ -4,7 +4,7 @@ use Rattle.std.specs.Option.{option_map}
 use Rattle.std.specs.Prelude.{slice_get}
 use Rattle.std.proofs.lemmas.List.{drop_all}
 use Rattle.c_objects.specs.Facts.{Facts}
-use Rattle.c_typing.specs.Options.{if_there, ◌>?◌}
+use Rattle.type_rules.specs.Options.{if_there, ◌>?◌}
 use Rattle.hole_matching.specs.Alternatives.{matched_bases, all_hold, matched_alternative}
 use Rattle.hole_matching.specs.Holes.{Setting}
 use Rattle.hole_matching.specs.MachineMatches.{setting_of, matched_rule}
@@ -13,12 +13,12 @@ use Rattle.hole_matching.specs.Matching.{Binding}
 use Rattle.hole_matching.specs.Written.{pattern_of}
 use Rattle.hole_roots.proofs.RootSteps.{none-matched}
 use Rattle.hole_roots.specs.Roots.{opened_subject, root_agrees, item_agrees, all_agree, alternative_agrees}
-use Rattle.metal_machines.specs.Machine as machine
-use Rattle.metal_machines.specs.Rules.{alternative_numbered}
+use Rattle.metal_tree.specs.MetalMachines.Machine as machine
+use Rattle.metal_tree.specs.MetalMachines.Rules.{alternative_numbered}
 use Rattle.metal_tree.specs.declared.patterns.Alternative.{Alternative}
 use Rattle.metal_tree.specs.declared.patterns.Item.{Item}
 use Rattle.metal_tree.specs.Views.{item_view, items_view}
-use Rattle.path_subjects.specs.Subjects.{Subject}
+use Rattle.c_tree.specs.PathSubjects.Subjects.{Subject}
 
 item-at : (items : List Item) (i : ℕ) (d : Item) → i < length items → map item_view (drop i items) ≡ (item_view (get_or items i d) ∷ map item_view (drop (i + 1) items))
 item-at items i d h = ap (map item_view) (drop-cons items i d h) ∙ ap (λ j. item_view (get_or items i d) ∷ map item_view (drop j items)) (sym (add-one i))

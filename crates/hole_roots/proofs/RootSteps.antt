@@ -11,7 +11,7 @@ use Rattle.c_tree.specs.Symbol.{Symbol, Word, Reserved, Sign, IntLiteral, FloatL
 use Rattle.c_tree.specs.Syntax.{SpecifierSyntax, PartSyntax}
 use Rattle.c_tree.specs.Syntax as syntax
 use Rattle.c_objects.specs.Facts.{Facts}
-use Rattle.c_typing.specs.Options.{◌>?◌}
+use Rattle.type_rules.specs.Options.{◌>?◌}
 use Rattle.hole_matching.specs.Holes.{Setting}
 use Rattle.hole_matching.specs.Matched.{is_head, matched, matched_all}
 use Rattle.hole_matching.specs.Matching.{Binding, Callee, Argument, first_seat}
@@ -19,16 +19,16 @@ use Rattle.hole_matching.specs.Pattern.{Head, Identifier, Integer, Spelled, Stri
 use Rattle.hole_matching.specs.Subjects.{inner, head_of, parts_of}
 use Rattle.hole_matching.specs.Written.{constant_head, primary_pattern, operation_pattern, initializer_pattern, specifier_pattern, part_pattern}
 use Rattle.hole_roots.specs.Roots.{has_head, opened_subject, root_agrees, callee_agrees}
-use Rattle.path_subjects.specs.Subjects.{Subject, Tree}
-use Rattle.tree_levels.proofs.Apart.{leaf-front, one-front, two-front}
-use Rattle.tree_levels.specs.declared.heads.Front.{Front}
-use Rattle.tree_levels.specs.declared.heads.Front.TheVariants as front
-use Rattle.tree_levels.specs.declared.heads.Leaf.{Leaf}
-use Rattle.tree_levels.specs.declared.heads.Level.{Level}
-use Rattle.tree_levels.specs.declared.heads.Level.TheVariants as level
-use Rattle.tree_levels.specs.declared.heads.One.{One}
-use Rattle.tree_levels.specs.declared.heads.Two.{Two}
-use Rattle.tree_levels.specs.Levels.{Opened, opened, leaf_head, one_head, two_head, front_head, level_opened}
+use Rattle.c_tree.specs.PathSubjects.Subjects.{Subject, Tree}
+use Rattle.tree_comparison.proofs.TreeLevels.Apart.{leaf-front, one-front, two-front}
+use Rattle.tree_comparison.specs.declared.tree_levels.heads.Front.{Front}
+use Rattle.tree_comparison.specs.declared.tree_levels.heads.Front.TheVariants as front
+use Rattle.tree_comparison.specs.declared.tree_levels.heads.Leaf.{Leaf}
+use Rattle.tree_comparison.specs.declared.tree_levels.heads.Level.{Level}
+use Rattle.tree_comparison.specs.declared.tree_levels.heads.Level.TheVariants as level
+use Rattle.tree_comparison.specs.declared.tree_levels.heads.One.{One}
+use Rattle.tree_comparison.specs.declared.tree_levels.heads.Two.{Two}
+use Rattle.tree_comparison.specs.TreeLevels.Levels.{Opened, opened, leaf_head, one_head, two_head, front_head, level_opened}
 
 -- the match of a head and its parts with a subject that is opened
 abbrev headed : Setting → Head → Patterns → Option Opened → Binding → Option Binding

@@ -2,14 +2,14 @@
 -- at nothing below. Holes, strings, type names and designators are passed over.
 use Rattle.std.specs.Prelude.{ℕ, Bool, true, false, ◌&&◌, List, [], ◌∷◌, Option, None, Some}
 use Rattle.c_objects.specs.Facts.{Facts}
-use Rattle.c_typing.specs.Options.{if_there}
+use Rattle.type_rules.specs.Options.{if_there}
 use Rattle.hole_matching.specs.Pattern.{Head, Call, Strings, Named, MemberDesignator, IndexDesignator, Pattern, likewise, Patterns, more, same_head}
 use Rattle.hole_matching.specs.Subjects.{inner, head_of, parts_of}
 use Rattle.hole_matching.specs.Written.{pattern_of}
-use Rattle.metal_machines.specs.Machine.{Item, Base, Machine}
-use Rattle.metal_machines.specs.Rules.{alternative_numbered}
-use Rattle.path_subjects.specs.Subjects.{Subject}
-use Rattle.tree_levels.specs.Levels.{Opened, opened}
+use Rattle.metal_tree.specs.MetalMachines.Machine.{Item, Base, Machine}
+use Rattle.metal_tree.specs.MetalMachines.Rules.{alternative_numbered}
+use Rattle.c_tree.specs.PathSubjects.Subjects.{Subject}
+use Rattle.tree_comparison.specs.TreeLevels.Levels.{Opened, opened}
 
 -- the head and the parts of a subject
 abbrev pub opened_subject : Facts → Subject → Option Opened

@@ -7,11 +7,11 @@ ghost use Rattle.hole_roots.specs.Roots.{item_agrees, all_agree, alternative_agr
 ghost use Rattle.metal_tree.specs.Views.{item_view, items_view};
 ghost use Rattle.metal_tree.specs.Whole.{machine_view};
 ghost use Rattle.objects.specs.Units.{facts_in};
-ghost use Rattle.path_subjects.specs.Values.{subject_of};
+ghost use Rattle.c_tree.specs.PathSubjects.Values.{subject_of};
 
 use crate::roots::agrees;
+use c_tree::Subject;
 use metal_tree::{Alternative, Item, Machine, Rule};
-use path_subjects::Subject;
 use typed_unit::TypedUnit;
 
 // Whether an item agrees with a subject at the root, if it is a base pattern.

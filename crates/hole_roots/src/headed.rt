@@ -5,10 +5,9 @@ ghost use Rattle.c_objects.specs.Facts.{Facts};
 ghost use Rattle.hole_matching.specs.Pattern.{Cond, Braces, Designated};
 ghost use Rattle.hole_roots.specs.Roots.{has_head};
 ghost use Rattle.objects.specs.Units.{facts_in};
-ghost use Rattle.tree_levels.specs.Levels.{leaf_head, one_head, two_head, front_head, level_opened};
+ghost use Rattle.tree_comparison.specs.TreeLevels.Levels.{leaf_head, one_head, two_head, front_head, level_opened};
 
-use tree_comparison::{same_front, same_leaf, same_one, same_two};
-use tree_levels::{Front, Leaf, Level, One, Two};
+use tree_comparison::{Front, Leaf, Level, One, Two, same_front, same_leaf, same_one, same_two};
 use typed_unit::TypedUnit;
 
 /// Whether a level has this head without parts.

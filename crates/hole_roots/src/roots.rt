@@ -7,14 +7,14 @@ ghost use Rattle.hole_matching.specs.Pattern.{Call, likewise, more};
 ghost use Rattle.hole_matching.specs.Written.{pattern_of, patterns_of, primary_pattern, operation_pattern, initializer_pattern};
 ghost use Rattle.hole_roots.specs.Roots.{opened_subject, root_agrees};
 ghost use Rattle.objects.specs.Units.{facts_in};
-ghost use Rattle.path_subjects.specs.Values.{subject_of};
-ghost use Rattle.tree_levels.specs.Levels.{level_opened};
+ghost use Rattle.c_tree.specs.PathSubjects.Values.{subject_of};
+ghost use Rattle.tree_comparison.specs.TreeLevels.Levels.{level_opened};
 
 use crate::headed::{is_braces, is_condition, is_designated, is_front, is_leaf, is_one, is_two};
-use c_tree::{Initializer, Kind, Operation, Primary, Tree, Trees};
-use path_subjects::Subject;
-use tree_comparison::same_front;
-use tree_levels::{Front, Leaf, Level, One, Two, level_of, spelling, written_constant};
+use c_tree::{Initializer, Kind, Operation, Primary, Subject, Tree, Trees};
+use tree_comparison::{
+    Front, Leaf, Level, One, Two, level_of, same_front, spelling, written_constant,
+};
 use typed_unit::TypedUnit;
 
 /// Whether a pattern agrees with a subject at the root.

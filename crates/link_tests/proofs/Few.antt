@@ -3,7 +3,7 @@ use Rattle.std.proofs.Common.{◌≡◌, ℕ, ◌+◌, ◌<◌, ◌≤◌, List,
 use Rattle.std.proofs.Math.Logic.{∥∥₁_elim}
 use Rattle.std.proofs.lemmas.List.{length-map, length-append}
 use Rattle.std.specs.Coded.{Coded-set, codes}
-use Rattle.programs.specs.Definitions.{AreNumbered, definitions, kept_in, trees_in}
+use Rattle.call_graph.specs.OfPrograms.Definitions.{AreNumbered, definitions, kept_in, trees_in}
 use Rattle.typed_unit.specs.declared.typed_unit.TypedUnit.{TypedUnit}
 use Rattle.typed_unit.specs.Functions.{function_of}
 

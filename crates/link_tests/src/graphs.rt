@@ -3,18 +3,17 @@
 //! token at which it ends (ISO 9899:1990, 6.1.2.2, 6.3.2.2, 6.6.6.4).
 
 ghost use Rattle.std.specs.Prelude.{◌≤◌, ◌<◌, ◌^◌, length};
-ghost use Rattle.programs.specs.Definitions.{AreNumbered, kept_in};
+ghost use Rattle.call_graph.specs.OfPrograms.Definitions.{AreNumbered, kept_in};
 
 use crate::units::{both_of, tokens_of, typed_of};
 use crate::walks::traces_of;
 use bumpalo::Bump;
 use c_lexer::{LexFault, Tokens};
 use c_tree::Arena;
-use call_graph::link;
+use call_graph::{link, units_are_listed};
 use metal_reader::read_machine_bytes;
 use metal_tree::Machine;
 use mx_base::Names;
-use programs::units_are_listed;
 use std::alloc::{AllocError, Global};
 use std::process::Abort;
 use std::test::Fail;

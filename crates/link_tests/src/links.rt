@@ -1,15 +1,14 @@
 //! Two files of C, and what linking says of them (ISO 9899:1990, 6.1.2.2, 6.7).
 
 ghost use Rattle.std.specs.Prelude.{◌≤◌, ◌<◌, ◌^◌, length};
-ghost use Rattle.programs.specs.Definitions.{AreNumbered, kept_in};
+ghost use Rattle.call_graph.specs.OfPrograms.Definitions.{AreNumbered, kept_in};
 
 use crate::units::{both_of, tokens_of, typed_of};
 use bumpalo::Bump;
 use c_lexer::{LexFault, Tokens};
 use c_tree::Arena;
-use call_graph::{LinkFault, link};
+use call_graph::{LinkFault, link, units_are_listed};
 use mx_base::Names;
-use programs::units_are_listed;
 use std::alloc::{AllocError, Global};
 use std::process::Abort;
 use std::test::Fail;

@@ -5,10 +5,10 @@ ghost use Rattle.std.specs.Prelude.{◌≡◌, ◌≤◌, [], ◌∷◌, IfOk, l
 use c_lexer::{LexFault, Mode, Tokens, lex, strip};
 use c_parser::read_unit;
 use c_tree::Arena;
-use c_types::type_unit;
 use mx_base::Names;
 use std::alloc::{AllocError, Global};
 use typed_unit::TypedUnit;
+use unit_typing::type_unit;
 
 /// The tokens of a short text, as a parser takes them.
 pub fn tokens_of(

@@ -2,14 +2,11 @@
 
 ghost use Rattle.std.specs.Prelude.{◌<◌, length};
 
-use c_tree::{Kind, Operation, Place, Primary, Tree};
-use call_graph::followed;
+use c_tree::{Kind, Operation, Place, Primary, Subject, Tree};
+use call_graph::{FnId, Program, build, followed};
 use flow_graph::{Block, End, Event, Graph};
-use function_graphs::build;
 use metal_tree::Machine;
 use mx_base::Names;
-use path_subjects::Subject;
-use programs::{FnId, Program};
 use std::alloc::{AllocError, Global};
 
 /// Puts a place, as file and token, behind a mark.

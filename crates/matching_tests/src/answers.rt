@@ -1,13 +1,11 @@
 //! What a machine says of a subject: the message of its first rule that matches.
 
 use crate::found::{At, function_in, subject_in};
-use hole_bindings::{Binding, Taken};
-use hole_matcher::{callout, matches};
-use hole_messages::write_message;
+use c_tree::Subject;
+use hole_matcher::{Binding, Taken, callout, matches, write_message};
 use metal_tree::{Dest, Item, Machine, Target};
 use mx_base::{Names, Text};
 use objects::{Object, Selector, append, object_of};
-use path_subjects::Subject;
 use std::alloc::{AllocError, Global};
 use typed_unit::TypedUnit;
 

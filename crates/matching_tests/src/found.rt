@@ -1,7 +1,6 @@
 //! What a rule is matched with: the last expression of a unit.
 
-use c_tree::{Kind, Operation, Outer, Statement, Tree};
-use path_subjects::Subject;
+use c_tree::{Kind, Operation, Outer, Statement, Subject, Tree};
 use typed_unit::TypedUnit;
 
 /// What of the last expression a rule is matched with.

@@ -6,12 +6,12 @@ use bumpalo::Bump;
 use c_lexer::{LexFault, Mode, Tokens, lex, strip};
 use c_parser::read_unit;
 use c_tree::Arena;
-use c_types::type_unit;
 use metal_reader::read_machine_bytes;
 use metal_tree::Machine;
 use mx_base::{Names, Text};
 use std::alloc::{AllocError, Global};
 use typed_unit::TypedUnit;
+use unit_typing::type_unit;
 
 /// The tokens of a short text; a long one is too much for these tests.
 fn tokens_of(alloc: Global, text: &[u8], names: &mut Names) -> Result<Tokens, LexFault> {

@@ -3,15 +3,15 @@
 ghost use Rattle.std.specs.Prelude.{◌≡◌, ◌<◌, ◌^◌, length, IfOk};
 ghost use Rattle.c_tree.specs.Symbol.{symbols_of};
 ghost use Rattle.metal_grammar.specs.Steps as steps;
-ghost use Rattle.metal_parts.specs.Given.{Gives, IsReady, StaysReady};
+ghost use Rattle.metal_clauses.specs.MetalParts.Given.{Gives, IsReady, StaysReady};
 ghost use Rattle.metal_written.specs.Sizes.{HasSizes};
 ghost use Rattle.metal_written.specs.Written.{content_view};
 
+use crate::metal_parts::{has_sign, read_declaration};
 use crate::patterns::PatternReader;
 use crate::sections::read_section;
 use c_expr::ExprFault;
 use c_tree::{Punctuator, Token};
-use metal_parts::{has_sign, read_declaration};
 use metal_written::Content;
 use mx_base::Names;
 

@@ -6,9 +6,9 @@ ghost use Rattle.c_tree.specs.Symbol.{symbol_of, symbols_of};
 ghost use Rattle.metal_grammar.specs.Clauses.{closes, ends_clause, ends_here, open_behind, clauses_from};
 ghost use Rattle.metal_clauses.specs.Cuts.{others_in};
 
+use crate::metal_parts::has_sign;
 use c_expr::is_sign;
 use c_tree::{Punctuator, Token};
-use metal_parts::has_sign;
 
 /// Whether no clause begins here: the text ends, or the closing brace stands here.
 fn ends_here(tokens: &[Token]) -> bool

@@ -5,6 +5,7 @@ mod clauses;
 mod contents;
 mod cuts;
 mod fault;
+mod metal_parts;
 mod patterns;
 mod sections;
 

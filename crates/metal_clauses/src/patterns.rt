@@ -4,14 +4,14 @@ ghost use Rattle.std.specs.Prelude.{◌≡◌, ◌<◌, ◌≤◌, [], length, s
 ghost use Rattle.c_tree.specs.Symbol.{symbols_of};
 ghost use Rattle.c_tree.specs.declared.punctuator.Punctuator.TheVariants as marks;
 ghost use Rattle.metal_grammar.specs.Steps as steps;
-ghost use Rattle.metal_parts.specs.Given.{Gives, Finds, IsReady, StaysReady};
+ghost use Rattle.metal_clauses.specs.MetalParts.Given.{Gives, Finds, IsReady, StaysReady};
 ghost use Rattle.metal_written.specs.Written.{item_view, alternative_view, alternatives_row};
-ghost use Rattle.metal_parts.specs.Steps.{special_item};
+ghost use Rattle.metal_clauses.specs.MetalParts.Steps.{special_item};
 
+use crate::metal_parts::{behind_sign, has_sign, read_callout, take_word};
 use bumpalo::collections::into_bump_slice;
 use c_expr::{COMMA_LEVEL, ExprFault, TypeNames, after_sign, expression_in_front, keep};
 use c_tree::{Arena, Punctuator, Token};
-use metal_parts::{behind_sign, has_sign, read_callout, take_word};
 use metal_written::{WrittenAlternative, WrittenItem};
 use std::alloc::Global;
 

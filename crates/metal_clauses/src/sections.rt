@@ -4,15 +4,15 @@ ghost use Rattle.std.specs.Prelude.{◌≡◌, ◌+◌, ◌<◌, length, suc, If
 ghost use Rattle.c_tree.specs.Symbol.{symbols_of};
 ghost use Rattle.c_tree.specs.declared.punctuator.Punctuator.TheVariants as marks;
 ghost use Rattle.metal_grammar.specs.Steps as steps;
-ghost use Rattle.metal_parts.specs.Given.{Gives, IsReady, StaysReady};
+ghost use Rattle.metal_clauses.specs.MetalParts.Given.{Gives, IsReady, StaysReady};
 ghost use Rattle.metal_written.specs.Written.{rule_view, rules_row, section_view};
 ghost use Rattle.metal_written.specs.Sizes.{HaveSizes};
 
+use crate::metal_parts::{read_destination, read_maybe_action, read_state};
 use crate::patterns::PatternReader;
 use bumpalo::collections::into_bump_slice;
 use c_expr::{ExprFault, after_sign};
 use c_tree::{Punctuator, Token};
-use metal_parts::{read_destination, read_maybe_action, read_state};
 use metal_written::{Section, WrittenRule};
 
 /// The rule in front.

@@ -8,7 +8,7 @@ use Rattle.c_tree.specs.Symbol.{Symbol, Word, Reserved, Sign, IntLiteral, FloatL
 use Rattle.c_grammar.specs.Specifiers.{is_type_word, is_basic, is_among, as_often, occurrences}
 use Rattle.metal_grammar.specs.Grammar.{are_type_words}
 use Rattle.metal_grammar.specs.Steps.{is_type_symbol, keyword_in}
-use Rattle.metal_machines.specs.Kept.{all_of}
+use Rattle.metal_tree.specs.MetalMachines.Kept.{all_of}
 use Rattle.metal_written.proofs.Nodes.{symbols_drop, symbols_end}
 
 -- the words of basic types are those that are one by themselves

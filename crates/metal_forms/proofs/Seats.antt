@@ -3,7 +3,7 @@ use Rattle.std.proofs.Common.{◌≡◌, ℕ, zero, ◌+◌, ◌<◌, ◌≤◌,
 use Rattle.std.proofs.lemmas.Bool.Decides.{nat_tests}
 use Rattle.std.proofs.lemmas.List.{drop_all, append-nil}
 use Rattle.std.specs.Option.{option_map}
-use Rattle.metal_machines.specs.Machine.{HoleType}
+use Rattle.metal_tree.specs.MetalMachines.Machine.{HoleType}
 use Rattle.metal_grammar.specs.Words.{Spelling}
 use Rattle.metal_grammar.specs.Written.{members, Declares}
 use Rattle.metal_grammar.specs.Holes.{DeclaredHole, hole_type, holes_as, declared_holes, type_of_hole}

@@ -6,7 +6,7 @@ use Rattle.c_tree.specs.declared.tree.Tree.{Tree}
 use Rattle.c_tree.specs.Syntax.{more}
 use Rattle.c_tree.specs.Forget.{view, view_all}
 use Rattle.metal_grammar.specs.Holes.{DeclaredHole, Position, Operand, LastArgument, are_placed, are_placed_in_elements, are_placed_in_arguments, are_placed_in_path, are_placed_in_designator}
-use Rattle.metal_machines.specs.Kept.{all_of}
+use Rattle.metal_tree.specs.MetalMachines.Kept.{all_of}
 use Rattle.metal_written.proofs.Any.{mapped-drop, mapped-end}
 use Rattle.metal_written.proofs.Nodes.{view_drop}
 

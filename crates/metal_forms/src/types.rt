@@ -5,14 +5,14 @@ ghost use Rattle.c_tree.specs.Symbol.{Symbol, symbol_of, symbols_of};
 ghost use Rattle.c_grammar.specs.Specifiers.{is_basic, is_type_word};
 ghost use Rattle.metal_grammar.specs.Grammar.{are_type_words, is_type};
 ghost use Rattle.metal_grammar.specs.Steps.{is_type_symbol, keyword_in};
-ghost use Rattle.metal_machines.specs.Kept.{all_of};
+ghost use Rattle.metal_tree.specs.MetalMachines.Kept.{all_of};
 ghost use Rattle.metal_written.specs.TypeWords.{has_type_words};
 ghost use Rattle.metal_written.specs.Written.{type_view};
 
-use basic_types::is_basic;
 use c_tree::{Arena, Keyword, Token, TokenKind};
 use metal_written::WrittenType;
 use std::alloc::AllocError;
+use type_values::is_basic;
 
 /// Whether the keyword is a word of basic types. Each of them is a basic type by itself.
 pub(crate) fn is_type_word(word: Keyword) -> bool

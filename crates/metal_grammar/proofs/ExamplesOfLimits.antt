@@ -4,7 +4,7 @@ use Rattle.c_tree.specs.Syntax.{Primary, Ident}
 use Rattle.metal_grammar.specs.Written.{Row, lone, row, OfMachine, Pattern, To, WrittenRule, Rules, Clause}
 use Rattle.metal_grammar.specs.Rules.{count_of_rules, rules_of, rule_position}
 use Rattle.metal_grammar.specs.Faults.{passing}
-use Rattle.metal_machines.specs.Limits.{most_rules}
+use Rattle.metal_tree.specs.MetalMachines.Limits.{most_rules}
 use Rattle.metal_grammar.proofs.Vocabulary.{x}
 
 -- `{ x } ==> a`, of five symbols

@@ -4,7 +4,7 @@ use Rattle.c_tree.specs.declared.keyword.Keyword.TheVariants as words
 use Rattle.c_tree.specs.declared.operator.StructOrUnion.TheVariants as which_word
 use Rattle.c_tree.specs.Symbol.{Word, Reserved}
 use Rattle.c_tree.specs.Syntax.{Syntax, Primary, Operation, Initializer, Specifier, Part, Ident, Hole, CompoundLit, Braces, Designated, TypeName, Specs, StructTag, SpecWord, MemberDesignator, IndexDesignator, absent, no_more, more}
-use Rattle.metal_machines.specs.Machine.{HoleType, AnyPointer, AnyExpr, AnyArguments}
+use Rattle.metal_tree.specs.MetalMachines.Machine.{HoleType, AnyPointer, AnyExpr, AnyArguments}
 use Rattle.metal_grammar.specs.Holes.{DeclaredHole, Operand, are_placed}
 use Rattle.metal_grammar.specs.Patterns.{with_holes, names_in, has_plain_types}
 

@@ -3,7 +3,7 @@ use Rattle.std.proofs.Common.{◌≡◌, ℕ, Bool, true, false, ◌&&◌, List,
 use Rattle.std.proofs.lemmas.List.Elements.{filter_map-append}
 use Rattle.c_tree.specs.Symbol.{Word, Reserved, Sign, IntLiteral, FloatLiteral, CharLiteral, StringLiteral}
 use Rattle.c_tree.specs.Syntax.{Syntax, Primary, Operation, Initializer, Specifier, Declarator, Part, Outer, Statement, Iteration, Jump, PrimarySyntax, OperationSyntax, InitializerSyntax, Ident, Constant, StrConst, Paren, VaArg, Offsetof, Hole, Index, Call, Member, Arrow, CompoundLit, Unary, SizeofType, Cast, Binary, Cond, Assign, Init, Braces, Designated, SpecWord, ArrayBound, VoidParams, Params, Enumerator, MemberDesignator, IndexDesignator, Syntaxes, no_more, more}
-use Rattle.metal_machines.specs.Numbers.{holes_in, holes_in_primary, holes_in_operation, holes_in_initializer, holes_in_all, holes_in_path, holes_in_designator}
+use Rattle.metal_tree.specs.MetalMachines.Numbers.{holes_in, holes_in_primary, holes_in_operation, holes_in_initializer, holes_in_all, holes_in_path, holes_in_designator}
 use Rattle.metal_grammar.specs.Patterns.{hole_or, with_holes, primary_with_holes, operation_with_holes, initializer_with_holes, all_with_holes, path_with_holes, designator_with_holes, names_in, names_in_primary, names_in_operation, names_in_initializer, names_in_all, names_in_path, names_in_designator, is_plain_type, has_plain_types, primary_has_plain_types, operation_has_plain_types, initializer_has_plain_types, all_have_plain_types, path_has_plain_types, designator_has_plain_types}
 
 pub both : (a b : Bool) → (a && b) ≡ true → (a ≡ true) × (b ≡ true)

@@ -3,10 +3,10 @@ use Rattle.std.proofs.Common.{◌≡◌, ◌⊎◌, inl, inr, ℕ, zero, suc, �
 use Rattle.std.proofs.lemmas.Bool.Decides.{nat_tests}
 use Rattle.std.proofs.lemmas.List.{append_assoc, map-append}
 use Rattle.c_tree.specs.Symbol.{Symbol}
-use Rattle.metal_machines.specs.Machine.{Hole, Rule}
-use Rattle.metal_machines.specs.Kept as kept
-use Rattle.metal_machines.specs.Kept.{all_of, some_of, are_one, targets, bound_in, asked_in, named_in, variable_of_target, is_variable, is_split_well, goes_from, binds, named_by, named_outside_states, IsKeptBy, AreKept, IsKept}
-use Rattle.metal_machines.specs.Limits.{most_variables, most_holes, most_rules}
+use Rattle.metal_tree.specs.MetalMachines.Machine.{Hole, Rule}
+use Rattle.metal_tree.specs.MetalMachines.Kept as kept
+use Rattle.metal_tree.specs.MetalMachines.Kept.{all_of, some_of, are_one, targets, bound_in, asked_in, named_in, variable_of_target, is_variable, is_split_well, goes_from, binds, named_by, named_outside_states, IsKeptBy, AreKept, IsKept}
+use Rattle.metal_tree.specs.MetalMachines.Limits.{most_variables, most_holes, most_rules}
 use Rattle.metal_grammar.specs.Words.{Spelling}
 use Rattle.metal_grammar.specs.Written.{Row, lone, row, members, StateName, OfMachine, OfVariable, WrittenItem, Pattern, Callout, Dollars, Destination, To, Split, WrittenAction, Alternative, WrittenRule, Content, Nothing, Declares, Rules, Clause}
 use Rattle.metal_grammar.specs.Phrases.{state_phrase, rule_phrase}

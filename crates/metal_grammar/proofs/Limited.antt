@@ -3,8 +3,8 @@ use Rattle.std.proofs.Common.{◌≡◌, ℕ, ◌+◌, ◌≤◌, Bool, true, fa
 use Rattle.metal_grammar.specs.Words.{Spelling}
 use Rattle.metal_grammar.specs.Written.{Row, lone, row, members, StateName, WrittenRule, Content, Nothing, Declares, Rules, Clause}
 use Rattle.metal_grammar.specs.Phrases.{state_phrase, rule_phrase}
-use Rattle.metal_machines.specs.Machine.{HoleType}
-use Rattle.metal_machines.specs.Limits.{most_variables, most_holes, most_rules, AreNumbered, IsLimited}
+use Rattle.metal_tree.specs.MetalMachines.Machine.{HoleType}
+use Rattle.metal_tree.specs.MetalMachines.Limits.{most_variables, most_holes, most_rules, AreNumbered, IsLimited}
 use Rattle.metal_grammar.specs.Holes.{DeclaredHole, hole_type, holes_as}
 use Rattle.metal_grammar.specs.Rules.{size, behind_head, behind_clause, holes_of_content, holes_of, count_of_rules, PlacedRule, rules_from, rules_of_content, placed_rules, rules_of}
 use Rattle.metal_grammar.specs.Faults.{count_of_holes, count_of_variables, passing}

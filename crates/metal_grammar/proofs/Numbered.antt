@@ -2,8 +2,8 @@
 use Rattle.std.proofs.Common.{◌≡◌, ℕ, suc, ◌+◌, ◌<◌, ◌≤◌, Bool, true, false, cond, not, nat_eq, nat_lt, ◌||◌, ◌&&◌, List, [], ◌∷◌, ◌++◌, length, get_or, map, filter, filter_map, unwrap_or, Option, None, Some, ap, refl, ◌∙◌, sym, subst, add-one, arith}
 use Rattle.std.specs.List.{cons_option}
 use Rattle.std.proofs.lemmas.Bool.Decides.{nat_tests}
-use Rattle.metal_machines.specs.Kept as kept
-use Rattle.metal_machines.specs.Kept.{all_of, are_one}
+use Rattle.metal_tree.specs.MetalMachines.Kept as kept
+use Rattle.metal_tree.specs.MetalMachines.Kept.{all_of, are_one}
 use Rattle.metal_grammar.specs.Meaning.{number_among, number_in, one_more}
 use Rattle.metal_grammar.specs.Rules.{is_among}
 use Rattle.metal_grammar.specs.Faults.{is_other_among, differ}

@@ -1,9 +1,9 @@
 -- A rule without a fault is kept to by the rule of the machine.
 use Rattle.std.proofs.Common.{◌≡◌, ◌⊎◌, inl, inr, ℕ, Bool, true, false, cond, not, nat_eq, nat_lt, ◌||◌, ◌&&◌, is_none, List, [], ◌∷◌, ◌++◌, length, get_or, map, filter, flat_map, Option, None, Some, ap, refl, ◌∙◌, sym}
 use Rattle.std.proofs.lemmas.List.{map-append}
-use Rattle.metal_machines.specs.Machine.{Hole, ToObject, ToUnknown, Rule, Machine}
-use Rattle.metal_machines.specs.Kept as kept
-use Rattle.metal_machines.specs.Kept.{all_of, some_of, are_one, targets, bound_in, asked_in, named_in, variable_of_source, variable_of_target, is_condition, is_source_of, is_target_of, is_in_range, is_variable, has_one_variable, is_split_well, goes_from, binds, binds_all, named_by, named_outside_states, IsKeptBy}
+use Rattle.metal_tree.specs.MetalMachines.Machine.{Hole, ToObject, ToUnknown, Rule, Machine}
+use Rattle.metal_tree.specs.MetalMachines.Kept as kept
+use Rattle.metal_tree.specs.MetalMachines.Kept.{all_of, some_of, are_one, targets, bound_in, asked_in, named_in, variable_of_source, variable_of_target, is_condition, is_source_of, is_target_of, is_in_range, is_variable, has_one_variable, is_split_well, goes_from, binds, binds_all, named_by, named_outside_states, IsKeptBy}
 use Rattle.metal_grammar.specs.Words.{Spelling}
 use Rattle.metal_grammar.specs.Written.{Row, lone, row, members, StateName, OfMachine, OfVariable, WrittenItem, Pattern, Callout, Dollars, Destination, To, Split, WrittenAction, Alternative}
 use Rattle.metal_grammar.specs.Grammar.{some, each, is_end}

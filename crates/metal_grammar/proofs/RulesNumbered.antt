@@ -2,8 +2,8 @@
 use Rattle.std.proofs.Common.{◌≡◌, ℕ, Bool, true, false, cond, not, nat_eq, nat_lt, nat_le, ◌&&◌, is_some, is_none, List, [], ◌∷◌, ◌++◌, map, filter, flat_map, option_map, unwrap_or, codes, Option, None, Some, ap, refl, ◌∙◌, sym}
 use Rattle.std.proofs.lemmas.List.{map-append}
 use Rattle.c_tree.specs.Symbol.{Integer, Word, Reserved, Sign, IntLiteral, FloatLiteral, CharLiteral, StringLiteral}
-use Rattle.metal_machines.specs.Machine.{Piece, Bytes, HoleText, Holds, ToUnknown, ToObject}
-use Rattle.metal_machines.specs.Kept.{all_of, targets, holes_of_item, asked_of_item, bound_in, asked_in, hole_of_piece, named_in, variable_of_source, variable_of_target, is_condition}
+use Rattle.metal_tree.specs.MetalMachines.Machine.{Piece, Bytes, HoleText, Holds, ToUnknown, ToObject}
+use Rattle.metal_tree.specs.MetalMachines.Kept.{all_of, targets, holes_of_item, asked_of_item, bound_in, asked_in, hole_of_piece, named_in, variable_of_source, variable_of_target, is_condition}
 use Rattle.metal_grammar.specs.Words.{Spelling, is_spelled, contents_of}
 use Rattle.metal_grammar.specs.Written.{members, StateName, OfMachine, OfVariable, Name, Text, WrittenCallout, Digit, Asked, WrittenItem, Pattern, Callout, Dollars, Destination, To, Split, WrittenAction}
 use Rattle.metal_grammar.specs.Grammar.{is_callout}

@@ -4,7 +4,7 @@ use Rattle.c_tree.specs.Symbol.{Symbol}
 use Rattle.metal_grammar.specs.Words.{Spelling}
 use Rattle.metal_grammar.specs.Written.{Clause}
 use Rattle.metal_grammar.specs.Grammar.{IsText, IsSyntaxFault}
-use Rattle.metal_machines.specs.Machine.{Machine}
+use Rattle.metal_tree.specs.MetalMachines.Machine.{Machine}
 use Rattle.metal_grammar.specs.FirstFault.{Fault, SyntaxAt, fault_of}
 use Rattle.metal_grammar.specs.Known.{AreKnown}
 use Rattle.metal_grammar.specs.Meaning.{machine_of}

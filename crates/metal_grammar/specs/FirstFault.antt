@@ -1,6 +1,6 @@
 -- The order of the faults.
 use Rattle.std.specs.Prelude.{ℕ, cond, List, [], ◌∷◌, map, Option, None, Some}
-use Rattle.metal_machines.specs.Limits.{most_variables, most_holes, most_rules}
+use Rattle.metal_tree.specs.MetalMachines.Limits.{most_variables, most_holes, most_rules}
 use Rattle.metal_grammar.specs.Words.{Spelling}
 use Rattle.metal_grammar.specs.Written.{Clause}
 use Rattle.metal_grammar.specs.Holes.{DeclaredHole}

@@ -12,7 +12,7 @@ use Rattle.metal_grammar.specs.Words.{Spelling, is_spelled}
 use Rattle.metal_grammar.specs.Written.{Row, lone, row, WrittenType, BasicType, Declaration, WrittenCallout, Digit, Asked, WrittenItem, Pattern, Callout, Dollars, Destination, To, Split, WrittenAction, Alternative, WrittenRule, Content, Nothing, Declares, Rules, Clause}
 use Rattle.metal_grammar.specs.Phrases.{clause_phrase, clause_tokens}
 use Rattle.metal_grammar.specs.Clauses.{clauses_of}
-use Rattle.metal_machines.specs.Machine.{HoleType, AnyArguments, AnyFnCall}
+use Rattle.metal_tree.specs.MetalMachines.Machine.{HoleType, AnyArguments, AnyFnCall}
 use Rattle.metal_grammar.specs.Holes.{DeclaredHole, hole_type, declared_holes, Operand, are_placed}
 use Rattle.metal_grammar.specs.Patterns.{has_plain_types}
 

@@ -2,7 +2,7 @@
 use Rattle.std.specs.Prelude.{ℕ, zero, suc, Bool, true, false, cond, nat_eq, ◌&&◌, List, [], ◌∷◌, map, Option, None, Some}
 use Rattle.c_tree.specs.Symbol.{Symbol, Word}
 use Rattle.c_tree.specs.Syntax.{Syntax, Primary, Operation, Initializer, Part, PrimarySyntax, OperationSyntax, InitializerSyntax, Ident, Paren, VaArg, Offsetof, Index, Call, Member, Arrow, CompoundLit, Unary, Cast, Binary, Cond, Assign, Braces, Designated, IndexDesignator, Syntaxes, no_more, more}
-use Rattle.metal_machines.specs.Machine.{NamedType, Basic, Tag, Pointer, HoleType, AnyExpr, AnyScalar, AnyPointer, AnyArguments, AnyFnCall, Named}
+use Rattle.metal_tree.specs.MetalMachines.Machine.{NamedType, Basic, Tag, Pointer, HoleType, AnyExpr, AnyScalar, AnyPointer, AnyArguments, AnyFnCall, Named}
 use Rattle.metal_grammar.specs.Words.{Spelling, is_spelled}
 use Rattle.metal_grammar.specs.Written.{members, WrittenType, KindOfHole, BasicType, TagType, Declaration}
 use Rattle.std.specs.Prelude.{codes, is_some}

@@ -4,7 +4,7 @@ use Rattle.metal_grammar.specs.Words.{Spelling, is_spelled}
 use Rattle.metal_grammar.specs.Written.{members, StateName, OfMachine, OfVariable, WrittenCallout, WrittenItem, Pattern, Callout, Dollars, Destination, To, Split, WrittenAction, Clause}
 use Rattle.metal_grammar.specs.Holes.{DeclaredHole}
 use Rattle.metal_grammar.specs.Patterns.{with_holes}
-use Rattle.metal_machines.specs.Machine.{Piece, Hole, Source, FromGlobal, FromObject, Target, ToGlobal, ToObject, ToUnknown, Dest, Always, ByTruth, Condition, Item, Base, Holds, EndOfPath, Rule, Machine}
+use Rattle.metal_tree.specs.MetalMachines.Machine.{Piece, Hole, Source, FromGlobal, FromObject, Target, ToGlobal, ToObject, ToUnknown, Dest, Always, ByTruth, Condition, Item, Base, Holds, EndOfPath, Rule, Machine}
 use Rattle.metal_grammar.specs.Message.{message_with}
 use Rattle.metal_grammar.specs.Callouts.{row_of, hole_asked, text_asked}
 use Rattle.metal_grammar.specs.Rules.{holes_of, PlacedRule, rules_of, targets_of}

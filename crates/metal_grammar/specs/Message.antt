@@ -1,6 +1,6 @@
 -- The message of an action: literal bytes, and holes whose text stands in its place.
 use Rattle.std.specs.Prelude.{ℕ, Bool, true, false, cond, not, nat_eq, ◌&&◌, ◌||◌, List, [], ◌∷◌, flat_map, Option, None, Some, option_map}
-use Rattle.metal_machines.specs.Machine.{Piece, Bytes, HoleText}
+use Rattle.metal_tree.specs.MetalMachines.Machine.{Piece, Bytes, HoleText}
 use Rattle.metal_grammar.specs.Words.{Spelling, contents_of}
 use Rattle.metal_grammar.specs.Written.{members, WrittenAction}
 

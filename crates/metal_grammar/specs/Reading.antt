@@ -8,7 +8,7 @@ use Rattle.metal_grammar.specs.Words.{Spelling}
 use Rattle.metal_grammar.specs.Written.{Clause}
 use Rattle.metal_grammar.specs.Clauses.{clauses_of}
 use Rattle.metal_grammar.specs.Grammar.{Before, nothing_before, behind_content, is_head, is_content, is_last}
-use Rattle.metal_machines.specs.Machine.{Machine}
+use Rattle.metal_tree.specs.MetalMachines.Machine.{Machine}
 use Rattle.metal_grammar.specs.FirstFault.{Fault, SyntaxAt, fault_of}
 use Rattle.metal_grammar.specs.Meaning.{machine_of}
 use Rattle.metal_grammar.specs.Steps.{Step, take_word, read_content}

@@ -4,9 +4,9 @@ use Rattle.c_tree.specs.Symbol.{Symbol}
 use Rattle.metal_grammar.specs.Words.{Spelling}
 use Rattle.metal_grammar.specs.Written.{Clause}
 use Rattle.metal_grammar.specs.Grammar.{nothing_before, IsText, IsSyntaxFault, text_tokens, AreWellFormed}
-use Rattle.metal_machines.specs.Machine.{Machine}
-use Rattle.metal_machines.specs.Limits.{IsLimited}
-use Rattle.metal_machines.specs.Kept.{IsKept}
+use Rattle.metal_tree.specs.MetalMachines.Machine.{Machine}
+use Rattle.metal_tree.specs.MetalMachines.Limits.{IsLimited}
+use Rattle.metal_tree.specs.MetalMachines.Kept.{IsKept}
 use Rattle.metal_grammar.specs.FirstFault.{Fault, fault_of}
 use Rattle.metal_grammar.specs.Meaning.{machine_of}
 use Rattle.metal_grammar.specs.Known.{AreKnown, StringsAreKnown}

@@ -1,7 +1,7 @@
 -- Lists that grow by those that pass a test.
 use Rattle.std.proofs.Common.{◌≡◌, ℕ, ◌+◌, ◌<◌, Bool, true, false, cond, not, List, [], ◌∷◌, ◌++◌, length, get_or, take, map, filter, ap, refl, ◌∙◌, append_assoc, append-nil}
 use Rattle.std.proofs.lemmas.List.{take_all}
-use Rattle.metal_declared.proofs.InHoles.{map_joined, viewed_more}
+use Rattle.metal_numbers.proofs.MetalDeclared.InHoles.{map_joined, viewed_more}
 use Rattle.metal_numbers.specs.Numbers.{is_kind}
 
 filter-step : {A : Type 0} (b : Bool) (x : A) (xs ys zs : List A) → xs ≡ ys ++ zs → cond b (x ∷ xs) xs ≡ cond b (x ∷ ys) ys ++ zs

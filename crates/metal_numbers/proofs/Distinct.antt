@@ -9,7 +9,7 @@ use Rattle.metal_grammar.proofs.Numbered.{equal, same, differs}
 use Rattle.metal_numbers.specs.Numbers.{added, added_if}
 use Rattle.metal_written.specs.declared.written.StateName.{StateName}
 use Rattle.metal_written.specs.Written.{state_view}
-use Rattle.metal_declared.proofs.InHoles.{map_joined, viewed_more}
+use Rattle.metal_numbers.proofs.MetalDeclared.InHoles.{map_joined, viewed_more}
 use Rattle.metal_numbers.proofs.Choosing.{filtered-joined}
 
 -- all names but one

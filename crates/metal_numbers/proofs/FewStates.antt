@@ -3,7 +3,7 @@ use Rattle.std.proofs.Common.{◌≡◌, ℕ, zero, suc, ◌*◌, ◌<◌, ◌�
 use Rattle.std.specs.List.{cons_option}
 use Rattle.std.proofs.lemmas.Bool.Decides.{nat_tests}
 use Rattle.std.proofs.lemmas.List.{length-map}
-use Rattle.metal_machines.specs.Limits.{most_holes, most_rules}
+use Rattle.metal_tree.specs.MetalMachines.Limits.{most_holes, most_rules}
 use Rattle.metal_grammar.specs.Words.{Spelling}
 use Rattle.metal_grammar.specs.Written as text
 use Rattle.metal_grammar.specs.Rules as rules

@@ -1,2 +1,5 @@
 pub mod Small
 pub mod Numbers
+pub mod MetalRules
+pub mod MetalDeclared
+pub mod MetalBuilding

@@ -1,8 +1,16 @@
-//! The numbers of the holes and states of checkers, and what has them.
+//! From the text of a checker to its machine: what it declares, what each rule is asked, and the numbers of its holes and states.
 #![tactic(auto)]
 
+mod metal_building;
+mod metal_declared;
+mod metal_rules;
 mod numbering;
 mod numbers;
 
-pub use numbering::{in_order, names_of, numbering_of, variables_among};
+pub use metal_building::{Builder, builder_of, made_of};
+pub use metal_declared::{Declared, DeclaredHole, Which, holes_of, passing, repeated};
+pub use metal_rules::{
+    is_bad_source, is_bad_split, lacks_variable, names_two_variables, unknown_callout,
+};
+pub use numbering::{names_of, variables_among};
 pub use numbers::Numbering;

@@ -7,26 +7,25 @@ ghost use Rattle.metal_grammar.specs.Rules as rules;
 ghost use Rattle.metal_grammar.specs.Rules.{is_among, targets_of};
 ghost use Rattle.metal_written.specs.Placed.{placed_view, placed_views};
 ghost use Rattle.metal_written.specs.Written.{state_view, destination_view};
-ghost use Rattle.metal_machines.specs.Limits.{most_holes, most_rules};
+ghost use Rattle.metal_tree.specs.MetalMachines.Limits.{most_holes, most_rules};
 ghost use Rattle.metal_tree.specs.Parts.{state_names};
 ghost use Rattle.metal_tree.specs.Views.{source_view, target_view, dest_view};
-ghost use Rattle.metal_declared.specs.DeclaredHoles.{declared_views};
+ghost use Rattle.metal_numbers.specs.MetalDeclared.DeclaredHoles.{declared_views};
 ghost use Rattle.metal_numbers.specs.Small.{are_few};
 ghost use Rattle.metal_numbers.specs.Numbers.{is_kind, IsNumbering, added, added_if, numbering_in, variables_in};
 
+use crate::metal_declared::DeclaredHole;
+use crate::metal_rules::is_stop;
 use crate::numbers::Numbering;
 use bumpalo::collections::into_bump_slice;
 use c_tree::Arena;
-use metal_declared::DeclaredHole;
-use metal_names::number_among;
-use metal_rules::is_stop;
 use metal_tree::{Dest, Source, States, Target};
-use metal_written::{Destination, PlacedRule, StateName, is_spelled};
+use metal_written::{Destination, PlacedRule, StateName, is_spelled, number_among};
 use mx_base::Names;
 use std::alloc::AllocError;
 
 /// Adds a name, unless it is there.
-#[tactic(auto, using(metal_names::proofs::Positions::among))]
+#[tactic(auto, using(metal_written::proofs::MetalNames::Positions::among))]
 fn add<'a>(names: &mut Vec<u32, &'a Arena>, name: u32) -> Result<(), AllocError>
     ensures { IfOk result (λ _. names.new.items ≡ added names.old.items name) }
 {
@@ -113,7 +112,7 @@ fn add_states<'a>(
 }
 
 /// The states that the rules mention, in the order of the text.
-#[tactic(auto, using(metal_declared::proofs::InHoles::additions))]
+#[tactic(auto, using(crate::proofs::MetalDeclared::InHoles::additions))]
 fn states_mentioned<'a>(
     arena: &'a Arena,
     rules: &[PlacedRule<'a>],
@@ -192,7 +191,7 @@ pub fn in_order<'a>(
 }
 
 /// The names of these holes.
-#[tactic(auto, using(metal_declared::proofs::InHoles::additions))]
+#[tactic(auto, using(crate::proofs::MetalDeclared::InHoles::additions))]
 pub fn names_of<'a>(arena: &'a Arena, holes: &[DeclaredHole<'a>]) -> Result<&'a [u32], AllocError>
     ensures { IfOk result (λ found. found.now ≡ map (λ h. h.name) (declared_views holes.now)) }
 {
@@ -221,7 +220,7 @@ pub fn variables_among<'a>(
 }
 
 /// The states of each of these variables.
-#[tactic(auto, using(metal_declared::proofs::InHoles::additions, crate::proofs::FewStates::fews))]
+#[tactic(auto, using(crate::proofs::MetalDeclared::InHoles::additions, crate::proofs::FewStates::fews))]
 fn states_of<'a>(
     arena: &'a Arena,
     names: &Names,
@@ -266,7 +265,7 @@ pub fn numbering_of<'a>(
 }
 
 /// The number of a name among these, and 0 where it is none of them.
-#[tactic(auto, using(metal_names::proofs::Positions::within))]
+#[tactic(auto, using(metal_written::proofs::MetalNames::Positions::within))]
 fn number_in(names: &[u32], name: u32) -> usize
     ensures number { result ≡ meaning.number_in names.now name }
     ensures within { result ≤ length names.now }

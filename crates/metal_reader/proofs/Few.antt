@@ -1,16 +1,16 @@
 -- Where nothing passes its limit, there are few holes and few rules.
 use Rattle.std.proofs.Common.{◌≡◌, ℕ, suc, ◌+◌, ◌≤◌, Bool, true, false, cond, nat_lt, List, [], ◌∷◌, ◌++◌, length, map, Option, None, Some, ap, refl, arith}
 use Rattle.std.proofs.lemmas.Bool.Decides.{nat_tests}
-use Rattle.metal_machines.specs.Limits.{most_variables, most_holes, most_rules}
-use Rattle.metal_machines.specs.Machine.{HoleType}
+use Rattle.metal_tree.specs.MetalMachines.Limits.{most_variables, most_holes, most_rules}
+use Rattle.metal_tree.specs.MetalMachines.Machine.{HoleType}
 use Rattle.metal_grammar.specs.Words.{Spelling}
 use Rattle.metal_grammar.specs.Written.{members, Content, Nothing, Declares, Rules, Clause}
 use Rattle.metal_grammar.specs.Holes.{DeclaredHole, hole_type, holes_as}
 use Rattle.metal_grammar.specs.Rules.{behind_clause, behind_head, holes_of_content, holes_of, rules_of_content, count_of_rules, placed_rules, rules_of}
 use Rattle.metal_grammar.specs.Faults.{passing, count_of_holes, count_of_variables}
 use Rattle.metal_grammar.specs.FirstFault.{Fault, Counted, Variables, Holes, AllRules, or_else, too_many, fault_of, fault_of_rules}
-use Rattle.metal_positions.proofs.Counting.{content_count}
-use Rattle.metal_faults.specs.FirstFaults.{faults_before_rules}
+use Rattle.metal_reader.proofs.MetalPositions.Counting.{content_count}
+use Rattle.metal_reader.specs.MetalFaults.FirstFaults.{faults_before_rules}
 
 pub lengths : {A B : Type 0} (f : A → B) (xs : List A) → length (map f xs) ≡ length xs
 lengths f [] = refl

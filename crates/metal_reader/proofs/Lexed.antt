@@ -4,17 +4,17 @@ use Rattle.mx_base.specs.Names.{AddsAtMost}
 use Rattle.mx_base.proofs.NameLaws.{kept_number}
 use Rattle.c_tree.specs.declared.token.Token.{Token}
 use Rattle.c_tree.specs.Symbol.{symbols_of}
-use Rattle.c_reading.specs.declared.mode.Mode.TheVariants as modes
-use Rattle.c_reading.specs.Pieces.{Piece, beginning}
-use Rattle.c_reading.specs.Reading.{IsReading, Lexeme, lexemes}
+use Rattle.c_lexer.specs.declared.c_reading.mode.Mode.TheVariants as modes
+use Rattle.c_lexer.specs.CReading.Pieces.{Piece, beginning}
+use Rattle.c_lexer.specs.CReading.Reading.{IsReading, Lexeme, lexemes}
 use Rattle.c_lexer.specs.Tokens.{IsToken, AreTokens, Lexes, TokenList}
 use Rattle.metal_grammar.specs.Words.{Spelling}
 use Rattle.metal_grammar.specs.Definition.{IsMachine}
 use Rattle.metal_tree.specs.declared.machine.Machine.{Machine}
 use Rattle.metal_tree.specs.Whole.{machine_view}
 use Rattle.metal_written.specs.Texts.{AreBelow}
-use Rattle.metal_faults.specs.declared.fault.MetalFault.{MetalFault}
-use Rattle.metal_faults.specs.declared.fault.MetalFault.TheVariants as faults
+use Rattle.metal_reader.specs.declared.metal_faults.fault.MetalFault.{MetalFault}
+use Rattle.metal_reader.specs.declared.metal_faults.fault.MetalFault.TheVariants as faults
 use Rattle.metal_reader.specs.Faults.{Refuses, RefusesBytes, IsLexed}
 use Rattle.metal_reader.proofs.Refusing.{lexed_below}
 

@@ -8,7 +8,7 @@ use Rattle.metal_grammar.specs.Faults.{any_of, is_misnamed, is_stop, is_global, 
 use Rattle.metal_grammar.specs.FirstFault.{TwoVariables, BadSplit, BadSource, or_else, unknown_at, fault_of_rule, fault_of_rules, fault_of}
 use Rattle.metal_grammar.proofs.Numbered.{either}
 use Rattle.metal_numbers.specs.Numbers.{IsNamed, AreNamed}
-use Rattle.metal_faults.specs.FirstFaults.{faults_before_rules}
+use Rattle.metal_reader.specs.MetalFaults.FirstFaults.{faults_before_rules}
 use Rattle.metal_reader.proofs.Few.{passed, neither, in_turn}
 
 source_named : (spelling : Spelling) (variables : List ℕ) (r : PlacedRule) → is_bad_source spelling variables r ≡ false → IsNamed variables r

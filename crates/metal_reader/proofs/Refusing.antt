@@ -3,9 +3,9 @@ use Rattle.std.proofs.Common.{◌≡◌, ◌⊎◌, inl, inr, ℕ, ◌+◌, List
 use Rattle.std.proofs.lemmas.Option.{slice_get_within}
 use Rattle.c_tree.specs.declared.token.Token.{Token}
 use Rattle.c_tree.specs.Symbol.{Symbol}
-use Rattle.c_reading.specs.declared.mode.Mode.{Mode}
-use Rattle.c_reading.specs.Pieces.{Piece}
-use Rattle.c_reading.specs.Reading.{Lexeme}
+use Rattle.c_lexer.specs.declared.c_reading.mode.Mode.{Mode}
+use Rattle.c_lexer.specs.CReading.Pieces.{Piece}
+use Rattle.c_lexer.specs.CReading.Reading.{Lexeme}
 use Rattle.c_lexer.specs.Tokens.{AreTokens, Lexes, TokenList}
 use Rattle.metal_grammar.specs.Words.{Spelling}
 use Rattle.metal_grammar.specs.Written as text
@@ -23,12 +23,12 @@ use Rattle.metal_clauses.specs.declared.fault.ClauseFault.{ClauseFault}
 use Rattle.metal_clauses.specs.declared.fault.ClauseFault.TheVariants as clause
 use Rattle.metal_clauses.specs.Read.{IsUnread}
 use Rattle.metal_written.specs.Texts.{AreBelow}
-use Rattle.metal_faults.specs.declared.fault.MetalFault.{MetalFault}
-use Rattle.metal_faults.specs.declared.fault.MetalFault.TheVariants as faults
-use Rattle.metal_faults.specs.ClauseFaults.{metal_fault}
-use Rattle.metal_faults.specs.Faults.{fault_in}
+use Rattle.metal_reader.specs.declared.metal_faults.fault.MetalFault.{MetalFault}
+use Rattle.metal_reader.specs.declared.metal_faults.fault.MetalFault.TheVariants as faults
+use Rattle.metal_reader.specs.MetalFaults.ClauseFaults.{metal_fault}
+use Rattle.metal_reader.specs.MetalFaults.Faults.{fault_in}
 use Rattle.metal_reader.specs.Faults.{IsFault, Refuses}
-use Rattle.metal_faults.specs.FirstFaults.{Says}
+use Rattle.metal_reader.specs.MetalFaults.FirstFaults.{Says}
 
 -- memory ran out, or this is the first fault of the symbols
 abbrev pub IsRefused : Spelling → List Symbol → ℕ → MetalFault → Type 0

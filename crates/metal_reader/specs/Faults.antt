@@ -1,17 +1,17 @@
 -- What a refusal says of a text.
 use Rattle.std.specs.Prelude.{◌≡◌, ℕ, List}
 use Rattle.c_tree.specs.Symbol.{Symbol, symbols_of}
-use Rattle.c_reading.specs.declared.mode.Mode.TheVariants as modes
-use Rattle.c_reading.specs.Pieces.{Piece}
-use Rattle.c_reading.specs.Reading.{IsReading}
+use Rattle.c_lexer.specs.declared.c_reading.mode.Mode.TheVariants as modes
+use Rattle.c_lexer.specs.CReading.Pieces.{Piece}
+use Rattle.c_lexer.specs.CReading.Reading.{IsReading}
 use Rattle.c_lexer.specs.Tokens as lexer
 use Rattle.c_lexer.specs.declared.fault.LexFault.TheVariants.{NoMemory}
 use Rattle.metal_grammar.specs.Words.{Spelling}
 use Rattle.metal_grammar.specs.FirstFault as text
 use Rattle.metal_grammar.specs.Definition.{IsFirstFault}
-use Rattle.metal_faults.specs.declared.fault.MetalFault.{MetalFault}
-use Rattle.metal_faults.specs.declared.fault.MetalFault.TheVariants as faults
-use Rattle.metal_faults.specs.Faults.{fault_in}
+use Rattle.metal_reader.specs.declared.metal_faults.fault.MetalFault.{MetalFault}
+use Rattle.metal_reader.specs.declared.metal_faults.fault.MetalFault.TheVariants as faults
+use Rattle.metal_reader.specs.MetalFaults.Faults.{fault_in}
 
 -- The refusal is the first fault of the symbols.
 abbrev pub IsFault : Spelling → List Symbol → ℕ → MetalFault → Type 0

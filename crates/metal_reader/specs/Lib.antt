@@ -1,1 +1,4 @@
 pub mod Faults
+pub mod MetalPositions
+pub mod MetalFaults
+pub mod CheckerFrontEnd

@@ -1,9 +1,13 @@
-//! Reads checkers: their clauses, the first fault that they have, and the machine that they are.
+//! Reads checkers, from their bytes to the machine that they are or to the first fault that they have and its place.
 #![tactic(auto)]
 
+mod checker_front_end;
+mod metal_faults;
+mod metal_positions;
 mod reading;
 
-pub use metal_declared::Which;
+pub use checker_front_end::{CheckerFault, Faulty, Refusal, read_checker, read_tokens};
 pub use metal_faults::MetalFault;
-pub use metal_positions::rule_place;
-pub use reading::{read_machine, read_machine_bytes};
+pub use metal_numbers::Which;
+pub use metal_positions::{rule_place, rules_are_counted};
+pub use reading::read_machine_bytes;

@@ -1,8 +1,8 @@
 -- A rule by its number.
 use Rattle.std.proofs.Common.{◌≡◌, ℕ, zero, suc, ◌+◌, ◌-◌, ◌<◌, ◌≤◌, List, [], ◌∷◌, length, slice_get, slice_index_or, Some, ap, refl, ◌∙◌, arith}
-use Rattle.metal_machines.specs.Rules.{rule_numbered}
-use Rattle.metal_machines.specs.Limits.{AreNumbered}
-use Rattle.metal_machines.specs.Theorems.{RulesAreFound}
+use Rattle.metal_tree.specs.MetalMachines.Rules.{rule_numbered}
+use Rattle.metal_tree.specs.MetalMachines.Limits.{AreNumbered}
+use Rattle.metal_tree.specs.MetalMachines.Theorems.{RulesAreFound}
 use Rattle.metal_tree.specs.declared.rules.Rule.{Rule}
 use Rattle.metal_tree.specs.Views.{rule_view, rule_views}
 

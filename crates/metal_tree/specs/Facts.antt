@@ -2,9 +2,9 @@
 use Rattle.std.specs.Prelude.{ℕ, List, [], ◌∷◌, ◌+◌}
 use Rattle.std.specs.Coded.{×_prop, Unit-prop}
 use Rattle.std.proofs.Props.{props}
-use Rattle.metal_machines.specs.Machine.{Rule, Machine}
-use Rattle.metal_machines.specs.Limits.{AreNumbered, IsLimited}
-use Rattle.metal_machines.specs.Kept.{IsKeptBy, AreKept, IsKept}
+use Rattle.metal_tree.specs.MetalMachines.Machine.{Rule, Machine}
+use Rattle.metal_tree.specs.MetalMachines.Limits.{AreNumbered, IsLimited}
+use Rattle.metal_tree.specs.MetalMachines.Kept.{IsKeptBy, AreKept, IsKept}
 
 pub AreNumbered-prop : (number : ℕ) (rs : List Rule) → IsProp (AreNumbered number rs)
 AreNumbered-prop number [] = Unit-prop

@@ -1,6 +1,6 @@
 -- A machine by its parts.
 use Rattle.std.specs.Prelude.{ℕ, List, map}
-use Rattle.metal_machines.specs.Machine as machines
+use Rattle.metal_tree.specs.MetalMachines.Machine as machines
 use Rattle.metal_tree.specs.declared.holes.HoleDecl.{HoleDecl}
 use Rattle.metal_tree.specs.declared.rules.Rule.{Rule}
 use Rattle.metal_tree.specs.declared.states.States.{States}

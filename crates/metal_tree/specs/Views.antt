@@ -2,7 +2,7 @@
 use Rattle.std.specs.Prelude.{ℕ, zero, suc, List, map}
 use Rattle.std.specs.Option.{option_map}
 use Rattle.c_tree.specs.Forget.{view}
-use Rattle.metal_machines.specs.Machine as machines
+use Rattle.metal_tree.specs.MetalMachines.Machine as machines
 use Rattle.metal_tree.specs.declared.holes.HoleDecl.{HoleDecl}
 use Rattle.metal_tree.specs.declared.holes.HoleType.{HoleType}
 use Rattle.metal_tree.specs.declared.holes.HoleType.TheVariants as hole_type

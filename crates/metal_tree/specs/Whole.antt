@@ -1,5 +1,5 @@
 -- The machine that a machine of the program is.
-use Rattle.metal_machines.specs.Machine as machines
+use Rattle.metal_tree.specs.MetalMachines.Machine as machines
 use Rattle.metal_tree.specs.declared.machine.Machine.{Machine}
 use Rattle.metal_tree.specs.Parts.{machine_of}
 

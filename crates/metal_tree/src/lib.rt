@@ -4,6 +4,7 @@
 mod holes;
 mod machine;
 mod messages;
+mod metal_machines;
 mod patterns;
 mod rules;
 mod states;

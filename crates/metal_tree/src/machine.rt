@@ -1,16 +1,16 @@
 //! Machines: all of a checker.
 
 ghost use Rattle.std.specs.Prelude.{◌≡◌, ◌≤◌, length, Some};
-ghost use Rattle.metal_machines.specs.Rules.{rule_numbered};
+ghost use Rattle.metal_tree.specs.MetalMachines.Rules.{rule_numbered};
 ghost use Rattle.metal_tree.specs.Views.{rule_view, rule_views};
 ghost use Rattle.metal_tree.specs.Parts.{machine_of};
-ghost use Rattle.metal_machines.specs.Kept.{IsKept};
+ghost use Rattle.metal_tree.specs.MetalMachines.Kept.{IsKept};
 ghost use Rattle.metal_tree.specs.Facts.{IsKept-prop};
 
 use crate::holes::HoleDecl;
+use crate::metal_machines::rules_are_found;
 use crate::rules::Rule;
 use crate::states::States;
-use metal_machines::rules_are_found;
 
 /// A checker that was read. It has no fault: each number in it names a hole, a variable or a state that it has, and its rules
 /// say of one variable at most what they say.

@@ -4,7 +4,7 @@ use Rattle.std.proofs.lemmas.List.{drop_all, length-map}
 use Rattle.metal_grammar.specs.Grammar.{each, some}
 use Rattle.metal_grammar.specs.Faults.{any_of}
 use Rattle.metal_grammar.specs.Rules.{is_among}
-use Rattle.metal_machines.specs.Kept.{all_of}
+use Rattle.metal_tree.specs.MetalMachines.Kept.{all_of}
 use Rattle.metal_written.specs.Written.{row_from}
 use Rattle.metal_written.proofs.Nodes.{among-append}
 use Rattle.metal_written.proofs.Rows.{members-row}

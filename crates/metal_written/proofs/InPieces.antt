@@ -3,7 +3,7 @@ use Rattle.std.proofs.Common.{◌≡◌, ℕ, suc, ◌+◌, ◌<◌, ◌≤◌, 
 use Rattle.std.proofs.lemmas.Bool.Decides.{nat_tests}
 use Rattle.std.proofs.lemmas.List.{drop_all}
 use Rattle.std.specs.Option.{option_map}
-use Rattle.metal_machines.specs.Machine.{Piece, Bytes, HoleText}
+use Rattle.metal_tree.specs.MetalMachines.Machine.{Piece, Bytes, HoleText}
 use Rattle.metal_grammar.specs.Message.{literal_byte, next_argument, later_arguments, directive, are_none_left, pieces_from}
 use Rattle.metal_written.specs.Messages.{ended, bytes_before, behind_pieces, first_of, with_argument, directive_without, directive_behind, directive_of, IsStep}
 

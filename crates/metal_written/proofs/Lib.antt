@@ -8,3 +8,4 @@ pub mod InPieces
 pub mod InSizes
 pub mod InPlaces
 pub mod InTexts
+pub mod MetalNames

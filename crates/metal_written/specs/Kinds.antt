@@ -1,6 +1,6 @@
 -- Kinds of holes, and where they may stand.
 use Rattle.std.specs.Prelude.{Bool, true, false, Option, None, Some}
-use Rattle.metal_machines.specs.Machine.{HoleType, AnyExpr, AnyScalar, AnyPointer, AnyArguments, AnyFnCall}
+use Rattle.metal_tree.specs.MetalMachines.Machine.{HoleType, AnyExpr, AnyScalar, AnyPointer, AnyArguments, AnyFnCall}
 use Rattle.metal_grammar.specs.Holes as places
 use Rattle.metal_written.specs.declared.kinds.HoleKind.{HoleKind}
 use Rattle.metal_written.specs.declared.kinds.HoleKind.TheVariants as kinds

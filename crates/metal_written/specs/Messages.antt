@@ -2,7 +2,7 @@
 use Rattle.std.specs.Prelude.{◌≡◌, ℕ, Bool, true, false, cond, not, nat_eq, ◌&&◌, ◌||◌, List, [], ◌∷◌, ◌++◌, map, Option, None, Some}
 use Rattle.std.specs.Borrow.{Bor}
 use Rattle.std.specs.Option.{option_map}
-use Rattle.metal_machines.specs.Machine as machines
+use Rattle.metal_tree.specs.MetalMachines.Machine as machines
 use Rattle.metal_grammar.specs.Message.{literal_byte}
 use Rattle.metal_tree.specs.declared.messages.Piece.{Piece}
 use Rattle.metal_tree.specs.Views.{piece_view}

@@ -9,7 +9,7 @@ use Rattle.command.specs.Written.{SinkStep}
 use Rattle.command.specs.declared.status.Status.{Status}
 use Rattle.command.specs.declared.status.Status.TheVariants.{Clean, Reports, Usage, Refused, ReadFault, WriteFault, NoMemory}
 use Rattle.report_model.specs.declared.report.Report.{Report}
-use Rattle.reporters.specs.Styles.{json_of, table_of}
+use Rattle.report_model.specs.OfReporters.Styles.{json_of, table_of}
 use Rattle.metalcheck.specs.Styles.{both_styles, style_names, styles}
 
 -- both of two are empty

@@ -8,7 +8,7 @@ use Rattle.command.specs.declared.status.Status.TheVariants.{Clean, Reports}
 use Rattle.command_words.specs.Words.{Request, is_checker_word, is_source_word}
 use Rattle.report_model.specs.Lines.{text_of}
 use Rattle.report_model.specs.declared.report.Report.{Report}
-use Rattle.reporters.specs.Styles.{json_of, table_of}
+use Rattle.report_model.specs.OfReporters.Styles.{json_of, table_of}
 
 -- their names, in order
 abbrev pub style_names : List (List ℕ)

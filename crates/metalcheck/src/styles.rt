@@ -9,11 +9,11 @@ ghost use Rattle.command_words.specs.Words.{Request, IsRequest};
 ghost use Rattle.metalcheck.specs.Styles.{PrintsAsAsked, both_styles, style_names, styles};
 ghost use Rattle.mx_io.specs.Causes.{Rose};
 ghost use Rattle.report_model.specs.declared.report.Report.{Report};
-ghost use Rattle.reporters.specs.Styles.{json_of, table_of};
+ghost use Rattle.report_model.specs.OfReporters.Styles.{json_of, table_of};
 
 use command::{Status, run};
 use mx_io::{Files, Sink};
-use reporters::{JsonLines, Reporter, Table};
+use report_model::{JsonLines, Reporter, Table};
 use std::alloc::{AllocError, Global};
 
 /// A reporter of each style.

@@ -5,11 +5,11 @@ use bumpalo::Bump;
 use c_lexer::{LexFault, Mode, Tokens, lex, strip};
 use c_parser::read_unit;
 use c_tree::Arena;
-use c_types::type_unit;
 use mx_base::{Names, Text};
 use objects::{Object, append, begins_with, is_static, mentions, object_of, rebase, write_text};
 use std::alloc::{AllocError, Global};
 use typed_unit::TypedUnit;
+use unit_typing::type_unit;
 
 /// What is asked of the expressions that stand in the last function, in their order.
 #[derive(Clone, Copy, PartialEq, Eq)]

@@ -1,8 +1,8 @@
 -- What a cell of a table has, as both of the crates below say it.
 use Rattle.std.proofs.Common.{◌≡◌, Option, None, Some, refl}
-use Rattle.c_typing.specs.Definition.{Cell}
-use Rattle.c_typing.specs.Options.{if_there, ◌>?◌}
-use Rattle.c_typing.specs.Types.{Void}
+use Rattle.type_rules.specs.Definition.{Cell}
+use Rattle.type_rules.specs.Options.{if_there, ◌>?◌}
+use Rattle.type_rules.specs.Types.{Void}
 use Rattle.typed_unit.specs.Tables.{type_in, var_in}
 
 pub var_in-is : (o : Option Cell) → var_in o ≡ (o >? λ c. c.var)

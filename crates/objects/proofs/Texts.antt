@@ -6,7 +6,7 @@ use Rattle.std.proofs.lemmas.Grind.{common_steps, flat_map-append}
 use Rattle.std.proofs.lemmas.List.{take-append-drop}
 use Rattle.c_objects.specs.Objects.{Selector, Deref, Field, At, AtVar, Object}
 use Rattle.c_objects.specs.Text.{var_text, steps_text, in_parens, is_last_star, object_text}
-use Rattle.c_typing.specs.Vars.{CVar, Extern, FileStatic, LocalStatic, Param, Local, Result, Called}
+use Rattle.type_rules.specs.Vars.{CVar, Extern, FileStatic, LocalStatic, Param, Local, Result, Called}
 use Rattle.objects.specs.Pieces.{HasBegun, piece_text, var_pieces, part_pieces, steps_pieces, object_pieces}
 use Rattle.objects.specs.declared.pieces.Piece.{Piece}
 use Rattle.objects.specs.declared.pieces.Piece.TheVariants as piece

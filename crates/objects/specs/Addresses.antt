@@ -7,7 +7,7 @@ use Rattle.c_objects.specs.Objects.{Deref, Field, Object, path}
 use Rattle.c_objects.specs.Paths.{addressed}
 use Rattle.c_tree.specs.declared.operator.UnaryOp.TheVariants as unary
 use Rattle.c_tree.specs.Node.{PrimaryShape, OperationShape, Ident, Paren, Index, Member, Arrow, Unary, Cast}
-use Rattle.c_typing.specs.Options.{◌>?◌}
+use Rattle.type_rules.specs.Options.{◌>?◌}
 
 abbrev pub primary_address : Facts → ℕ → ℕ → PrimaryShape → Option Object
 primary_address u depth i (Ident name) = option_map (λ v. path v []) (numbered_var u i) >? addressed

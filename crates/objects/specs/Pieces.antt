@@ -3,7 +3,7 @@ use Rattle.std.specs.Prelude.{ℕ, List, [], ◌∷◌, ◌++◌, reverse, Bool,
 use Rattle.std.specs.Fmt.{decimal}
 use Rattle.c_objects.specs.Objects.{Selector, Deref, Field, At, AtVar, Object}
 use Rattle.c_objects.specs.Text.{text_of, is_last_star}
-use Rattle.c_typing.specs.Vars.{CVar, Extern, FileStatic, LocalStatic, Param, Local, Result, Called}
+use Rattle.type_rules.specs.Vars.{CVar, Extern, FileStatic, LocalStatic, Param, Local, Result, Called}
 use Rattle.objects.specs.declared.pieces.Piece.{Piece}
 use Rattle.objects.specs.declared.pieces.Piece.TheVariants as piece
 

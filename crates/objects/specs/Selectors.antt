@@ -1,7 +1,7 @@
 -- The step that one of the program is.
 use Rattle.std.specs.Prelude.{List, map}
 use Rattle.c_objects.specs.Objects.{Selector, Deref, Field, At, AtVar}
-use Rattle.c_unit.specs.Vars.{cvar_of}
+use Rattle.type_values.specs.Vars.{cvar_of}
 use Rattle.objects.specs.declared.selector.Selector as code
 use Rattle.objects.specs.declared.selector.Selector.TheVariants as step
 

@@ -3,16 +3,16 @@
 ghost use Rattle.std.specs.Prelude.{◌≡◌, fold};
 ghost use Rattle.std.specs.Cmp.{partial_equiv_from_equiv, on_equiv};
 ghost use Rattle.c_objects.specs.Objects.{same_selector};
-ghost use Rattle.c_unit.specs.Vars.{cvar_of};
+ghost use Rattle.type_values.specs.Vars.{cvar_of};
 ghost use Rattle.objects.specs.Selectors.{selector_of};
 ghost use Rattle.objects.specs.Equality.{same_object, selectors_equiv, objects_equiv, same_object-true, selector-fed, object-fed, var_input, selector_input, object_input};
 
 use crate::object::Object;
 use crate::selector::{Selector, same_selector};
 use crate::variables::same_var;
-use c_unit::Var;
 use least_set::Key;
 use std::hash::{Hash, Hasher};
+use type_values::Var;
 
 impl PartialEq for Selector {
     ghost eq = { λ a b. same_selector (selector_of a) (selector_of b) };

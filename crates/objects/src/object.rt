@@ -2,15 +2,15 @@
 
 ghost use Rattle.std.specs.Prelude.{◌≡◌, ◌≤◌, [], length};
 ghost use Rattle.c_objects.specs.Objects.{path, is_object, is_static, mentions};
-ghost use Rattle.c_unit.specs.Vars.{cvar_of};
+ghost use Rattle.type_values.specs.Vars.{cvar_of};
 ghost use Rattle.objects.specs.Selectors.{selectors_of};
 
 use crate::selector::Selector;
 use crate::steps::{are_static, ends_in_star, is_indexed_by, joined};
 use crate::variables::is_static_var;
 use arrayvec::ArrayVec;
-use c_unit::Var;
 use std::marker::Model;
+use type_values::Var;
 
 /// A path, which is a variable and at most 8 steps from it, or, with the mark, the address of a path. A contract sees its mark,
 /// its variable and the list of its steps.
@@ -23,7 +23,7 @@ pub struct Object {
 
 impl Model for Object {
     ghost use Rattle.c_objects.specs.Objects.{Object as Seen};
-    ghost use Rattle.c_unit.specs.Vars.{cvar_of};
+    ghost use Rattle.type_values.specs.Vars.{cvar_of};
     ghost use Rattle.objects.specs.Selectors.{selectors_of};
 
     ghost Value = { Seen };

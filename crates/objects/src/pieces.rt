@@ -4,14 +4,14 @@ ghost use Rattle.std.specs.Prelude.{◌≡◌, ◌+◌, ◌*◌, ◌≤◌, ◌�
 ghost use Rattle.arrayvec.specs.ArrayVec.{array_vec_len};
 ghost use Rattle.c_objects.specs.Objects.{Field};
 ghost use Rattle.c_objects.specs.Text.{is_last_star};
-ghost use Rattle.c_unit.specs.Vars.{cvar_of};
+ghost use Rattle.type_values.specs.Vars.{cvar_of};
 ghost use Rattle.objects.specs.Pieces.{var_pieces, part_pieces, steps_pieces, object_pieces};
 ghost use Rattle.objects.specs.Selectors.{selectors_of};
 
 use crate::object::Object;
 use crate::selector::Selector;
 use arrayvec::ArrayVec;
-use c_unit::Var;
+use type_values::Var;
 
 /// A piece of the text of an object.
 #[derive(Clone, Copy, Default)]

@@ -5,7 +5,7 @@ ghost use Rattle.c_objects.specs.Objects.{same_selector};
 ghost use Rattle.objects.specs.Selectors.{selector_of};
 
 use crate::variables::same_var;
-use c_unit::Var;
+use type_values::Var;
 
 /// One step of a path.
 #[derive(Clone, Copy, Default)]

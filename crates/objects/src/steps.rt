@@ -4,13 +4,13 @@ ghost use Rattle.std.specs.Prelude.{◌≡◌, ◌++◌, ◌+◌, ◌≤◌, len
 ghost use Rattle.std.specs.Option.{option_map};
 ghost use Rattle.c_objects.specs.Objects.{ends_in_star, are_static, is_indexed_by};
 ghost use Rattle.c_objects.specs.Paths.{behind, has_access};
-ghost use Rattle.c_unit.specs.Vars.{cvar_of};
+ghost use Rattle.type_values.specs.Vars.{cvar_of};
 ghost use Rattle.objects.specs.Selectors.{selectors_of};
 
 use crate::selector::{Selector, same_selector};
 use crate::variables::{is_static_var, same_var};
 use arrayvec::ArrayVec;
-use c_unit::Var;
+use type_values::Var;
 
 /// Whether the last step is `*`.
 pub(crate) fn ends_in_star(steps: &[Selector]) -> bool

@@ -7,9 +7,9 @@ ghost use Rattle.c_objects.specs.Objects.{Deref, Field, path};
 ghost use Rattle.c_objects.specs.ObjectOf.{object_of, primary_object, operation_object, index_of, address_object, onward, onward_at};
 ghost use Rattle.c_objects.specs.Paths.{addressed};
 ghost use Rattle.c_tree.specs.Views.{node_of, primary_shape, operation_shape};
-ghost use Rattle.c_typing.specs.Options.{◌>?◌};
-ghost use Rattle.c_typing.specs.Types.{is_integer};
-ghost use Rattle.c_unit.specs.Vars.{cvar_of};
+ghost use Rattle.type_rules.specs.Options.{◌>?◌};
+ghost use Rattle.type_rules.specs.Types.{is_integer};
+ghost use Rattle.type_values.specs.Vars.{cvar_of};
 ghost use Rattle.objects.specs.Addresses.{primary_address, operation_address};
 ghost use Rattle.objects.specs.Selectors.{selector_of, selectors_of};
 ghost use Rattle.objects.specs.Units.{facts_in};
@@ -19,7 +19,7 @@ use crate::object::{Object, variable};
 use crate::paths::{addressed, append};
 use crate::selector::Selector;
 use c_tree::{Kind, Operation, Primary, TokenKind, Tree, UnaryOp};
-use c_unit::Var;
+use type_values::Var;
 use typed_unit::TypedUnit;
 
 // The variable behind a name.

@@ -2,9 +2,9 @@
 
 ghost use Rattle.std.specs.Prelude.{◌≡◌};
 ghost use Rattle.c_objects.specs.Objects.{same_var, is_static_var};
-ghost use Rattle.c_unit.specs.Vars.{cvar_of};
+ghost use Rattle.type_values.specs.Vars.{cvar_of};
 
-use c_unit::Var;
+use type_values::Var;
 
 /// Whether two variables are one.
 pub fn same_var(a: Var, b: Var) -> bool

@@ -1,3 +1,4 @@
 pub mod Values
 pub mod Numbers
 pub mod Reported
+pub mod EdgeSteps

@@ -2,20 +2,20 @@
 use Rattle.std.proofs.Common.{◌≡◌, ℕ, List, Option, None, Some, refl, sym, ap, ◌∙◌, cond}
 use Rattle.std.specs.Prelude.{slice_get}
 use Rattle.std.specs.Option.{option_map}
-use Rattle.c_paths.specs.Building.{Graph}
+use Rattle.flow_graph.specs.CPaths.Building.{Graph}
 use Rattle.c_tree.specs.Node.{Node}
 use Rattle.call_graph.specs.Followed.{machine_calls}
-use Rattle.checker_graphs.specs.Graphs.{flow_graphs, function_at}
-use Rattle.checker_model.specs.Checkers.{model}
-use Rattle.checker_model.specs.Happenings.{Function, Site}
-use Rattle.checker_model.specs.Reports.{Checker}
-use Rattle.checker_model.proofs.Sources.{given, untested}
-use Rattle.checker_programs.specs.Roots.{followed_into}
-use Rattle.checker_programs.specs.Texts.{functions_in, function_of, callee_of, table_of, site}
+use Rattle.path_model.specs.CheckerGraphs.Graphs.{flow_graphs, function_at}
+use Rattle.path_model.specs.CheckerModel.Checkers.{model}
+use Rattle.path_model.specs.CheckerModel.Happenings.{Function, Site}
+use Rattle.path_model.specs.CheckerModel.Reports.{Checker}
+use Rattle.path_model.proofs.CheckerModel.Sources.{given, untested}
+use Rattle.path_model.specs.CheckerPrograms.Roots.{followed_into}
+use Rattle.path_model.specs.CheckerPrograms.Texts.{functions_in, function_of, callee_of, table_of, site}
 use Rattle.typed_unit.specs.Texts.{Text}
-use Rattle.metal_machines.specs.Machine.{Machine}
-use Rattle.programs.specs.Calls.{body_called}
-use Rattle.tabulation_rules.specs.LeastSets.{HasNumbers}
+use Rattle.metal_tree.specs.MetalMachines.Machine.{Machine}
+use Rattle.call_graph.specs.OfPrograms.Calls.{body_called}
+use Rattle.path_theory.specs.TabulationRules.LeastSets.{HasNumbers}
 
 -- the function into which a call is followed is the one that it calls
 pub followed-callee : (m : Machine) (s : Site) (h : Function) → followed_into m s ≡ Some h → s.callee ≡ Some h

@@ -1,15 +1,15 @@
 -- A least list of edges shows exactly what the checker reports of the program.
 use Rattle.std.proofs.Common.{List, ◌↔◌}
 use Rattle.std.proofs.Math.Logic.{∥∥₁_map}
-use Rattle.c_paths.specs.Building.{Graph}
-use Rattle.checker_graphs.specs.Graphs.{AreGraphs, flow_graphs, function_at}
-use Rattle.checker_model.specs.Checkers.{model, origins}
-use Rattle.checker_model.specs.Reports.{Checker}
-use Rattle.checker_model.proofs.Laws.{local}
-use Rattle.checker_programs.specs.Paths.{program}
-use Rattle.checker_programs.specs.Relevant.{Relevant}
+use Rattle.flow_graph.specs.CPaths.Building.{Graph}
+use Rattle.path_model.specs.CheckerGraphs.Graphs.{AreGraphs, flow_graphs, function_at}
+use Rattle.path_model.specs.CheckerModel.Checkers.{model, origins}
+use Rattle.path_model.specs.CheckerModel.Reports.{Checker}
+use Rattle.path_model.proofs.CheckerModel.Laws.{local}
+use Rattle.path_model.specs.CheckerPrograms.Paths.{program}
+use Rattle.path_model.specs.CheckerPrograms.Relevant.{Relevant}
 use Rattle.typed_unit.specs.Texts.{Text}
-use Rattle.checker_graphs.proofs.GraphTraces.{graphs_report, closed_in_graphs}
+use Rattle.path_model.proofs.CheckerGraphs.GraphTraces.{graphs_report, closed_in_graphs}
 use Rattle.least_set.specs.Logs.{SomeGives}
 use Rattle.path_edges.specs.declared.edges.Edge.{Edge}
 use Rattle.path_edges.specs.Edges.{edge_in, context_in, waiter_in}
@@ -18,7 +18,7 @@ use Rattle.path_edges.proofs.Numbers.{have-numbers}
 use Rattle.path_edges.proofs.Values.{sound, complete}
 use Rattle.report_model.specs.declared.report.Report.{Report}
 use Rattle.path_theory.specs.Paths.{Reported}
-use Rattle.tabulation_rules.proofs.Squashed.{somehow_reported}
+use Rattle.path_theory.proofs.TabulationRules.Squashed.{somehow_reported}
 
 pub reported : (c : Checker) (ts : List Text) (gs : List Graph) → AreGraphs ts gs → (log : List Edge) → IsClosedLog c ts gs log → IsLeastLog c ts gs log
     → ∥ ((r : Report) → SomeGives (ShowsAt c ts gs) log r ↔ Reported (model c) (program c ts) r) ∥₁

@@ -1,19 +1,19 @@
 -- Edges, contexts and waiters stand for those of the theory, and each of these that follows has a value.
 use Rattle.std.proofs.Common.{◌≡◌, ℕ, List, None, Some, refl, sym, ap, ◌∙◌, subst}
 use Rattle.c_objects.specs.Objects.{Object}
-use Rattle.c_paths.specs.Building.{Graph}
-use Rattle.c_paths.specs.Events.{Event}
-use Rattle.c_paths.specs.Fragments.{Has}
-use Rattle.c_paths.specs.Graphs.{Calls}
+use Rattle.flow_graph.specs.CPaths.Building.{Graph}
+use Rattle.flow_graph.specs.CPaths.Events.{Event}
+use Rattle.flow_graph.specs.CPaths.Fragments.{Has}
+use Rattle.flow_graph.specs.CPaths.Graphs.{Calls}
 use Rattle.c_tree.specs.Node.{Node}
-use Rattle.c_typing.specs.Options.{if_there, ◌>?◌}
-use Rattle.checker_graphs.specs.Graphs.{flow_graphs, function_at, graph_at}
-use Rattle.checker_model.specs.Checkers.{model, origins}
-use Rattle.checker_model.specs.Choices.{State}
-use Rattle.checker_model.specs.Happenings.{Function, Site}
-use Rattle.checker_model.specs.Reports.{Checker}
-use Rattle.checker_programs.specs.Relevant.{Relevant}
-use Rattle.checker_programs.specs.Texts.{site}
+use Rattle.type_rules.specs.Options.{if_there, ◌>?◌}
+use Rattle.path_model.specs.CheckerGraphs.Graphs.{flow_graphs, function_at, graph_at}
+use Rattle.path_model.specs.CheckerModel.Checkers.{model, origins}
+use Rattle.path_model.specs.CheckerModel.Choices.{State}
+use Rattle.path_model.specs.CheckerModel.Happenings.{Function, Site}
+use Rattle.path_model.specs.CheckerModel.Reports.{Checker}
+use Rattle.path_model.specs.CheckerPrograms.Relevant.{Relevant}
+use Rattle.path_model.specs.CheckerPrograms.Texts.{site}
 use Rattle.typed_unit.specs.Texts.{Text}
 use Rattle.path_edges.specs.declared.edges.Context.{Context}
 use Rattle.path_edges.specs.declared.edges.Edge.{Edge}
@@ -22,8 +22,8 @@ use Rattle.path_edges.specs.Edges.{tuple_in, context_in, edge_in, waiter_in, cal
 use Rattle.path_edges.specs.Relations.{Begins, LeadsTo, WaitsAt, IsEndOf, IsWoken}
 use Rattle.path_theory.specs.Facts.{FactOf, NoObject, HasObject}
 use Rattle.state_tuples.specs.declared.tuple.Tuple.{Tuple}
-use Rattle.tabulation_rules.specs.Rules as rules
-use Rattle.tabulation_rules.specs.OwnValues.{AreSound, AreComplete, StandsFor}
+use Rattle.path_theory.specs.TabulationRules.Rules as rules
+use Rattle.path_theory.specs.TabulationRules.OwnValues.{AreSound, AreComplete, StandsFor}
 
 -- the values for what the theory names
 abbrev tuple_with : ℕ → FactOf Object State → Tuple

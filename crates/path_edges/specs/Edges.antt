@@ -1,22 +1,22 @@
 -- WHAT AN ENGINE'S VALUES STAND FOR.
 use Rattle.std.specs.Prelude.{ℕ, List, [], Option, None, Some}
 use Rattle.c_objects.specs.Objects.{Object}
-use Rattle.c_paths.specs.Building.{Graph}
-use Rattle.c_paths.specs.Graphs.{Ending, ToAny, Calls, Stops}
+use Rattle.flow_graph.specs.CPaths.Building.{Graph}
+use Rattle.flow_graph.specs.CPaths.Graphs.{Ending, ToAny, Calls, Stops}
 use Rattle.c_tree.specs.Node.{Node}
-use Rattle.c_typing.specs.Options.{if_there, ◌>?◌}
+use Rattle.type_rules.specs.Options.{if_there, ◌>?◌}
 use Rattle.std.specs.Prelude.{slice_get}
-use Rattle.checker_graphs.specs.Graphs.{function_at, graph_at}
-use Rattle.checker_model.specs.Choices.{State}
-use Rattle.checker_model.specs.Happenings.{Site}
-use Rattle.checker_programs.specs.Texts.{site}
+use Rattle.path_model.specs.CheckerGraphs.Graphs.{function_at, graph_at}
+use Rattle.path_model.specs.CheckerModel.Choices.{State}
+use Rattle.path_model.specs.CheckerModel.Happenings.{Site}
+use Rattle.path_model.specs.CheckerPrograms.Texts.{site}
 use Rattle.typed_unit.specs.Texts.{Text}
 use Rattle.path_edges.specs.declared.edges.Context.{Context}
 use Rattle.path_edges.specs.declared.edges.Edge.{Edge}
 use Rattle.path_edges.specs.declared.edges.Waiter.{Waiter}
 use Rattle.state_tuples.specs.declared.tuple.Tuple.{Tuple}
-use Rattle.tabulation_rules.specs.Rules as rules
-use Rattle.tuple_flows.specs.Facts.{fact_in}
+use Rattle.path_theory.specs.TabulationRules.Rules as rules
+use Rattle.block_flows.specs.TupleFlows.Facts.{fact_in}
 
 abbrev pub tuple_in : Tuple → rules.Tuple ℕ Object State
 tuple_in t = record { global = t.global; fact = fact_in t }

@@ -2,3 +2,4 @@ pub mod Equality
 pub mod Edges
 pub mod Relations
 pub mod Theorems
+pub mod EdgeSteps

@@ -1,10 +1,10 @@
 -- WHAT FOLLOWS, over an engine's values: what does by the rules of tabulation for those for which they stand.
 use Rattle.std.specs.Prelude.{◌≡◌, List, Contains}
-use Rattle.c_paths.specs.Building.{Graph}
-use Rattle.checker_graphs.specs.Graphs.{flow_graphs, function_at}
-use Rattle.checker_model.specs.Checkers.{model, origins}
-use Rattle.checker_model.specs.Reports.{Checker}
-use Rattle.checker_programs.specs.Relevant.{Relevant}
+use Rattle.flow_graph.specs.CPaths.Building.{Graph}
+use Rattle.path_model.specs.CheckerGraphs.Graphs.{flow_graphs, function_at}
+use Rattle.path_model.specs.CheckerModel.Checkers.{model, origins}
+use Rattle.path_model.specs.CheckerModel.Reports.{Checker}
+use Rattle.path_model.specs.CheckerPrograms.Relevant.{Relevant}
 use Rattle.typed_unit.specs.Texts.{Text}
 use Rattle.path_edges.specs.declared.edges.Context.{Context}
 use Rattle.path_edges.specs.declared.edges.Edge.{Edge}
@@ -12,7 +12,7 @@ use Rattle.path_edges.specs.declared.edges.Waiter.{Waiter}
 use Rattle.path_edges.specs.Edges.{context_in, edge_in, waiter_in}
 use Rattle.least_set.specs.TwoPremises.{Follows, Least}
 use Rattle.report_model.specs.declared.report.Report.{Report}
-use Rattle.tabulation_rules.specs.Rules.{Base, Goes, Waits, Ends, Wakes, ShowsReport}
+use Rattle.path_theory.specs.TabulationRules.Rules.{Base, Goes, Waits, Ends, Wakes, ShowsReport}
 
 module _ (c : Checker) (ts : List Text) (gs : List Graph) where
   abbrev pub Begins : Edge → Type 0

@@ -1,10 +1,10 @@
--- The theorem of this crate as a statement, which contracts can name.
+-- The theorem on edges as a statement, which contracts can name.
 use Rattle.std.specs.Prelude.{◌↔◌, List}
-use Rattle.c_paths.specs.Building.{Graph}
-use Rattle.checker_graphs.specs.Graphs.{AreGraphs}
-use Rattle.checker_model.specs.Checkers.{model}
-use Rattle.checker_model.specs.Reports.{Checker}
-use Rattle.checker_programs.specs.Paths.{program}
+use Rattle.flow_graph.specs.CPaths.Building.{Graph}
+use Rattle.path_model.specs.CheckerGraphs.Graphs.{AreGraphs}
+use Rattle.path_model.specs.CheckerModel.Checkers.{model}
+use Rattle.path_model.specs.CheckerModel.Reports.{Checker}
+use Rattle.path_model.specs.CheckerPrograms.Paths.{program}
 use Rattle.typed_unit.specs.Texts.{Text}
 use Rattle.least_set.specs.Logs.{SomeGives}
 use Rattle.path_edges.specs.declared.edges.Edge.{Edge}

@@ -2,8 +2,10 @@
 //! shows exactly what a checker reports of a program.
 #![tactic(auto)]
 
+mod edge_steps;
 mod edges;
 mod theorems;
 
+pub use edge_steps::{copy_context, copy_tuple, entered, first_edges, onward, waits_for, woken};
 pub use edges::{Context, Edge, Waiter};
 pub use theorems::least_edges_report;

@@ -1,4 +1,4 @@
--- The theorems of this crate as statements about all numbered checkers and programs, which contracts can name.
+-- These theorems as statements about all numbered checkers and programs, which contracts can name.
 -- The lemmas in `proofs/` have them for any model; each contract of `src/theorems.rt` names one.
 use Rattle.std.specs.Prelude.{◌≡◌, ℕ, Bool, true, false, IsTrue, Option, Some, List, ◌↔◌}
 use Rattle.std.specs.List.{Contains}

@@ -2,18 +2,18 @@
 use Rattle.std.proofs.Common.{◌≡◌, ℕ, ◌+◌, ◌<◌, List, [], ◌∷◌, ◌++◌, length, get_or, Some, slice_get, Bor, refl, ◌∙◌, sym, ap, subst, arith}
 use Rattle.std.proofs.lemmas.List.{length-map, map-append}
 use Rattle.std.proofs.lemmas.Option.{slice_get-get_or}
-use Rattle.c_paths.specs.SoundGraphs.{IsSoundGraph}
-use Rattle.c_typing.specs.Functions.{Defined}
-use Rattle.checker_graphs.specs.Graphs.{AreGraphs, AreFirstGraphs}
-use Rattle.checker_graphs.proofs.Building.{graphs-next, graphs-all}
+use Rattle.flow_graph.specs.CPaths.SoundGraphs.{IsSoundGraph}
+use Rattle.type_rules.specs.Functions.{Defined}
+use Rattle.path_model.specs.CheckerGraphs.Graphs.{AreGraphs, AreFirstGraphs}
+use Rattle.path_model.proofs.CheckerGraphs.Building.{graphs-next, graphs-all}
 use Rattle.typed_unit.specs.Texts.{texts_of}
 use Rattle.flow_graph.specs.Bodies.{HasTraces}
 use Rattle.flow_graph.specs.declared.graph.Graph.{Graph}
 use Rattle.flow_graph.specs.Seen.{graph_in}
-use Rattle.function_graphs.specs.Bodies.{definition_in}
-use Rattle.function_graphs.specs.Known.{facts_in}
+use Rattle.call_graph.specs.FunctionGraphs.Bodies.{definition_in}
+use Rattle.call_graph.specs.FunctionGraphs.Known.{facts_in}
 use Rattle.program_graphs.specs.Seen.{graphs_in}
-use Rattle.programs.specs.Definitions.{definitions, trees_in}
+use Rattle.call_graph.specs.OfPrograms.Definitions.{definitions, trees_in}
 use Rattle.typed_unit.specs.declared.typed_unit.TypedUnit.{TypedUnit}
 
 there : (ds : List Defined) (n : ℕ) → n < length ds → (d : Defined) × (slice_get ds n ≡ Some d)

@@ -1,6 +1,6 @@
 -- What a contract sees of the flow graphs of a program.
 use Rattle.std.specs.Prelude.{List, map}
-use Rattle.c_paths.specs.Building as building
+use Rattle.flow_graph.specs.CPaths.Building as building
 use Rattle.flow_graph.specs.declared.graph.Graph.{Graph}
 use Rattle.flow_graph.specs.Seen.{graph_in}
 

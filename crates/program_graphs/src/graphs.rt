@@ -1,13 +1,12 @@
 //! The flow graphs of all functions of a program.
 
 ghost use Rattle.std.specs.Prelude.{IfOk};
-ghost use Rattle.checker_graphs.specs.Graphs.{AreGraphs};
+ghost use Rattle.path_model.specs.CheckerGraphs.Graphs.{AreGraphs};
 ghost use Rattle.typed_unit.specs.Texts.{texts_of};
 ghost use Rattle.program_graphs.specs.Seen.{graphs_in};
 
+use call_graph::{FnId, Program, build};
 use flow_graph::Graph;
-use function_graphs::build;
-use programs::{FnId, Program};
 use std::alloc::{AllocError, Global};
 
 /// The flow graph of each function of a program, by its number: each has exactly the traces of its function. The only fault is want

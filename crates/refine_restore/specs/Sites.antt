@@ -2,11 +2,11 @@
 use Rattle.std.specs.Prelude.{ℕ, List, map, None, Option}
 use Rattle.std.specs.Option.{option_map}
 use Rattle.c_tree.specs.Views.{node_of}
-use Rattle.c_typing.specs.Vars.{CVar}
-use Rattle.c_unit.specs.declared.vars.Var.{Var}
-use Rattle.c_unit.specs.Vars.{cvar_of}
-use Rattle.checker_model.specs.Calls.{actuals_of}
-use Rattle.checker_model.specs.Happenings as happenings
+use Rattle.type_rules.specs.Vars.{CVar}
+use Rattle.type_values.specs.declared.vars.Var.{Var}
+use Rattle.type_values.specs.Vars.{cvar_of}
+use Rattle.path_model.specs.CheckerModel.Calls.{actuals_of}
+use Rattle.path_model.specs.CheckerModel.Happenings as happenings
 use Rattle.objects.specs.Units.{facts_in}
 use Rattle.refine_restore.specs.declared.site.Site.{Site}
 

@@ -5,19 +5,19 @@ ghost use Rattle.c_objects.specs.Facts.{Facts};
 ghost use Rattle.c_objects.specs.Objects.{path};
 ghost use Rattle.c_objects.specs.Paths.{rebase};
 ghost use Rattle.c_tree.specs.Views.{nodes_in};
-ghost use Rattle.c_typing.specs.Options.{◌>?◌};
-ghost use Rattle.c_unit.specs.Vars.{cvar_of};
-ghost use Rattle.checker_model.specs.Calls.{objects_of, first_of, behind_first, passed, into};
+ghost use Rattle.type_rules.specs.Options.{◌>?◌};
+ghost use Rattle.type_values.specs.Vars.{cvar_of};
+ghost use Rattle.path_model.specs.CheckerModel.Calls.{objects_of, first_of, behind_first, passed, into};
 ghost use Rattle.objects.specs.Origins.{origin_of};
 ghost use Rattle.objects.specs.Units.{facts_in};
 ghost use Rattle.refine_restore.specs.Sites.{formals_of, site_of};
 
 use crate::site::{Site, actuals};
 use c_tree::Tree;
-use c_unit::Var;
 use objects::{
     Object, Origin, are_static, is_object, is_static_var, object_of, rebase, same_var, variable,
 };
+use type_values::Var;
 use typed_unit::TypedUnit;
 
 // The source of an object behind a formal: what stands there behind the first of these actuals.

@@ -2,17 +2,17 @@
 
 ghost use Rattle.std.specs.Prelude.{◌≡◌, ◌≤◌, is_none};
 ghost use Rattle.c_tree.specs.Views.{nodes_in};
-ghost use Rattle.c_typing.specs.Options.{◌>?◌};
-ghost use Rattle.c_unit.specs.Vars.{cvar_of};
-ghost use Rattle.checker_model.specs.Calls.{objects_of, first_of, reaching, reached, out};
+ghost use Rattle.type_rules.specs.Options.{◌>?◌};
+ghost use Rattle.type_values.specs.Vars.{cvar_of};
+ghost use Rattle.path_model.specs.CheckerModel.Calls.{objects_of, first_of, reaching, reached, out};
 ghost use Rattle.objects.specs.Units.{facts_in};
 ghost use Rattle.refine_restore.specs.Sites.{formals_of, site_of};
 
 use crate::entries::behind_first;
 use crate::site::{Site, actuals};
 use c_tree::Tree;
-use c_unit::Var;
 use objects::{Object, are_static, copy, is_object, is_static, object_of, replaced, variable};
+use type_values::Var;
 use typed_unit::TypedUnit;
 
 // The object of the callee through which the first of these actuals reaches one of the caller.

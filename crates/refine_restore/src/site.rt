@@ -2,11 +2,11 @@
 
 ghost use Rattle.std.specs.Prelude.{◌≡◌, ℕ};
 ghost use Rattle.c_tree.specs.Views.{node_of, nodes_in};
-ghost use Rattle.checker_model.specs.Calls.{objects_of, actuals_of};
+ghost use Rattle.path_model.specs.CheckerModel.Calls.{objects_of, actuals_of};
 ghost use Rattle.c_objects.specs.Facts.{Facts};
 
 use c_tree::{Kind, Operation, Tree};
-use c_unit::Var;
+use type_values::Var;
 use typed_unit::TypedUnit;
 
 /// A call with the formals of its callee.

@@ -1,2 +1,4 @@
 pub mod Lines
 pub mod Order
+pub mod ReportLists
+pub mod OfReporters

@@ -1,10 +1,13 @@
-//! What a report is, in which order reports stand, and the line of one.
+//! What a report is, in which order reports stand, lists of them, and what takes reports and renders them, in the styles `table` and `json`.
 #![tactic(auto)]
 
 mod order;
 mod report;
+mod report_lists;
+mod reporters;
 #[cfg(test)]
 mod tests;
 
-pub use order::compare;
-pub use report::{Report, copy_report};
+pub use report::Report;
+pub use report_lists::sorted;
+pub use reporters::{JsonLines, Reporter, Table, place_of, render_at, write_line};

@@ -2,8 +2,7 @@
 
 use c_tree::Place;
 use mx_base::Text;
-use report_model::Report;
-use reporters::{JsonLines, Reporter, Table, place_of, render_at, write_line};
+use report_model::{JsonLines, Report, Reporter, Table, place_of, render_at, write_line};
 use std::alloc::{AllocError, Global};
 use std::test::Fail;
 

@@ -1,7 +1,7 @@
 -- Small requests, computed: the turns of their files, what may still come behind files, and which faults a file can have.
 use Rattle.std.proofs.Common.{◌≡◌, ℕ, List, [], ◌∷◌, Option, codes, refl}
-use Rattle.checker_front_end.specs.declared.fault.CheckerFault.TheVariants as checker
-use Rattle.front_end.specs.declared.fault.Fault.TheVariants as text
+use Rattle.metal_reader.specs.declared.checker_front_end.fault.CheckerFault.TheVariants as checker
+use Rattle.request_files.specs.declared.front_end.fault.Fault.TheVariants as text
 use Rattle.request_files.specs.Faults.{HasFault, at_start, fault_name}
 use Rattle.request_files.specs.Reading.{AreSound, left_after}
 use Rattle.request_files.specs.Turns.{turns, checker_turn, source_turn}

@@ -3,7 +3,7 @@ use Rattle.std.proofs.Common.{◌≡◌, ℕ, zero, suc, ◌+◌, ◌-◌, ◌<�
 use Rattle.std.specs.Borrow.{Bor}
 use Rattle.mx_io.specs.Reads.{Stands}
 use Rattle.typed_unit.specs.Texts.{Text}
-use Rattle.metal_machines.specs.Machine.{Machine}
+use Rattle.metal_tree.specs.MetalMachines.Machine.{Machine}
 use Rattle.request_files.specs.Faults.{Located, HasFault, total_limit}
 use Rattle.request_files.specs.InTurn.{AnswersRequest, AnswersUnread, AreRead, AreReadCheckers, AreReadSources, AreReadFiles, IsTurnFrom, FailedFrom, FaultyFrom}
 use Rattle.request_files.specs.Meanings.{AreFirst}

@@ -2,19 +2,19 @@
 use Rattle.std.proofs.Common.{◌≡◌, ◌≤◌, ◌+◌, ℕ, zero, suc, ◌⊎◌, inl, inr, Bool, true, false, ◌==◌, if◌then◌else◌, List, [], ◌∷◌, length, min, Option, None, Some, refl, sym, ap, ◌∙◌, subst, arith}
 use Rattle.c_tree.specs.declared.place.Place.{Place}
 use Rattle.c_tree.specs.declared.token.Token.{Token}
-use Rattle.c_reading.specs.declared.mode.Mode.{Mode}
-use Rattle.c_reading.specs.Pieces.{Piece}
-use Rattle.c_reading.specs.Reading.{Lexeme}
-use Rattle.c_reading.specs.Strip.{stripped, stripped_behind, if_dropped, dropped_with, kept}
+use Rattle.c_lexer.specs.declared.c_reading.mode.Mode.{Mode}
+use Rattle.c_lexer.specs.CReading.Pieces.{Piece}
+use Rattle.c_lexer.specs.CReading.Reading.{Lexeme}
+use Rattle.c_lexer.specs.CReading.Strip.{stripped, stripped_behind, if_dropped, dropped_with, kept}
 use Rattle.c_lexer.specs.Tokens.{TokenList, AreTokens, Lexes, position_of}
 use Rattle.c_lexer.specs.declared.fault.Spot.{Spot}
-use Rattle.checker_front_end.specs.Checkers as checkers
-use Rattle.checker_front_end.specs.declared.fault.Faulty as found_in_checker
-use Rattle.front_end.specs.declared.fault.Fault.{Fault}
-use Rattle.front_end.specs.declared.fault.Fault.TheVariants.{Syntax}
-use Rattle.front_end.specs.declared.fault.Faulty.{Faulty}
-use Rattle.front_end.specs.Faults.{of_typing, place_of}
-use Rattle.front_end.specs.Sources.{AreTokensOf, HasNoTrees, HasNoTypes, stands_at}
+use Rattle.metal_reader.specs.CheckerFrontEnd.Checkers as checkers
+use Rattle.metal_reader.specs.declared.checker_front_end.fault.Faulty as found_in_checker
+use Rattle.request_files.specs.declared.front_end.fault.Fault.{Fault}
+use Rattle.request_files.specs.declared.front_end.fault.Fault.TheVariants.{Syntax}
+use Rattle.request_files.specs.declared.front_end.fault.Faulty.{Faulty}
+use Rattle.request_files.specs.FrontEnd.Faults.{of_typing, place_of}
+use Rattle.request_files.specs.FrontEnd.Sources.{AreTokensOf, HasNoTrees, HasNoTypes, stands_at}
 use Rattle.request_files.specs.Faults.{without_dropped, HasNoUnitAt}
 use Rattle.request_files.specs.Stages.{IsNamed, AreNamed, AreKnown}
 

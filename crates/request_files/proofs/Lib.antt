@@ -5,3 +5,4 @@ mod Turns
 mod Looping
 mod Joined
 mod Examples
+pub mod FrontEnd

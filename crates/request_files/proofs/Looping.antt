@@ -4,7 +4,7 @@ use Rattle.std.specs.Borrow.{Bor, MutBor}
 use Rattle.std.specs.Slice.Iter.{iter_mut_rest, iter_mut_steps}
 use Rattle.std.specs.declared.slice.IterMut.{IterMut}
 use Rattle.mx_base.specs.Names.{AddsAtMost, HasNoRepeats}
-use Rattle.metal_building.specs.Places.{HasPlaces}
+use Rattle.metal_numbers.specs.MetalBuilding.Places.{HasPlaces}
 use Rattle.metal_tree.specs.Whole.{machine_view}
 use Rattle.metal_tree.specs.declared.machine.Machine.{Machine}
 use Rattle.mx_io.specs.Reads.{Stands}

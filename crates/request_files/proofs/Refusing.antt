@@ -1,16 +1,16 @@
 -- Files that have a fault, from what their readers answer.
 use Rattle.std.proofs.Common.{◌≡◌, ◌≤◌, ℕ, ◌⊎◌, inl, inr, List, length, min, refl, sym, subst, arith}
 use Rattle.mx_base.specs.Names.{HasNoRepeats}
-use Rattle.c_reading.specs.Strip.{stripped}
+use Rattle.c_lexer.specs.CReading.Strip.{stripped}
 use Rattle.c_lexer.specs.Tokens.{TokenList}
-use Rattle.checker_front_end.specs.Checkers as checkers
-use Rattle.checker_front_end.specs.declared.fault.Faulty as found_in_checker
-use Rattle.checker_front_end.specs.declared.fault.Refusal as checker_refusal
-use Rattle.checker_front_end.specs.declared.fault.Refusal.TheVariants as checker_refusals
-use Rattle.front_end.specs.declared.fault.Faulty.{Faulty}
-use Rattle.front_end.specs.declared.fault.Refusal.{Refusal}
-use Rattle.front_end.specs.declared.fault.Refusal.TheVariants as refusals
-use Rattle.front_end.specs.Sources.{AreTokensOf, HasNoTokens, HasNoTrees, HasNoTypes}
+use Rattle.metal_reader.specs.CheckerFrontEnd.Checkers as checkers
+use Rattle.metal_reader.specs.declared.checker_front_end.fault.Faulty as found_in_checker
+use Rattle.metal_reader.specs.declared.checker_front_end.fault.Refusal as checker_refusal
+use Rattle.metal_reader.specs.declared.checker_front_end.fault.Refusal.TheVariants as checker_refusals
+use Rattle.request_files.specs.declared.front_end.fault.Faulty.{Faulty}
+use Rattle.request_files.specs.declared.front_end.fault.Refusal.{Refusal}
+use Rattle.request_files.specs.declared.front_end.fault.Refusal.TheVariants as refusals
+use Rattle.request_files.specs.FrontEnd.Sources.{AreTokensOf, HasNoTokens, HasNoTrees, HasNoTypes}
 use Rattle.metal_reader.specs.Faults.{IsLexed}
 use Rattle.request_files.specs.Faults.{HasFault, HasFaultOf, HasFaultInChecker, HasFaultInText, HasNoUnitAt, file_limit}
 use Rattle.request_files.specs.Stages.{IsNamed, AreKnown, IsKnown, IsKnownChecker, IsLocated, IsInText, IsInChecker, HasNoUnit, IsUnread}

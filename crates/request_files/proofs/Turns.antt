@@ -4,7 +4,7 @@ use Rattle.std.proofs.lemmas.List.{append_assoc, append-nil}
 use Rattle.mx_base.specs.Names.{AddsAtMost, HasNoRepeats}
 use Rattle.mx_io.specs.Reads.{Stands}
 use Rattle.typed_unit.specs.Texts.{Text}
-use Rattle.metal_machines.specs.Machine.{Machine}
+use Rattle.metal_tree.specs.MetalMachines.Machine.{Machine}
 use Rattle.request_files.specs.Faults.{Located, HasFault}
 use Rattle.request_files.specs.InTurn.{AreRead, AreReadCheckers, AreReadSources, IsTurnFrom, FailedFrom, FaultyFrom}
 use Rattle.request_files.specs.Meanings.{AreFirst, HasMachine, HaveMachines, HasText, HaveTexts}

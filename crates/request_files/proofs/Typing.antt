@@ -3,10 +3,10 @@ use Rattle.std.proofs.Common.{◌≡◌, List, [], ◌∷◌, Option, None, Some
 use Rattle.std.proofs.Math.Logic.{∥∥₁_elim, ∥∥₁_map}
 use Rattle.std.specs.Option.{option_map}
 use Rattle.c_tree.specs.Node.{Nodes}
-use Rattle.c_typing.specs.Definition.{Cell, Table, Meeting, In, Out, first_fault, at, number_of, type_of, var_at, is_kept, IsRight, AreRight, HasCell}
-use Rattle.c_typing.specs.Types.{CType}
-use Rattle.c_typing.specs.Unit.{IsTyping, places_of}
-use Rattle.c_typing.specs.Vars.{CVar}
+use Rattle.type_rules.specs.Definition.{Cell, Table, Meeting, In, Out, first_fault, at, number_of, type_of, var_at, is_kept, IsRight, AreRight, HasCell}
+use Rattle.type_rules.specs.Types.{CType}
+use Rattle.type_rules.specs.Unit.{IsTyping, places_of}
+use Rattle.type_rules.specs.Vars.{CVar}
 use Rattle.typed_unit.proofs.Sets.{maybe-type-set, maybe-variable-set}
 
 abbrev cell_type : Option Cell → Option CType

@@ -2,16 +2,16 @@
 use Rattle.std.specs.Prelude.{◌≡◌, ◌⊎◌, ℕ, ◌<◌, ◌≤◌, min, List, [], ◌∷◌, ◌++◌, length, codes, Some, slice_get}
 use Rattle.std.specs.Fmt.{decimal}
 use Rattle.mx_base.specs.Names.{HasNoRepeats}
-use Rattle.c_reading.specs.Strip.{stripped}
+use Rattle.c_lexer.specs.CReading.Strip.{stripped}
 use Rattle.c_lexer.specs.Tokens.{TokenList}
-use Rattle.checker_front_end.specs.Checkers.{HasCheckerFault}
-use Rattle.checker_front_end.specs.Faults as checker
-use Rattle.checker_front_end.specs.declared.fault.CheckerFault.{CheckerFault}
-use Rattle.checker_front_end.specs.declared.fault.Faulty as found_in_checker
-use Rattle.front_end.specs.Faults as text
-use Rattle.front_end.specs.Sources.{AreTokensOf, HasNoTokens, HasNoTrees, HasNoTypes}
-use Rattle.front_end.specs.declared.fault.Fault as text_fault
-use Rattle.front_end.specs.declared.fault.Faulty as found_in_text
+use Rattle.metal_reader.specs.CheckerFrontEnd.Checkers.{HasCheckerFault}
+use Rattle.metal_reader.specs.CheckerFrontEnd.Faults as checker
+use Rattle.metal_reader.specs.declared.checker_front_end.fault.CheckerFault.{CheckerFault}
+use Rattle.metal_reader.specs.declared.checker_front_end.fault.Faulty as found_in_checker
+use Rattle.request_files.specs.FrontEnd.Faults as text
+use Rattle.request_files.specs.FrontEnd.Sources.{AreTokensOf, HasNoTokens, HasNoTrees, HasNoTypes}
+use Rattle.request_files.specs.declared.front_end.fault.Fault as text_fault
+use Rattle.request_files.specs.declared.front_end.fault.Faulty as found_in_text
 use Rattle.request_files.specs.Turns.{Kind, CheckerFile, SourceFile, Turn}
 use Rattle.request_files.specs.declared.fault.Fault.{Fault}
 use Rattle.request_files.specs.declared.fault.Fault.TheVariants.{TooLarge, InChecker, InText, DuplicateFunction}

@@ -1,7 +1,7 @@
 -- THE FILES OF ONE KIND, read in turn, where so many bytes may come.
 use Rattle.std.specs.Prelude.{◌≡◌, ℕ, ◌+◌, List, [], ◌∷◌, ◌++◌, length, map, slice_get, Option, Some}
 use Rattle.typed_unit.specs.Texts.{Text}
-use Rattle.metal_machines.specs.Machine.{Machine}
+use Rattle.metal_tree.specs.MetalMachines.Machine.{Machine}
 use Rattle.mx_io.specs.Reads.{Stands}
 use Rattle.request_files.specs.Faults.{Located, HasFault}
 use Rattle.request_files.specs.Meanings.{HaveMachines, HaveTexts}

@@ -5,3 +5,4 @@ pub mod Reading
 pub mod Views
 pub mod Stages
 pub mod InTurn
+pub mod FrontEnd

@@ -1,13 +1,13 @@
 -- WHAT FILES MEAN: a checker's is a machine, a C file's a text, under a table of names.
 use Rattle.std.specs.Prelude.{◌≡◌, ◌+◌, ℕ, List, [], ◌∷◌, ◌++◌}
 use Rattle.mx_base.specs.Names.{HasNoRepeats}
-use Rattle.c_reading.specs.Strip.{stripped}
+use Rattle.c_lexer.specs.CReading.Strip.{stripped}
 use Rattle.c_lexer.specs.Tokens.{TokenList}
-use Rattle.c_typing.specs.Unit.{IsTyping}
-use Rattle.checker_front_end.specs.Checkers.{IsChecker}
+use Rattle.type_rules.specs.Unit.{IsTyping}
+use Rattle.metal_reader.specs.CheckerFrontEnd.Checkers.{IsChecker}
 use Rattle.typed_unit.specs.Texts.{Text}
-use Rattle.front_end.specs.Sources.{AreTokensOf, AreTypedTrees}
-use Rattle.metal_machines.specs.Machine.{Machine}
+use Rattle.request_files.specs.FrontEnd.Sources.{AreTokensOf, AreTypedTrees}
+use Rattle.metal_tree.specs.MetalMachines.Machine.{Machine}
 use Rattle.request_files.specs.Turns.{Kind, CheckerFile, SourceFile}
 
 -- the bytes of the C file with this number are the text

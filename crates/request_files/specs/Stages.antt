@@ -2,15 +2,15 @@
 use Rattle.std.specs.Prelude.{◌≡◌, ℕ, ◌≤◌, ◌<◌, min, List, [], ◌∷◌, ◌++◌, length, slice_get, Option, Some, Result, Ok, Err, Vec}
 use Rattle.c_lexer.specs.Tokens.{TokenList}
 use Rattle.c_tree.specs.declared.token.Token.{Token}
-use Rattle.checker_front_end.specs.Checkers.{IsChecker}
-use Rattle.checker_front_end.specs.declared.fault.Faulty as found_in_checker
-use Rattle.checker_front_end.specs.declared.fault.Refusal as checker_refusal
-use Rattle.checker_front_end.specs.declared.fault.Refusal.TheVariants as checker_refusals
+use Rattle.metal_reader.specs.CheckerFrontEnd.Checkers.{IsChecker}
+use Rattle.metal_reader.specs.declared.checker_front_end.fault.Faulty as found_in_checker
+use Rattle.metal_reader.specs.declared.checker_front_end.fault.Refusal as checker_refusal
+use Rattle.metal_reader.specs.declared.checker_front_end.fault.Refusal.TheVariants as checker_refusals
 use Rattle.typed_unit.specs.Texts.{Text}
-use Rattle.front_end.specs.declared.fault.Faulty as found_in_text
-use Rattle.front_end.specs.declared.fault.Refusal as text_refusal
-use Rattle.front_end.specs.declared.fault.Refusal.TheVariants as text_refusals
-use Rattle.metal_machines.specs.Machine.{Machine}
+use Rattle.request_files.specs.declared.front_end.fault.Faulty as found_in_text
+use Rattle.request_files.specs.declared.front_end.fault.Refusal as text_refusal
+use Rattle.request_files.specs.declared.front_end.fault.Refusal.TheVariants as text_refusals
+use Rattle.metal_tree.specs.MetalMachines.Machine.{Machine}
 use Rattle.mx_io.specs.Reads.{Stands}
 use Rattle.request_files.specs.Faults.{HasFault, HasNoUnitAt, at_start, file_limit}
 use Rattle.request_files.specs.Meanings.{IsSource}

@@ -3,7 +3,7 @@ use Rattle.std.specs.Prelude.{ℕ, List, map}
 use Rattle.std.specs.Borrow.{Bor}
 use Rattle.typed_unit.specs.Texts.{Text}
 pub use Rattle.typed_unit.specs.Texts.{text_of}
-use Rattle.metal_machines.specs.Machine as machines
+use Rattle.metal_tree.specs.MetalMachines.Machine as machines
 use Rattle.metal_tree.specs.Whole.{machine_view}
 use Rattle.metal_tree.specs.declared.machine.Machine.{Machine}
 use Rattle.request_files.specs.Faults.{Located}

@@ -2,8 +2,8 @@
 
 ghost use Rattle.std.specs.Prelude.{◌≡◌, ◌≤◌, ◌^◌, ◌+◌, ◌*◌, ℕ, Some, length, slice_get, IfOk, IfErr, OnOk};
 ghost use Rattle.mx_base.specs.Names.{AddsAtMost, HasNoRepeats};
-ghost use Rattle.checker_front_end.specs.Checkers.{IsChecker};
-ghost use Rattle.metal_building.specs.Places.{HasPlaces};
+ghost use Rattle.metal_reader.specs.CheckerFrontEnd.Checkers.{IsChecker};
+ghost use Rattle.metal_numbers.specs.MetalBuilding.Places.{HasPlaces};
 ghost use Rattle.metal_tree.specs.Whole.{machine_view};
 ghost use Rattle.metal_tree.specs.declared.machine.Machine.{Machine as MachineValue};
 ghost use Rattle.request_files.specs.InTurn.{AnswersUnread, AreReadCheckers};
@@ -18,7 +18,7 @@ use crate::stopped::{Stopped, at_start, in_checker};
 use crate::unread::Unread;
 use bumpalo::Bump;
 use c_lexer::Tokens;
-use checker_front_end::{read_checker, read_tokens};
+use metal_reader::{read_checker, read_tokens};
 use metal_tree::Machine;
 use mx_base::Names;
 use mx_io::Files;

@@ -3,8 +3,8 @@
 ghost use Rattle.std.specs.Prelude.{◌≡◌};
 ghost use Rattle.request_files.specs.Faults.{fault_name};
 
-use checker_front_end::CheckerFault;
-use front_end::Fault as TextFault;
+use crate::front_end::Fault as TextFault;
+use metal_reader::CheckerFault;
 
 /// A fault of a file. Its name stands in the line of the refusal.
 #[derive(Clone, Copy, Debug, PartialEq, Eq)]

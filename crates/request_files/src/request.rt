@@ -2,7 +2,7 @@
 
 ghost use Rattle.std.specs.Prelude.{◌≡◌, ◌≤◌, ◌^◌, ℕ, Some, length, slice_get, IfOk, IfErr, OnOk};
 ghost use Rattle.mx_base.specs.Names.{HasNoRepeats};
-ghost use Rattle.metal_building.specs.Places.{HasPlaces};
+ghost use Rattle.metal_numbers.specs.MetalBuilding.Places.{HasPlaces};
 ghost use Rattle.metal_tree.specs.declared.machine.Machine.{Machine as MachineValue};
 ghost use Rattle.request_files.specs.InTurn.{AnswersRequest, AreReadFiles};
 ghost use Rattle.request_files.specs.Turns.{turns};

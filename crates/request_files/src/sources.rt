@@ -2,10 +2,10 @@
 
 ghost use Rattle.std.specs.Prelude.{◌≡◌, ◌≤◌, ◌^◌, ◌+◌, ◌*◌, ℕ, Some, length, slice_get, IfOk, IfErr, OnOk};
 ghost use Rattle.mx_base.specs.Names.{AddsAtMost, HasNoRepeats};
-ghost use Rattle.c_reading.specs.Strip.{stripped};
+ghost use Rattle.c_lexer.specs.CReading.Strip.{stripped};
 ghost use Rattle.c_tree.specs.Views.{nodes_of};
-ghost use Rattle.c_typing.specs.Unit.{IsTyping};
-ghost use Rattle.front_end.specs.Sources.{AreTypedTrees};
+ghost use Rattle.type_rules.specs.Unit.{IsTyping};
+ghost use Rattle.request_files.specs.FrontEnd.Sources.{AreTypedTrees};
 ghost use Rattle.request_files.specs.InTurn.{AnswersUnread, AreReadSources};
 ghost use Rattle.request_files.specs.Meanings.{AreFirst, IsSource};
 ghost use Rattle.request_files.specs.Stages.{AnswersStopped, AreKnown, HasLoadedSource, HasNoUnit, IsUnread, failed_after_stop};
@@ -16,11 +16,11 @@ ghost use Rattle.typed_unit.specs.declared.typed_unit.TypedUnit.{TypedUnit as Un
 
 use crate::fault::Fault;
 use crate::file::{Missing, read_file};
+use crate::front_end::{read_tokens, read_typed};
 use crate::stopped::{Stopped, at_start, in_text};
 use crate::unread::Unread;
 use bumpalo::Bump;
 use c_lexer::{Tokens, strip};
-use front_end::{read_tokens, read_typed};
 use mx_base::Names;
 use mx_io::Files;
 use std::alloc::Global;

@@ -4,8 +4,8 @@ ghost use Rattle.std.specs.Prelude.{◌≡◌};
 ghost use Rattle.request_files.specs.Stages.{IsAtStart, IsInChecker, IsInText, IsKnown, IsKnownChecker, IsNamed, IsThere};
 
 use crate::fault::{Fault, LocatedFault};
-use checker_front_end::Refusal as CheckerRefusal;
-use front_end::Refusal as TextRefusal;
+use crate::front_end::Refusal as TextRefusal;
+use metal_reader::Refusal as CheckerRefusal;
 use mx_base::Names;
 use std::alloc::Global;
 

@@ -2,15 +2,15 @@
 use Rattle.std.proofs.Common.{arith, Result, Ok, Err, IfOk, ◌≡◌, inl, inr, ⊎_elim, ℕ, zero, suc, ◌<◌, List, length, sym, subst}
 use Rattle.std.proofs.Math.Logic.{∥∥₁_map}
 use Rattle.std.proofs.lemmas.Option.{slice_get_within, slice_get_cases}
-use Rattle.checker_programs.specs.Roots as program
-use Rattle.checker_programs.specs.Roots.{Leads, Itself, Onward}
-use Rattle.checker_programs.specs.Texts.{functions_in}
+use Rattle.path_model.specs.CheckerPrograms.Roots as program
+use Rattle.path_model.specs.CheckerPrograms.Roots.{Leads, Itself, Onward}
+use Rattle.path_model.specs.CheckerPrograms.Texts.{functions_in}
 use Rattle.typed_unit.specs.Texts.{Text}
-use Rattle.graph_roots.specs.declared.callees.Callees.{Callees}
-use Rattle.graph_roots.specs.Graphs as graph
-use Rattle.graph_roots.specs.Graphs.{LeadsIn}
-use Rattle.graph_roots.specs.Listed.{AreListed}
-use Rattle.metal_machines.specs.Machine.{Machine}
+use Rattle.least_set.specs.declared.graph_roots.callees.Callees.{Callees}
+use Rattle.least_set.specs.GraphRoots.Graphs as graph
+use Rattle.least_set.specs.GraphRoots.Graphs.{LeadsIn}
+use Rattle.least_set.specs.GraphRoots.Listed.{AreListed}
+use Rattle.metal_tree.specs.MetalMachines.Machine.{Machine}
 use Rattle.root_functions.specs.Callees.{HaveCallees}
 use Rattle.root_functions.specs.Roots.{AreRoots}
 

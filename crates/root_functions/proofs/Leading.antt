@@ -2,26 +2,26 @@
 use Rattle.std.proofs.Common.{◌≡◌, ◌↔◌, ℕ, List, Bool, true, false, cond, Option, None, Some, Result, Ok, Err, IfOk, is_some, Contains, slice_get, Bor, refl, sym, ap, ◌∙◌, subst}
 use Rattle.std.proofs.Math.Logic.{∥∥₁_map}
 use Rattle.std.proofs.lemmas.Option.{same_Some}
-use Rattle.c_paths.specs.Events.{called}
-use Rattle.c_paths.specs.Facts.{Facts}
-use Rattle.c_paths.specs.Occurrences.{InFlow}
-use Rattle.c_paths.specs.TreeFlow.{flow_of}
+use Rattle.flow_graph.specs.CPaths.Events.{called}
+use Rattle.flow_graph.specs.CPaths.Facts.{Facts}
+use Rattle.flow_graph.specs.CPaths.Occurrences.{InFlow}
+use Rattle.flow_graph.specs.CPaths.TreeFlow.{flow_of}
 use Rattle.c_tree.specs.declared.place.Place.{Place}
 use Rattle.c_tree.specs.Node.{Node}
-use Rattle.c_typing.specs.Definition.{Table}
-use Rattle.c_typing.specs.Functions.{Defined}
-use Rattle.c_typing.specs.Options.{◌>?◌}
+use Rattle.type_rules.specs.Definition.{Table}
+use Rattle.type_rules.specs.Functions.{Defined}
+use Rattle.type_rules.specs.Options.{◌>?◌}
 use Rattle.call_graph.specs.Followed.{machine_calls, body_followed, followed}
-use Rattle.checker_programs.specs.Roots.{Leads}
-use Rattle.checker_programs.specs.Texts.{functions_in, table_of, flow_facts, function_of}
+use Rattle.path_model.specs.CheckerPrograms.Roots.{Leads}
+use Rattle.path_model.specs.CheckerPrograms.Texts.{functions_in, table_of, flow_facts, function_of}
 use Rattle.typed_unit.specs.Texts.{texts_of}
-use Rattle.function_graphs.specs.Known.{facts_in}
-use Rattle.graph_roots.specs.declared.callees.Callees.{Callees}
+use Rattle.call_graph.specs.FunctionGraphs.Known.{facts_in}
+use Rattle.least_set.specs.declared.graph_roots.callees.Callees.{Callees}
 use Rattle.least_set.specs.Logs.{IsExactly}
-use Rattle.metal_machines.specs.Machine.{Machine}
-use Rattle.programs.specs.Bodies.{body_of}
-use Rattle.programs.specs.Calls.{called_name, body_called, table_in}
-use Rattle.programs.specs.Definitions.{definitions, trees_in}
+use Rattle.metal_tree.specs.MetalMachines.Machine.{Machine}
+use Rattle.call_graph.specs.OfPrograms.Bodies.{body_of}
+use Rattle.call_graph.specs.OfPrograms.Calls.{called_name, body_called, table_in}
+use Rattle.call_graph.specs.OfPrograms.Definitions.{definitions, trees_in}
 use Rattle.root_functions.specs.Callees.{FollowedBy}
 use Rattle.root_functions.proofs.Texts.{same_functions, same_table, same_facts}
 use Rattle.typed_unit.specs.declared.typed_unit.TypedUnit.{TypedUnit}

@@ -11,13 +11,13 @@ use Rattle.c_tree.specs.Views.{node_of}
 use Rattle.call_graph.specs.Followed.{followed}
 use Rattle.call_sites.specs.Calls.{nodes_at}
 use Rattle.typed_unit.specs.Texts.{Text}
-use Rattle.graph_roots.specs.declared.callees.Callees.{Callees}
+use Rattle.least_set.specs.declared.graph_roots.callees.Callees.{Callees}
 use Rattle.least_set.specs.Logs.{IsExactly, SomeGives}
 use Rattle.least_set.proofs.Enumerating.{exactly_more, exactly_skip}
-use Rattle.metal_machines.specs.Machine.{Machine}
-use Rattle.programs.specs.declared.functions.FnId.{FnId}
-use Rattle.programs.specs.Calls.{table_in}
-use Rattle.programs.specs.Definitions.{definitions, trees_in}
+use Rattle.metal_tree.specs.MetalMachines.Machine.{Machine}
+use Rattle.call_graph.specs.declared.programs.functions.FnId.{FnId}
+use Rattle.call_graph.specs.OfPrograms.Calls.{table_in}
+use Rattle.call_graph.specs.OfPrograms.Definitions.{definitions, trees_in}
 use Rattle.root_functions.specs.Callees.{listed, FollowedBy, Leads, AreBelow, HaveCallees, LeadBelow}
 use Rattle.typed_unit.specs.declared.typed_unit.TypedUnit.{TypedUnit}
 

@@ -5,20 +5,20 @@ use Rattle.std.specs.Option.{option_map}
 use Rattle.c_tree.specs.declared.token.Token.{Token}
 use Rattle.c_tree.specs.Node.{Node, node, Primary, Operation, Initializer, Specifier, Declarator, Part, Outer, Statement, Iteration, Jump, Declaration, Function, Empty, Nodes, no_more, more}
 use Rattle.c_tree.specs.Views.{nodes_of}
-use Rattle.c_typing.specs.Declarators.{name_of}
-use Rattle.c_typing.specs.Definition.{after}
-use Rattle.c_typing.specs.Functions as typing
-use Rattle.c_typing.specs.Functions.{Defined, defined, defined_in, functions_of}
-use Rattle.c_typing.specs.Options.{if_there}
-use Rattle.c_typing.specs.Parts.{flat}
-use Rattle.c_typing.specs.Roles.{Plain}
-use Rattle.c_typing.specs.Scopes.{Scopes, at_start}
-use Rattle.c_paths.specs.Facts.{Facts}
-use Rattle.checker_programs.specs.Texts.{functions_in, table_of, flow_facts, function_of}
+use Rattle.type_rules.specs.Declarators.{name_of}
+use Rattle.type_rules.specs.Definition.{after}
+use Rattle.type_rules.specs.Functions as typing
+use Rattle.type_rules.specs.Functions.{Defined, defined, defined_in, functions_of}
+use Rattle.type_rules.specs.Options.{if_there}
+use Rattle.type_rules.specs.Parts.{flat}
+use Rattle.type_rules.specs.Roles.{Plain}
+use Rattle.type_rules.specs.Scopes.{Scopes, at_start}
+use Rattle.flow_graph.specs.CPaths.Facts.{Facts}
+use Rattle.path_model.specs.CheckerPrograms.Texts.{functions_in, table_of, flow_facts, function_of}
 use Rattle.typed_unit.specs.Texts.{texts_of}
-use Rattle.function_graphs.specs.Known.{facts_of, facts_in}
-use Rattle.programs.specs.Calls.{table_in}
-use Rattle.programs.specs.Definitions.{definitions, trees_in}
+use Rattle.call_graph.specs.FunctionGraphs.Known.{facts_of, facts_in}
+use Rattle.call_graph.specs.OfPrograms.Calls.{table_in}
+use Rattle.call_graph.specs.OfPrograms.Definitions.{definitions, trees_in}
 use Rattle.typed_unit.specs.declared.typed_unit.TypedUnit.{TypedUnit}
 
 same_trees : (units : List (Bor TypedUnit)) → map (λ t. t.trees) (texts_of units) ≡ trees_in units

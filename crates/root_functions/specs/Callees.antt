@@ -3,14 +3,14 @@ use Rattle.std.specs.Prelude.{◌≡◌, ℕ, ◌<◌, List, [], ◌∷◌, Opti
 use Rattle.std.specs.Borrow.{Bor}
 use Rattle.c_tree.specs.Node.{Node}
 use Rattle.call_graph.specs.Followed.{followed}
-pub use Rattle.checker_programs.specs.Roots.{Leads}
+pub use Rattle.path_model.specs.CheckerPrograms.Roots.{Leads}
 use Rattle.typed_unit.specs.Texts.{Text}
-use Rattle.graph_roots.specs.declared.callees.Callees.{Callees}
-use Rattle.graph_roots.specs.Graphs.{LeadsIn}
+use Rattle.least_set.specs.declared.graph_roots.callees.Callees.{Callees}
+use Rattle.least_set.specs.GraphRoots.Graphs.{LeadsIn}
 use Rattle.least_set.specs.Logs.{IsExactly, SomeGives}
-use Rattle.metal_machines.specs.Machine.{Machine}
-use Rattle.programs.specs.Calls.{table_in}
-use Rattle.programs.specs.Definitions.{definitions, trees_in}
+use Rattle.metal_tree.specs.MetalMachines.Machine.{Machine}
+use Rattle.call_graph.specs.OfPrograms.Calls.{table_in}
+use Rattle.call_graph.specs.OfPrograms.Definitions.{definitions, trees_in}
 use Rattle.typed_unit.specs.declared.typed_unit.TypedUnit.{TypedUnit}
 
 abbrev pub listed : Option ℕ → List ℕ

@@ -1,10 +1,10 @@
 -- The roots of a program under a checker, by their numbers.
 use Rattle.std.specs.Prelude.{ℕ, List, length}
-use Rattle.checker_programs.specs.Roots.{IsRoot, IsUncalled}
-use Rattle.checker_programs.specs.Texts.{functions_in}
+use Rattle.path_model.specs.CheckerPrograms.Roots.{IsRoot, IsUncalled}
+use Rattle.path_model.specs.CheckerPrograms.Texts.{functions_in}
 use Rattle.typed_unit.specs.Texts.{Text}
-use Rattle.graph_roots.specs.Listed.{AreListed}
-use Rattle.metal_machines.specs.Machine.{Machine}
+use Rattle.least_set.specs.GraphRoots.Listed.{AreListed}
+use Rattle.metal_tree.specs.MetalMachines.Machine.{Machine}
 
 -- THE LIST OF ROOTS: each once, first those to which no followed call leads, then the others, both in source order.
 abbrev pub AreRoots : Machine → List Text → List ℕ → Type 0

@@ -4,19 +4,17 @@ ghost use Rattle.std.specs.Prelude.{◌≡◌, ◌<◌, ◌^◌, ◌++◌, lengt
 ghost use Rattle.std.specs.Option.{option_map};
 ghost use Rattle.call_sites.specs.Calls.{nodes_at};
 ghost use Rattle.typed_unit.specs.Texts.{texts_of};
-ghost use Rattle.graph_roots.specs.Graphs.{StaysWithin};
+ghost use Rattle.least_set.specs.GraphRoots.Graphs.{StaysWithin};
 ghost use Rattle.least_set.specs.Logs.{IsExactly};
 ghost use Rattle.metal_tree.specs.Whole.{machine_view};
-ghost use Rattle.programs.specs.Definitions.{definitions, trees_in};
+ghost use Rattle.call_graph.specs.OfPrograms.Definitions.{definitions, trees_in};
 ghost use Rattle.root_functions.specs.Callees.{FollowedBy, Leads, AreBelow, HaveCallees, listed};
 
 use c_tree::Tree;
-use call_graph::followed;
+use call_graph::{FnId, Program, UnitFacts, followed};
 use call_sites::calls_in;
-use function_graphs::UnitFacts;
-use graph_roots::Callees;
+use least_set::Callees;
 use metal_tree::Machine;
-use programs::{FnId, Program};
 use std::alloc::{AllocError, Global};
 
 // Puts the function to which a call leads behind the others, if it leads to one.

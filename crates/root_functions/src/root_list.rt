@@ -3,13 +3,13 @@
 ghost use Rattle.std.specs.Prelude.{◌≡◌, length, map, IfOk};
 ghost use Rattle.typed_unit.specs.Texts.{texts_of};
 ghost use Rattle.metal_tree.specs.Whole.{machine_view};
-ghost use Rattle.programs.specs.Definitions.{definitions, trees_in};
+ghost use Rattle.call_graph.specs.OfPrograms.Definitions.{definitions, trees_in};
 ghost use Rattle.root_functions.specs.Callees.{AreBelow};
 ghost use Rattle.root_functions.specs.Roots.{AreRoots};
 
 use crate::callees::all_callees;
+use call_graph::{FnId, Program};
 use metal_tree::Machine;
-use programs::{FnId, Program};
 use std::alloc::{AllocError, Global};
 
 // The functions with these numbers.
@@ -32,6 +32,6 @@ pub fn roots(alloc: Global, program: &Program, machine: &Machine) -> Result<Vec<
     ensures within { IfOk result (λ roots. AreBelow (length (definitions (trees_in program.now.units.items))) (map (λ f. f.number) roots.items)) }
 {
     let callees = all_callees(alloc, program, machine)?;
-    let numbers = graph_roots::roots(alloc, &callees)?;
+    let numbers = least_set::roots(alloc, &callees)?;
     with_numbers(alloc, &numbers)
 }

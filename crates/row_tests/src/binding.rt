@@ -11,7 +11,7 @@ use mx_base::Names;
 use std::alloc::Global;
 use std::process::Abort;
 use std::test::Fail;
-use tree_equality::same_tree;
+use tree_laws::same_tree;
 
 /// How two texts are read. `T` is the name of a type, and no other name is.
 #[derive(Clone, Copy, Debug, PartialEq, Eq)]

@@ -10,9 +10,7 @@ use c_tree::{
 use std::alloc::AllocError;
 use std::process::Abort;
 use std::test::Fail;
-use tree_copies::copy_tree;
-use tree_equality::{equal_tree, same_tree};
-use tree_yields::yields;
+use tree_laws::{copy_tree, equal_tree, same_tree, yields};
 
 static PLACE: Place = Place { file: 0, token: 0 };
 

@@ -6,10 +6,10 @@ use bumpalo::Bump;
 use c_lexer::{LexFault, Tokens, strip};
 use c_parser::{ParseFault, read_unit};
 use c_tree::{Arena, BinaryOp, Kind, Operation, Outer, Statement, Tree};
-use c_unit::Unit;
 use mx_base::Names;
 use std::alloc::Global;
 use std::test::Fail;
+use type_values::Unit;
 
 /// Where a unit is refused, by line and column, or what is done with it instead.
 #[derive(Clone, Copy, Debug, PartialEq, Eq)]

@@ -1,16 +1,16 @@
 -- Reports of checkers of which each has a number of its own are the same where they compare `Equal`.
 use Rattle.std.proofs.Common.{◌≡◌, inl, inr, List, [], ◌∷◌, Some, sym, ap, subst, ◌∙◌}
 use Rattle.c_objects.specs.Text.{text_of}
-use Rattle.c_paths.specs.Membership.{Among}
+use Rattle.flow_graph.specs.CPaths.Membership.{Among}
 use Rattle.c_tree.specs.declared.token.Token.{Token}
-use Rattle.checker_model.specs.Reports.{Checker, token_at}
-use Rattle.checker_programs.specs.Reported.{IsReported}
-use Rattle.checker_programs.specs.Texts.{tokens_of}
+use Rattle.path_model.specs.CheckerModel.Reports.{Checker, token_at}
+use Rattle.path_model.specs.CheckerPrograms.Reported.{IsReported}
+use Rattle.path_model.specs.CheckerPrograms.Texts.{tokens_of}
 use Rattle.typed_unit.specs.Texts.{Text}
 use Rattle.saturation.proofs.Compared.{AreAlike, alike}
 use Rattle.saturation.proofs.OwnFiles.{StandInOwnFiles}
 use Rattle.saturation.proofs.Written.{IsWritten, written}
-use Rattle.report_lists.specs.Repeats.{AgreeWhereEqual}
+use Rattle.report_model.specs.ReportLists.Repeats.{AgreeWhereEqual}
 use Rattle.report_model.specs.Order.{report_cmp}
 use Rattle.report_model.specs.declared.report.Report.{Report}
 use Rattle.std.specs.Prelude.{Contains}

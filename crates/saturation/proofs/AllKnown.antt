@@ -2,14 +2,14 @@
 use Rattle.std.proofs.Common.{◌≡◌, List, map, refl, sym, subst}
 use Rattle.std.proofs.Math.Logic.{∥∥₁_elim, ∥∥₁_map₂}
 use Rattle.c_objects.specs.Objects.{Object}
-use Rattle.checker_model.specs.Reports.{Checker}
-use Rattle.engine_tables.specs.Known.{AreKnown, checker_in, texts_in, objects_in}
-use Rattle.engine_tables.specs.declared.tables.Tables.{Tables}
+use Rattle.path_model.specs.CheckerModel.Reports.{Checker}
+use Rattle.function_tables.specs.EngineTables.Known.{AreKnown, checker_in, texts_in, objects_in}
+use Rattle.function_tables.specs.declared.engine_tables.tables.Tables.{Tables}
 use Rattle.function_tables.specs.Tables.{AreTables}
 use Rattle.function_tables.specs.declared.table.FunctionTable.{FunctionTable}
 use Rattle.metal_tree.specs.Whole.{machine_view}
-use Rattle.programs.specs.declared.functions.FnId.{FnId}
-use Rattle.relevant_lists.specs.Lists.{AreLists}
+use Rattle.call_graph.specs.declared.programs.functions.FnId.{FnId}
+use Rattle.relevant.specs.RelevantLists.Lists.{AreLists}
 use Rattle.root_functions.specs.Roots.{AreRoots}
 
 module _ (t : Tables) where

@@ -3,14 +3,14 @@ use Rattle.std.proofs.Common.{◌≡◌, inl, inr, ◌↔◌, List, [], ◌∷�
 use Rattle.std.proofs.Math.Logic.{∥∥₁_map, ∥∥₁_map₂}
 use Rattle.std.specs.Prelude.{AllPairs}
 use Rattle.std.specs.declared.cmp.Ordering.TheVariants.{Less}
-use Rattle.c_paths.specs.Membership.{Among}
-use Rattle.checker_model.specs.Checkers.{model}
-use Rattle.checker_model.specs.Reports.{Checker}
-use Rattle.checker_programs.specs.Paths.{program}
-use Rattle.checker_programs.specs.Reported.{AreReports, IsReported}
+use Rattle.flow_graph.specs.CPaths.Membership.{Among}
+use Rattle.path_model.specs.CheckerModel.Checkers.{model}
+use Rattle.path_model.specs.CheckerModel.Reports.{Checker}
+use Rattle.path_model.specs.CheckerPrograms.Paths.{program}
+use Rattle.path_model.specs.CheckerPrograms.Reported.{AreReports, IsReported}
 use Rattle.typed_unit.specs.Texts.{Text}
 use Rattle.path_theory.specs.Paths.{Reported}
-use Rattle.report_lists.specs.Repeats.{AgreeWhereEqual}
+use Rattle.report_model.specs.ReportLists.Repeats.{AgreeWhereEqual}
 use Rattle.report_model.specs.Order.{report_cmp}
 use Rattle.report_model.specs.declared.report.Report.{Report}
 use Rattle.saturation.proofs.Agreeing.{HaveOwnNumbers, agree}

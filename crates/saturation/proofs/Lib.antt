@@ -4,3 +4,5 @@ pub mod OwnFiles
 pub mod Written
 pub mod Agreeing
 pub mod InOrder
+pub mod EdgeReports
+pub mod TabulationEngine

@@ -2,9 +2,9 @@
 use Rattle.std.proofs.Common.{◌≡◌, ◌+◌, ℕ, zero, suc, List, [], ◌∷◌, Some, slice_get, Bor, refl, subst, arith}
 use Rattle.std.proofs.Math.Logic.{∥∥₁_map, ∥∥₁_map₂}
 use Rattle.c_tree.specs.TokenPlaces.{AreOfFile}
-use Rattle.checker_programs.specs.Texts.{tokens_of}
+use Rattle.path_model.specs.CheckerPrograms.Texts.{tokens_of}
 use Rattle.typed_unit.specs.Texts.{Text, texts_of}
-use Rattle.programs.specs.Definitions.{AreNumbered}
+use Rattle.call_graph.specs.OfPrograms.Definitions.{AreNumbered}
 use Rattle.typed_unit.specs.declared.typed_unit.TypedUnit.{TypedUnit}
 
 -- the tokens of each text are of its file

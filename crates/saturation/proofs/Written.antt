@@ -4,23 +4,23 @@ use Rattle.std.proofs.lemmas.Bool.{eqb-true}
 use Rattle.std.specs.Option.{option_map}
 use Rattle.c_objects.specs.Objects.{Object}
 use Rattle.c_objects.specs.Text.{text_of}
-use Rattle.c_paths.specs.EventPlaces.{event_place}
-use Rattle.c_paths.specs.Events.{Event}
+use Rattle.flow_graph.specs.CPaths.EventPlaces.{event_place}
+use Rattle.flow_graph.specs.CPaths.Events.{Event}
 use Rattle.c_tree.specs.TokenPlaces.{AreOfFile}
 use Rattle.c_tree.specs.declared.place.Place.{Place}
 use Rattle.c_tree.specs.declared.token.Token.{Token}
-use Rattle.c_typing.specs.Options.{◌>?◌}
-use Rattle.checker_model.specs.Checkers.{model, source_at}
-use Rattle.checker_model.specs.Choices.{State, Taken, taken, taken_global}
-use Rattle.checker_model.specs.Happenings.{Function, Happening}
-use Rattle.checker_model.specs.Reports.{Checker, first_token, token_at, report_at, report_of, Fires, FiresGlobal}
-use Rattle.checker_programs.specs.Paths.{program}
-use Rattle.checker_programs.specs.Texts.{tokens_of, happening}
+use Rattle.type_rules.specs.Options.{◌>?◌}
+use Rattle.path_model.specs.CheckerModel.Checkers.{model, source_at}
+use Rattle.path_model.specs.CheckerModel.Choices.{State, Taken, taken, taken_global}
+use Rattle.path_model.specs.CheckerModel.Happenings.{Function, Happening}
+use Rattle.path_model.specs.CheckerModel.Reports.{Checker, first_token, token_at, report_at, report_of, Fires, FiresGlobal}
+use Rattle.path_model.specs.CheckerPrograms.Paths.{program}
+use Rattle.path_model.specs.CheckerPrograms.Texts.{tokens_of, happening}
 use Rattle.typed_unit.specs.Texts.{Text}
 use Rattle.saturation.proofs.OwnFiles.{StandInOwnFiles}
 use Rattle.hole_matching.specs.Message.{from_place, is_at}
 use Rattle.least_set.specs.Same.{both}
-use Rattle.metal_machines.specs.Machine.{Piece}
+use Rattle.metal_tree.specs.MetalMachines.Machine.{Piece}
 use Rattle.path_theory.specs.Paths.{Reported, ReportOf, ReportOfGlobal, after}
 use Rattle.report_model.specs.declared.report.Report.{Report}
 

@@ -1,6 +1,6 @@
 -- Who reports.
 use Rattle.std.specs.Prelude.{ℕ, List}
-use Rattle.checker_model.specs.Reports.{Checker}
+use Rattle.path_model.specs.CheckerModel.Reports.{Checker}
 use Rattle.metal_tree.specs.declared.machine.Machine.{Machine}
 use Rattle.metal_tree.specs.Whole.{machine_view}
 

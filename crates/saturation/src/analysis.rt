@@ -1,16 +1,15 @@
 //! The list of reports of one checker.
 
 ghost use Rattle.std.specs.Prelude.{◌≤◌, IfOk, [], ◌∷◌};
-ghost use Rattle.checker_programs.specs.Reported.{AreReports};
+ghost use Rattle.path_model.specs.CheckerPrograms.Reported.{AreReports};
 ghost use Rattle.typed_unit.specs.Texts.{texts_of};
 ghost use Rattle.saturation.specs.Reporting.{checker_of};
 
 use crate::checked_programs::reports_of;
+use call_graph::Program;
 use metal_tree::Machine;
 use mx_base::Names;
-use programs::Program;
-use report_lists::sorted;
-use report_model::Report;
+use report_model::{Report, sorted};
 use std::alloc::{AllocError, Global};
 
 /// The list of reports of a checker over a program: the error transitions that it takes on some path from some root, in the order in

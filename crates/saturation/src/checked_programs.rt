@@ -1,24 +1,23 @@
 //! A program under a checker, from its trees to its reports.
 
 ghost use Rattle.std.specs.Prelude.{◌≤◌, ◌↔◌, Contains, IfOk};
-ghost use Rattle.checker_model.specs.Checkers.{model};
-ghost use Rattle.checker_programs.specs.Paths.{program as paths};
+ghost use Rattle.path_model.specs.CheckerModel.Checkers.{model};
+ghost use Rattle.path_model.specs.CheckerPrograms.Paths.{program as paths};
 ghost use Rattle.typed_unit.specs.Texts.{texts_of};
 ghost use Rattle.path_theory.specs.Paths.{Reported};
 ghost use Rattle.saturation.specs.Reporting.{checker_of};
 ghost use Rattle.report_model.specs.declared.report.Report.{Report as Said};
 
-use engine_tables::Tables;
-use function_tables::build_tables;
+use crate::tabulation_engine::{Engine, reported};
+use call_graph::Program;
+use function_tables::{Tables, build_tables};
 use metal_tree::Machine;
 use mx_base::Names;
-use programs::Program;
-use relevant_lists::followed_objects;
+use relevant::followed_objects;
 use report_model::Report;
 use root_functions::roots;
 use std::alloc::{AllocError, Global};
 use std::marker::PhantomData;
-use tabulation_engine::{Engine, reported};
 
 /// The reports of a checker over a program: exactly those that some path of the program takes, in no order, and one may be there more than
 /// once. The number is the checker's place among those of the command, from 0 on, the names have the texts of all names, and objects have at

@@ -1,7 +1,11 @@
-//! The exact analysis of a program by one checker: the list of its reports, out of a saturated set of path edges.
+//! The exact analysis of a program: a set of path edges that is saturated under the rules of tabulation, what these show, and the list of
+//! reports of one checker.
 #![tactic(auto)]
 
 mod analysis;
 mod checked_programs;
+mod edge_reports;
+mod tabulation_engine;
 
 pub use analysis::analyse;
+pub use edge_reports::shown;

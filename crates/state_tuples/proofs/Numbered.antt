@@ -3,21 +3,21 @@ use Rattle.std.proofs.Common.{arith, ◌≡◌, ◌≤◌, ◌<◌, ℕ, ◌+◌
 use Rattle.std.specs.Prelude.{IfSome}
 use Rattle.std.specs.Option.{option_map}
 use Rattle.std.proofs.lemmas.List.{length-map}
-use Rattle.c_paths.specs.Events.{Event}
-use Rattle.c_typing.specs.Options.{or_else, ◌>?◌}
-use Rattle.checker_model.specs.Choices.{Taken, first_some, applied, by_alternative}
+use Rattle.flow_graph.specs.CPaths.Events.{Event}
+use Rattle.type_rules.specs.Options.{or_else, ◌>?◌}
+use Rattle.path_model.specs.CheckerModel.Choices.{Taken, first_some, applied, by_alternative}
 use Rattle.hole_matching.specs.Holes.{Setting}
 use Rattle.hole_matching.specs.Matching.{Binding}
-use Rattle.metal_machines.specs.Limits.{AreNumbered}
-use Rattle.metal_machines.specs.Machine.{Item, Rule}
-use Rattle.metal_machines.specs.Rules.{rule_numbered}
+use Rattle.metal_tree.specs.MetalMachines.Limits.{AreNumbered}
+use Rattle.metal_tree.specs.MetalMachines.Machine.{Item, Rule}
+use Rattle.metal_tree.specs.MetalMachines.Rules.{rule_numbered}
 use Rattle.metal_tree.specs.declared.machine.Machine as code
 use Rattle.metal_tree.specs.Views.{rule_view, rule_views}
-use Rattle.rule_choices.proofs.AskedRules.{asked}
-use Rattle.rule_choices.specs.Asked.{Asker, asked_rule, may_take, fits}
-use Rattle.rule_choices.specs.declared.fired.Fired.{Fired}
+use Rattle.state_tuples.proofs.RuleChoices.AskedRules.{asked}
+use Rattle.state_tuples.specs.RuleChoices.Asked.{Asker, asked_rule, may_take, fits}
+use Rattle.state_tuples.specs.declared.rule_choices.fired.Fired.{Fired}
 use Rattle.state_tuples.specs.Numbers.{IsRuleOf}
-use Rattle.rule_choices.specs.Values.{taken_of}
+use Rattle.state_tuples.specs.RuleChoices.Values.{taken_of}
 
 -- one of two
 either : {A : Type 0} (o rest : Option A) (a : A) (P : Type 0) → (o ≡ Some a → P) → (rest ≡ Some a → P) → or_else o rest ≡ Some a → P

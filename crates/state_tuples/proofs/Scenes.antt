@@ -2,13 +2,13 @@
 use Rattle.std.proofs.Common.{◌≡◌, ℕ, Bool, false, cond, List, Option, None, sym, ap, subst, ◌∙◌}
 use Rattle.std.specs.Prelude.{IfSome}
 use Rattle.c_objects.specs.Objects.{Object}
-use Rattle.c_paths.specs.Events.{Event}
-use Rattle.checker_model.specs.Choices.{State, Taken, first_some, global_rule, object_rule}
+use Rattle.flow_graph.specs.CPaths.Events.{Event}
+use Rattle.path_model.specs.CheckerModel.Choices.{State, Taken, first_some, global_rule, object_rule}
 use Rattle.hole_matching.specs.Holes.{Setting}
-use Rattle.metal_machines.specs.Machine.{Rule}
-use Rattle.rule_choices.specs.Asked.{Asker, GlobalState, ObjectIn, asked_rule}
-use Rattle.rule_choices.specs.declared.fired.Fired.{Fired}
-use Rattle.rule_choices.specs.Firsts.{IsByFirst}
+use Rattle.metal_tree.specs.MetalMachines.Machine.{Rule}
+use Rattle.state_tuples.specs.RuleChoices.Asked.{Asker, GlobalState, ObjectIn, asked_rule}
+use Rattle.state_tuples.specs.declared.rule_choices.fired.Fired.{Fired}
+use Rattle.state_tuples.specs.RuleChoices.Firsts.{IsByFirst}
 
 pub same_first : (g h : Setting) (e : Event) (a b : Asker) (o : Option Fired) → g ≡ h → a ≡ b → IfSome o (IsByFirst g e a) → IfSome o (IsByFirst h e b)
 same_first g h e a b o p q k =

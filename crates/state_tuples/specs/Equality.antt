@@ -6,7 +6,7 @@ use Rattle.std.proofs.lemmas.Bool.{eqb-true}
 use Rattle.std.specs.Prelude.{is_some, is_none}
 use Rattle.std.specs.Option.{option_eq}
 use Rattle.c_objects.specs.Objects.{Object}
-use Rattle.checker_model.specs.Choices.{State}
+use Rattle.path_model.specs.CheckerModel.Choices.{State}
 use Rattle.least_set.specs.Same.{both, same_option, same_pair}
 use Rattle.objects.specs.Equality.{same_object, same_object-true}
 use Rattle.state_tuples.specs.declared.tuple.Tuple.{Tuple}

@@ -2,3 +2,6 @@ pub mod Values
 pub mod Numbers
 pub mod Tuples
 pub mod Equality
+pub mod RuleChoices
+pub mod AppliedRules
+pub mod TransitionReports

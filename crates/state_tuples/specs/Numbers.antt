@@ -1,6 +1,6 @@
 -- Rules by their numbers.
 use Rattle.std.specs.Prelude.{◌≡◌, ◌≤◌, length, Some}
-use Rattle.metal_machines.specs.Rules.{rule_numbered}
+use Rattle.metal_tree.specs.MetalMachines.Rules.{rule_numbered}
 use Rattle.metal_tree.specs.declared.machine.Machine.{Machine}
 use Rattle.metal_tree.specs.declared.rules.Rule.{Rule}
 use Rattle.metal_tree.specs.Views.{rule_view, rule_views}

@@ -1,9 +1,9 @@
 -- The step of one tuple. Its global state and the state of its object are chosen by both states before.
 use Rattle.std.specs.Prelude.{ℕ, Bool, Option}
-use Rattle.c_typing.specs.Options.{if_there}
-use Rattle.checker_model.specs.Choices.{State, chosen}
-use Rattle.checker_model.specs.Happenings.{Function, Happening}
-use Rattle.metal_machines.specs.Machine.{Machine}
+use Rattle.type_rules.specs.Options.{if_there}
+use Rattle.path_model.specs.CheckerModel.Choices.{State, chosen}
+use Rattle.path_model.specs.CheckerModel.Happenings.{Function, Happening}
+use Rattle.metal_tree.specs.MetalMachines.Machine.{Machine}
 use Rattle.state_tuples.specs.declared.tuple.Tuple.{Tuple}
 
 -- THE STATE BEHIND AN EVENT of a tuple's object; that of a tuple without one stays

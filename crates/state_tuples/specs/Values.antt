@@ -1,5 +1,5 @@
 -- What the types of the program stand for.
-use Rattle.checker_model.specs.Happenings.{Function, Happening}
+use Rattle.path_model.specs.CheckerModel.Happenings.{Function, Happening}
 use Rattle.flow_graph.specs.declared.event.Event.{Event}
 use Rattle.flow_graph.specs.Values.{event_of}
 use Rattle.objects.specs.Units.{facts_in}

@@ -2,24 +2,24 @@
 
 ghost use Rattle.std.specs.Prelude.{◌≡◌, ◌≤◌, IfSome};
 ghost use Rattle.std.specs.Option.{option_map};
-ghost use Rattle.checker_model.specs.Choices.{is_asked, is_global_asked, scene, taken, taken_global};
+ghost use Rattle.path_model.specs.CheckerModel.Choices.{is_asked, is_global_asked, scene, taken, taken_global};
 ghost use Rattle.hole_matching.specs.Callouts.{is_local};
 ghost use Rattle.flow_graph.specs.Values.{event_of};
 ghost use Rattle.metal_tree.specs.Whole.{machine_view};
-ghost use Rattle.rule_choices.specs.Asked.{GlobalState, ObjectIn};
-ghost use Rattle.rule_choices.specs.Firsts.{IsByFirst};
-ghost use Rattle.rule_choices.specs.Values.{asker_of, taken_of};
+ghost use Rattle.state_tuples.specs.RuleChoices.Asked.{GlobalState, ObjectIn};
+ghost use Rattle.state_tuples.specs.RuleChoices.Firsts.{IsByFirst};
+ghost use Rattle.state_tuples.specs.RuleChoices.Values.{asker_of, taken_of};
 ghost use Rattle.state_tuples.specs.Numbers.{IsRuleOf};
 ghost use Rattle.state_tuples.specs.Values.{happening_in, function_of};
 
 use crate::frame::Frame;
-use c_unit::Var;
-use event_rules::is_exit;
+use crate::rule_choices::{Asked, Fired, first_rule};
+use crate::targets::is_exit;
 use flow_graph::Event;
-use hole_bindings::Setting;
+use hole_matcher::Setting;
 use metal_tree::Machine;
 use objects::Object;
-use rule_choices::{Asked, Fired, first_rule};
+use type_values::Var;
 use typed_unit::TypedUnit;
 
 /// The number of the global state `stop`, which nothing leaves.

@@ -1,15 +1,15 @@
 //! The states behind events.
 
 ghost use Rattle.std.specs.Prelude.{◌≡◌, ◌≤◌};
-ghost use Rattle.checker_model.specs.Choices.{next_global, chosen};
+ghost use Rattle.path_model.specs.CheckerModel.Choices.{next_global, chosen};
 ghost use Rattle.metal_tree.specs.Whole.{machine_view};
 ghost use Rattle.state_tuples.specs.Tuples.{state_behind};
 ghost use Rattle.state_tuples.specs.Values.{happening_in, function_of};
 
 use crate::choices::{fired, fired_global};
 use crate::frame::Frame;
+use crate::targets::{global_behind, object_behind, target_at};
 use crate::tuple::Tuple;
-use event_rules::{global_behind, object_behind, target_at};
 use flow_graph::Event;
 use metal_tree::Machine;
 use objects::{Object, copy};

@@ -8,12 +8,12 @@ use Rattle.c_objects.specs.Paths.{rebase}
 use Rattle.c_objects.specs.Replaced.{replaced}
 use Rattle.c_objects.proofs.Plain.{is-object, object-is, if-object, object-if}
 use Rattle.c_objects.proofs.Replacing.{replaces}
-use Rattle.c_paths.specs.Events.{Event}
-use Rattle.c_paths.specs.Membership.{Among}
-use Rattle.c_typing.specs.Options.{◌>?◌, if_there}
-use Rattle.checker_model.specs.Moves.{Move, IsMove, move_of, under, indexes, copied, source_of, source}
-use Rattle.checker_model.proofs.MovedObjects.{move-is}
-use Rattle.checker_model.proofs.Sources.{given, some-copied, source-object}
+use Rattle.flow_graph.specs.CPaths.Events.{Event}
+use Rattle.flow_graph.specs.CPaths.Membership.{Among}
+use Rattle.type_rules.specs.Options.{◌>?◌, if_there}
+use Rattle.path_model.specs.CheckerModel.Moves.{Move, IsMove, move_of, under, indexes, copied, source_of, source}
+use Rattle.path_model.proofs.CheckerModel.MovedObjects.{move-is}
+use Rattle.path_model.proofs.CheckerModel.Sources.{given, some-copied, source-object}
 use Rattle.synonyms_kills.specs.Targets.{AreDistinct, AreTargets, stays, if_copied, copy_of, targets}
 
 module _ (depth : ℕ) (m : Move) (o : Object) (is : IsMove depth m) (io : IsObject depth o) where

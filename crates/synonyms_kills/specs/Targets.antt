@@ -3,9 +3,9 @@ use Rattle.std.specs.Prelude.{◌≡◌, ◌++◌, ℕ, List, [], ◌∷◌, Boo
 use Rattle.std.specs.Option.{option_to_list}
 use Rattle.c_objects.specs.Objects.{Object, IsObject}
 use Rattle.c_objects.specs.Replaced.{replaced}
-use Rattle.c_paths.specs.Membership.{Among}
-use Rattle.c_typing.specs.Options.{◌>?◌}
-use Rattle.checker_model.specs.Moves.{Move, under, indexes, source}
+use Rattle.flow_graph.specs.CPaths.Membership.{Among}
+use Rattle.type_rules.specs.Options.{◌>?◌}
+use Rattle.path_model.specs.CheckerModel.Moves.{Move, under, indexes, source}
 
 abbrev pub AreDistinct : List Object → Type 0
 AreDistinct [] = Unit {0}

@@ -1,5 +1,5 @@
 -- What the types of the program stand for.
-use Rattle.checker_model.specs.Moves as moves
+use Rattle.path_model.specs.CheckerModel.Moves as moves
 use Rattle.synonyms_kills.specs.declared.moves.Move.{Move}
 
 abbrev pub move_in : Move → moves.Move

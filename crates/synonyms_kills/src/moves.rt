@@ -4,18 +4,17 @@ ghost use Rattle.std.specs.Prelude.{◌≡◌, ◌≤◌, is_some};
 ghost use Rattle.std.specs.Option.{option_map};
 ghost use Rattle.c_objects.specs.ObjectOf.{object_of};
 ghost use Rattle.c_tree.specs.Views.{node_of};
-ghost use Rattle.checker_model.specs.Moves.{moving, assigned, stepped, initialized, tree_move, local_of, move_of};
-ghost use Rattle.c_unit.specs.Vars.{cvar_of};
+ghost use Rattle.path_model.specs.CheckerModel.Moves.{moving, assigned, stepped, initialized, tree_move, local_of, move_of};
+ghost use Rattle.type_values.specs.Vars.{cvar_of};
 ghost use Rattle.flow_graph.specs.Values.{event_of, variable_in};
 ghost use Rattle.hole_matching.specs.Subjects.{is_braced};
 ghost use Rattle.objects.specs.Units.{facts_in};
 ghost use Rattle.synonyms_kills.specs.Values.{move_in};
 
-use c_tree::{AssignOp, Initializer, Kind, Operation, Tree, UnaryOp};
-use c_unit::Var;
+use c_tree::{AssignOp, Initializer, Kind, Operation, Subject, Tree, UnaryOp};
 use flow_graph::{Event, Variable};
 use objects::{Object, object_of, variable};
-use path_subjects::Subject;
+use type_values::Var;
 use typed_unit::TypedUnit;
 
 /// A path that is written over, and the object that is copied to it, if it has one.

@@ -2,7 +2,7 @@
 
 ghost use Rattle.std.specs.Prelude.{◌≡◌, ◌≤◌};
 ghost use Rattle.std.specs.Option.{option_map};
-ghost use Rattle.checker_model.specs.Moves.{under, indexes, copied, source_of, move_of, source};
+ghost use Rattle.path_model.specs.CheckerModel.Moves.{under, indexes, copied, source_of, move_of, source};
 ghost use Rattle.flow_graph.specs.Values.{event_of};
 ghost use Rattle.objects.specs.Origins.{origin_of};
 ghost use Rattle.objects.specs.Selectors.{selectors_of};

@@ -2,7 +2,7 @@
 
 ghost use Rattle.std.specs.Prelude.{◌≡◌, ◌≤◌, IfOk};
 ghost use Rattle.std.specs.Option.{option_map};
-ghost use Rattle.checker_model.specs.Moves.{move_of};
+ghost use Rattle.path_model.specs.CheckerModel.Moves.{move_of};
 ghost use Rattle.flow_graph.specs.Values.{event_of};
 ghost use Rattle.objects.specs.Units.{facts_in};
 ghost use Rattle.synonyms_kills.specs.Targets.{AreTargets, stays, if_copied, copy_of, targets};

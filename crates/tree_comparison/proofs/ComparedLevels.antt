@@ -13,12 +13,12 @@ use Rattle.hole_matching.specs.ComparedSubjects.{with_parts, compared, compared_
 use Rattle.hole_matching.specs.Pattern.{Head, Braces, Designated, Pattern, Patterns, likewise, more, same_head, same_pattern, same_patterns}
 use Rattle.hole_matching.specs.Subjects.{trees, trees_then}
 use Rattle.hole_matching.specs.Written.{one_part}
-use Rattle.path_subjects.specs.Subjects.{Subject}
-use Rattle.path_subjects.specs.Subjects as subjects
-use Rattle.tree_levels.specs.declared.heads.Front.{Front}
-use Rattle.tree_levels.specs.declared.heads.Level.{Level}
-use Rattle.tree_levels.specs.declared.heads.Level.TheVariants as level
-use Rattle.tree_levels.specs.Levels.{opened, opened_pattern, front_head, level_pattern}
+use Rattle.c_tree.specs.PathSubjects.Subjects.{Subject}
+use Rattle.c_tree.specs.PathSubjects.Subjects as subjects
+use Rattle.tree_comparison.specs.declared.tree_levels.heads.Front.{Front}
+use Rattle.tree_comparison.specs.declared.tree_levels.heads.Level.{Level}
+use Rattle.tree_comparison.specs.declared.tree_levels.heads.Level.TheVariants as level
+use Rattle.tree_comparison.specs.TreeLevels.Levels.{opened, opened_pattern, front_head, level_pattern}
 
 pub opened_compared : (u : Facts) (o : Option Head) (ss : List Subject) → opened_pattern u (opened o ss) ≡ with_parts o (compared_all u ss)
 opened_compared u None ss = refl

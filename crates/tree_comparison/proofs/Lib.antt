@@ -1,2 +1,4 @@
 pub mod ComparedLevels
 pub mod Sames
+pub mod TreeLevels
+pub mod MatchedTypes

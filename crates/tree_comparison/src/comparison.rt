@@ -5,20 +5,19 @@ ghost use Rattle.c_objects.specs.Facts.{Facts};
 ghost use Rattle.c_tree.specs.Views.{node_of, nodes_of, nodes_in, primary_shape, operation_shape, initializer_shape, part_shape};
 ghost use Rattle.c_tree.specs.declared.operator.AssignOp.TheVariants as assign;
 ghost use Rattle.c_tree.specs.declared.operator.UnaryOp.TheVariants as unary;
-ghost use Rattle.tree_levels.specs.Levels.{leaf_head, one_head, two_head, front_head, level_pattern};
+ghost use Rattle.tree_comparison.specs.TreeLevels.Levels.{leaf_head, one_head, two_head, front_head, level_pattern};
 ghost use Rattle.hole_matching.specs.ComparedSubjects.{compared, compared_node, compared_nodes, compared_then, compared_primary, compared_operation, compared_initializer, compared_part};
 ghost use Rattle.hole_matching.specs.Pattern.{Member, Unary, Cond, Braces, Designated, other, likewise, no_more, more, same_pattern, same_patterns};
 ghost use Rattle.hole_matching.specs.Written.{one_part, two_parts};
 ghost use Rattle.objects.specs.Units.{facts_in};
-ghost use Rattle.path_subjects.specs.Values.{subject_of};
+ghost use Rattle.c_tree.specs.PathSubjects.Values.{subject_of};
 
 use crate::same_heads::{same_front, same_leaf, same_one, same_two};
+use crate::tree_levels::{Front, Leaf, Level, One, Two, constant, is_braced, level_of, type_of};
 use c_tree::{
-    AssignOp, Initializer, Kind, Operation, Part, Primary, Specifier, Tree, Trees, UnaryOp,
+    AssignOp, Initializer, Kind, Operation, Part, Primary, Specifier, Subject, Tree, Trees, UnaryOp,
 };
 use hole_matching::compared_level_by_level;
-use path_subjects::Subject;
-use tree_levels::{Front, Leaf, Level, One, Two, constant, is_braced, level_of, type_of};
 use typed_unit::TypedUnit;
 
 // The level that a subject is compared by.

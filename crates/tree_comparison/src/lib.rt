@@ -1,8 +1,15 @@
-//! Whether two trees of a unit are equal, as matching sees them, and whether two heads are the same.
-#![tactic(auto, using(c_tree::proofs::Rows::nodes_out, c_tree::proofs::Rows::nodes_roll, tree_levels::proofs::Apart::heads_apart))]
+//! Trees and types of a unit as matching sees them: level by level, and whether two are equal.
+#![tactic(auto, using(c_tree::proofs::Rows::nodes_out, c_tree::proofs::Rows::nodes_roll, crate::proofs::TreeLevels::Apart::heads_apart))]
 
 mod comparison;
+mod matched_types;
 mod same_heads;
+mod tree_levels;
 
 pub use comparison::{same_arguments, same_subject};
+pub use matched_types::{is_named_type, is_written_type};
 pub use same_heads::{same_front, same_leaf, same_one, same_two};
+pub use tree_levels::{
+    Front, Leaf, Level, One, Two, are_written, inner, is_expression, level_of, spelling,
+    subject_type, type_of, written_constant,
+};

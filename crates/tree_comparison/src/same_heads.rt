@@ -4,11 +4,11 @@ ghost use Rattle.std.specs.Prelude.{◌≡◌};
 ghost use Rattle.hole_matching.specs.Pattern.{same_head, same_names};
 ghost use Rattle.hole_matching.specs.Subjects.{names_of};
 ghost use Rattle.objects.specs.Units.{facts_in};
-ghost use Rattle.tree_levels.specs.Levels.{leaf_head, one_head, two_head, front_head};
+ghost use Rattle.tree_comparison.specs.TreeLevels.Levels.{leaf_head, one_head, two_head, front_head};
 
+use crate::matched_types::same_type;
+use crate::tree_levels::{Front, Leaf, One, Two};
 use c_tree::Token;
-use matched_types::same_type;
-use tree_levels::{Front, Leaf, One, Two};
 use typed_unit::TypedUnit;
 
 /// Whether tokens are spelled alike one by one.

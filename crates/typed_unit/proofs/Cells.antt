@@ -5,10 +5,10 @@ use Rattle.std.proofs.lemmas.List.{length-map, map-append, map-set}
 use Rattle.std.proofs.lemmas.Option.{slice_get-get_or, slice_get-map, slice_get_past}
 use Rattle.std.specs.Option.{option_map}
 use Rattle.std.specs.Slice.{IsItemAt}
-use Rattle.c_typing.specs.Definition.{Table, at}
-use Rattle.c_typing.specs.Definition as kept
-use Rattle.c_typing.specs.Options.{◌>?◌}
-use Rattle.c_typing.specs.Order.{put}
+use Rattle.type_rules.specs.Definition.{Table, at}
+use Rattle.type_rules.specs.Definition as kept
+use Rattle.type_rules.specs.Options.{◌>?◌}
+use Rattle.type_rules.specs.Order.{put}
 use Rattle.typed_unit.specs.declared.table.Cell.{Cell}
 use Rattle.typed_unit.specs.Tables.{cell_of}
 

@@ -1,3 +1,5 @@
 pub mod Cells
 pub mod Placed
 pub mod Sets
+pub mod TokenSearch
+pub mod UnitPlaces

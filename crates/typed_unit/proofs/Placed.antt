@@ -3,14 +3,14 @@ use Rattle.std.proofs.Common.{◌≡◌, Option, None, Some, Bool, true, false, 
 use Rattle.std.specs.Option.{option_map}
 use Rattle.std.proofs.Math.Logic.{∥∥₁_elim}
 use Rattle.c_tree.specs.Node.{Node, node, Nodes, Primary, Operation, Initializer, Specifier, Declarator, Part, Outer, Statement, Iteration, Jump}
-use Rattle.c_typing.specs.Definition.{Cell, Out, Table, IsAmong, at, is_kept, number_of, type_of, var_at}
-use Rattle.c_typing.specs.Parts.{Visit, flat}
-use Rattle.c_typing.specs.Roles.{Role}
-use Rattle.c_typing.specs.Scopes.{Scopes}
-use Rattle.c_typing.specs.Theorems.{CellsAreRight, PlacesAreTyped}
-use Rattle.c_typing.specs.Types.{CType}
-use Rattle.c_typing.specs.Unit.{IsTyping, places_of}
-use Rattle.c_typing.specs.Vars.{CVar}
+use Rattle.type_rules.specs.Definition.{Cell, Out, Table, IsAmong, at, is_kept, number_of, type_of, var_at}
+use Rattle.type_rules.specs.Parts.{Visit, flat}
+use Rattle.type_rules.specs.Roles.{Role}
+use Rattle.type_rules.specs.Scopes.{Scopes}
+use Rattle.type_rules.specs.Theorems.{CellsAreRight, PlacesAreTyped}
+use Rattle.type_rules.specs.Types.{CType}
+use Rattle.type_rules.specs.Unit.{IsTyping, places_of}
+use Rattle.type_rules.specs.Vars.{CVar}
 use Rattle.typed_unit.specs.Places.{is_identifier}
 use Rattle.typed_unit.specs.Tables.{var_in}
 use Rattle.typed_unit.proofs.Sets.{maybe-variable-set}

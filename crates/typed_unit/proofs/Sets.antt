@@ -1,9 +1,9 @@
 -- Types and variables have codes, so two proofs that one is another are equal.
 use Rattle.std.proofs.Common.{◌≡◌, ℕ, List, [], ◌∷◌, Option, ap, refl}
 use Rattle.std.specs.Coded.{Coded, Coded-set, code_by, codes, coded_list, coded_option, coded×}
-use Rattle.c_typing.specs.Arithmetic.{Arithmetic}
-use Rattle.c_typing.specs.Types.{CType, Void, Arith, VaList, Pointer, Array, Func, Struct, Union}
-use Rattle.c_typing.specs.Vars.{CVar}
+use Rattle.type_rules.specs.Arithmetic.{Arithmetic}
+use Rattle.type_rules.specs.Types.{CType, Void, Arith, VaList, Pointer, Array, Func, Struct, Union}
+use Rattle.type_rules.specs.Vars.{CVar}
 
 -- what a type is made of, and how
 data Base : Type 0 where

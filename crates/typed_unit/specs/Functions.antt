@@ -2,9 +2,9 @@
 use Rattle.std.specs.Prelude.{map}
 use Rattle.std.specs.Option.{option_map}
 use Rattle.c_tree.specs.Views.{node_of}
-use Rattle.c_typing.specs.Functions.{Defined}
+use Rattle.type_rules.specs.Functions.{Defined}
 use Rattle.typed_unit.specs.declared.functions.TypedFunction.{TypedFunction}
-use Rattle.c_unit.specs.Vars.{cvar_of}
+use Rattle.type_values.specs.Vars.{cvar_of}
 
 abbrev pub function_of : TypedFunction → Defined
 function_of f = record {

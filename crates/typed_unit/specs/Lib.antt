@@ -2,3 +2,5 @@ pub mod Tables
 pub mod Functions
 pub mod Places
 pub mod Texts
+pub mod TokenSearch
+pub mod UnitPlaces

@@ -1,14 +1,14 @@
 -- Where a node stands in a unit, and over which tokens.
 use Rattle.std.specs.Prelude.{◌≡◌, ℕ, List, [], Bool, true, false}
-use Rattle.c_places.specs.Lines.{row_line}
-use Rattle.c_places.specs.Stands.{Stands}
+use Rattle.c_grammar.specs.CPlaces.Lines.{row_line}
+use Rattle.c_grammar.specs.CPlaces.Stands.{Stands}
 use Rattle.c_tree.specs.declared.token.Token.{Token}
 use Rattle.c_tree.specs.Node.{Node, node, Nodes, Primary, Ident}
-use Rattle.c_typing.specs.Definition.{Out, IsAmong, is_kept}
-use Rattle.c_typing.specs.Parts.{flat}
-use Rattle.c_typing.specs.Roles.{Role}
-use Rattle.c_typing.specs.Scopes.{Scopes}
-use Rattle.c_typing.specs.Unit.{places_of}
+use Rattle.type_rules.specs.Definition.{Out, IsAmong, is_kept}
+use Rattle.type_rules.specs.Parts.{flat}
+use Rattle.type_rules.specs.Roles.{Role}
+use Rattle.type_rules.specs.Scopes.{Scopes}
+use Rattle.type_rules.specs.Unit.{places_of}
 
 -- The trees are those of the tokens, one after the other, and the numbers of their nodes go up.
 abbrev pub StandOver : Nodes → List Token → Type 0

@@ -1,14 +1,14 @@
 -- The table that a table of the program is.
 use Rattle.std.specs.Prelude.{map, Option, None, Some}
 use Rattle.std.specs.Option.{option_map}
-use Rattle.c_typing.specs.Definition.{Table}
-use Rattle.c_typing.specs.Definition as kept
+use Rattle.type_rules.specs.Definition.{Table}
+use Rattle.type_rules.specs.Definition as kept
 use Rattle.typed_unit.specs.declared.table.Cell.{Cell}
 use Rattle.typed_unit.specs.declared.table.Table as code
-use Rattle.c_unit.specs.Types.{ctype_of}
-use Rattle.c_unit.specs.Vars.{cvar_of}
-use Rattle.c_typing.specs.Types.{CType, Void}
-use Rattle.c_typing.specs.Vars.{CVar}
+use Rattle.type_values.specs.Types.{ctype_of}
+use Rattle.type_values.specs.Vars.{cvar_of}
+use Rattle.type_rules.specs.Types.{CType, Void}
+use Rattle.type_rules.specs.Vars.{CVar}
 
 abbrev pub cell_of : Cell → kept.Cell
 cell_of c = record { ty = ctype_of c.ty; var = option_map cvar_of c.var }

@@ -4,7 +4,7 @@ use Rattle.std.specs.Borrow.{Bor}
 use Rattle.c_tree.specs.declared.token.Token.{Token}
 use Rattle.c_tree.specs.Node.{Nodes}
 use Rattle.c_tree.specs.Views.{nodes_of}
-use Rattle.c_typing.specs.Definition.{Table}
+use Rattle.type_rules.specs.Definition.{Table}
 use Rattle.typed_unit.specs.declared.typed_unit.TypedUnit.{TypedUnit}
 use Rattle.typed_unit.specs.Tables.{table_of}
 

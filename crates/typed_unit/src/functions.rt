@@ -1,7 +1,7 @@
 //! The functions that a unit defines.
 
 use c_tree::{Place, Tree};
-use c_unit::Var;
+use type_values::Var;
 
 /// A definition of a function (ISO 9899:1990, 6.7.1).
 #[derive(Drop)]

@@ -2,13 +2,13 @@
 
 ghost use Rattle.std.specs.Prelude.{◌≡◌, [], IfOk};
 ghost use Rattle.std.specs.Option.{option_map};
-ghost use Rattle.c_typing.specs.Definition.{at};
-ghost use Rattle.c_typing.specs.Order.{put};
-ghost use Rattle.c_unit.specs.Vars.{cvar_of};
+ghost use Rattle.type_rules.specs.Definition.{at};
+ghost use Rattle.type_rules.specs.Order.{put};
+ghost use Rattle.type_values.specs.Vars.{cvar_of};
 ghost use Rattle.typed_unit.specs.Tables.{cell_of, table_of, var_in};
 
-use c_unit::{Ty, Var};
 use std::alloc::{AllocError, Global};
+use type_values::{Ty, Var};
 
 /// What is kept of a node: its type, and the variable behind it.
 #[derive(Clone, Copy)]

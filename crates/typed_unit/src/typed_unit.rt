@@ -4,24 +4,24 @@ ghost use Rattle.std.specs.Prelude.{◌≡◌, None, Some, cond, get_or, map};
 ghost use Rattle.std.specs.Option.{option_map};
 ghost use Rattle.c_tree.specs.TokenPlaces.{StandInFile};
 ghost use Rattle.c_tree.specs.Views.{node_of, nodes_of};
-ghost use Rattle.c_typing.specs.Definition.{at, number_of, type_of, var_at};
-ghost use Rattle.c_typing.specs.Functions.{functions_of, structs_of, tag_of};
-ghost use Rattle.c_typing.specs.Parts.{flat};
-ghost use Rattle.c_typing.specs.Roles.{Role};
-ghost use Rattle.c_typing.specs.Scopes.{Scopes};
-ghost use Rattle.c_typing.specs.Types.{Void};
-ghost use Rattle.c_typing.specs.Unit.{IsTyping};
+ghost use Rattle.type_rules.specs.Definition.{at, number_of, type_of, var_at};
+ghost use Rattle.type_rules.specs.Functions.{functions_of, structs_of, tag_of};
+ghost use Rattle.type_rules.specs.Parts.{flat};
+ghost use Rattle.type_rules.specs.Roles.{Role};
+ghost use Rattle.type_rules.specs.Scopes.{Scopes};
+ghost use Rattle.type_rules.specs.Types.{Void};
+ghost use Rattle.type_rules.specs.Unit.{IsTyping};
 ghost use Rattle.typed_unit.specs.Functions.{function_of};
 ghost use Rattle.typed_unit.specs.Places.{StandOver, StandsAt, IsTypedAt, is_identifier};
 ghost use Rattle.typed_unit.specs.Tables.{table_of, type_in, var_in};
-ghost use Rattle.c_unit.specs.Types.{ctype_of};
-ghost use Rattle.c_unit.specs.Vars.{cvar_of};
+ghost use Rattle.type_values.specs.Types.{ctype_of};
+ghost use Rattle.type_values.specs.Vars.{cvar_of};
 
 use crate::functions::TypedFunction;
 use crate::table::Table;
 use c_tree::{Kind, Primary, Tree};
-use c_typing::{cells_are_right, places_are_typed};
-use c_unit::{Ty, Unit, Var};
+use type_rules::{cells_are_right, places_are_typed};
+use type_values::{Ty, Unit, Var};
 
 /// A translation unit without a fault of typing: the types of its expressions, the variables behind its names, and the tags of
 /// its structures and unions (ISO 9899:1990, 6.1.2).

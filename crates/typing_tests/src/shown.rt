@@ -2,12 +2,12 @@
 
 use c_lexer::Tokens;
 use c_tree::Place;
-use c_types::TypeFault;
-use c_unit::{Arithmetic, Ty, Var};
 use mx_base::Names;
 use std::alloc::{AllocError, Global};
 use std::str;
+use type_values::{Arithmetic, Ty, Var};
 use typed_unit::{TypedFunction, TypedUnit};
+use unit_typing::TypeFault;
 
 /// What is needed to say things of a unit in words.
 #[derive(Drop)]

@@ -6,10 +6,10 @@ use bumpalo::Bump;
 use c_lexer::{LexFault, Mode, Tokens, lex, strip};
 use c_parser::{ParseFault, read_unit};
 use c_tree::{Arena, Place, Tree};
-use c_types::{TypeFault, type_unit};
 use mx_base::Names;
 use std::alloc::{AllocError, Global};
 use typed_unit::TypedUnit;
+use unit_typing::{TypeFault, type_unit};
 
 /// Why a text has no types.
 #[derive(Clone, Copy, Debug, PartialEq, Eq)]

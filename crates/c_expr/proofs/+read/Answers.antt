@@ -3,7 +3,7 @@ use Rattle.c_tree.specs.Symbol.{symbols_of}
 use Rattle.c_grammar.specs.ExpressionSteps.{read_more_arguments, read_path}
 use Rattle.c_grammar.specs.Reading.{read}
 use Rattle.c_expr.specs.Gives.{Gives}
-use Rattle.c_places.specs.Stands.{OfBoth, OfNothing}
+use Rattle.c_grammar.specs.CPlaces.Stands.{OfBoth, OfNothing}
 use Rattle.c_expr.proofs.Standing.{made, at_node, at_passed, made_part, at_shorter, in_arena, then_both, none-closed, led-start, list-next, list-last, list-closed, at_front, front-first, front-kept, front-reserved, row-start, row-next, row-closed, some_behind, some_kept, some_passed}
 use Rattle.c_tree.specs.Forget.{view, view_all, list_view}
 use Rattle.c_tree.specs.Views.{nodes_in, nodes_of}

@@ -2,10 +2,10 @@ use Rattle.std.proofs.Common.{refl, arith, ◌-◌, ◌<◌, ◌∙◌, sym}
 use Rattle.std.proofs.lemmas.Grind.{common_steps}
 use Rattle.c_expr.proofs.Standing.{front-kept, front-reserved, made, at_passed, then_both, row-next, row-start}
 use Rattle.c_parser.proofs.StatementStanding.{passed-symbols, passes-as, then_three, at_kept}
-use Rattle.c_places.specs.Stands.{OfNothing, OfBoth}
+use Rattle.c_grammar.specs.CPlaces.Stands.{OfNothing, OfBoth}
 use Rattle.c_tree.specs.Symbol.{symbols_of}
-use Rattle.unit_grammar.specs.StatementSteps.{read_block_items}
-use Rattle.unit_grammar.specs.Reading.{read}
+use Rattle.c_grammar.specs.UnitGrammar.StatementSteps.{read_block_items}
+use Rattle.c_grammar.specs.UnitGrammar.Reading.{read}
 use Rattle.c_expr.proofs.Items.{height_pushed}
 use Rattle.c_expr.proofs.StandingParts.{row-done, ending-start, height-start}
 use Rattle.c_parser.proofs.ListSteps.{block_items-next}

@@ -3,10 +3,10 @@ use Rattle.c_tree.specs.Symbol.{symbols_of}
 use Rattle.c_tree.specs.Height.{height_in}
 use Rattle.c_tree.specs.Forget.{view_all}
 use Rattle.c_tree.specs.Views.{nodes_in}
-use Rattle.c_places.specs.Lines.{row_line}
-use Rattle.c_places.specs.Stands.{Stands}
-use Rattle.unit_grammar.specs.StatementSteps.{read_statements, read_block_items}
-use Rattle.unit_grammar.specs.Reading.{read}
+use Rattle.c_grammar.specs.CPlaces.Lines.{row_line}
+use Rattle.c_grammar.specs.CPlaces.Stands.{Stands}
+use Rattle.c_grammar.specs.UnitGrammar.StatementSteps.{read_statements, read_block_items}
+use Rattle.c_grammar.specs.UnitGrammar.Reading.{read}
 use Rattle.c_expr.specs.Gives.{ending_with}
 use Rattle.c_parser.proofs.+statements.Given as goal
 

@@ -6,17 +6,17 @@ use Rattle.c_expr.specs.SpecifierPlaces.{place_of}
 use Rattle.c_expr.proofs.Items.{fit-some, done-most, height_pushed, count_pushed}
 use Rattle.c_expr.proofs.Standing.{made, at_front, row-next, row-start, made_part, at_passed}
 use Rattle.c_parser.proofs.TaggedSteps.{made-declares, declared-start, declared-next, declared-done, adds-declares, member-read}
-use Rattle.unit_grammar.specs.Construct.{TaggedType}
-use Rattle.unit_grammar.specs.Reading.{read}
+use Rattle.c_grammar.specs.UnitGrammar.Construct.{TaggedType}
+use Rattle.c_grammar.specs.UnitGrammar.Reading.{read}
 use Rattle.c_expr.proofs.StandingParts.{row-done, ending-start, height-start, count-start, over_same}
 use Rattle.c_parser.specs.TypedOnce.{read_typed_once}
 use Rattle.c_parser.proofs.TypedOnce.{once-next, plain-next}
-use Rattle.c_places.specs.Stands.{OfKept, OfPlace, OfBoth}
+use Rattle.c_grammar.specs.CPlaces.Stands.{OfKept, OfPlace, OfBoth}
 use Rattle.c_tree.specs.Views.{node_of, maybe_token, nodes_of}
 use Rattle.c_parser.proofs.TaggedPlaces.{bare-opens, tag-opens, struct-behind}
 use Rattle.std.specs.Option.{option_map}
 use Rattle.c_tree.specs.Tokens.{word_of}
-use Rattle.unit_grammar.specs.TaggedSteps.{read_members}
+use Rattle.c_grammar.specs.UnitGrammar.TaggedSteps.{read_members}
 use Rattle.c_parser.proofs.ListSteps.{members-next}
 use Rattle.c_expr.specs.Gives.{Gives}
 use Rattle.c_parser.proofs.+tags.Goals as goal

@@ -3,14 +3,14 @@ use Rattle.c_tree.specs.Symbol.{symbols_of}
 use Rattle.c_tree.specs.Height.{height_in}
 use Rattle.c_tree.specs.Forget.{view_all}
 use Rattle.c_tree.specs.Views.{nodes_in}
-use Rattle.c_places.specs.Lines.{row_line}
-use Rattle.c_places.specs.Stands.{Stands}
-use Rattle.unit_grammar.specs.Construct.{TaggedType}
-use Rattle.unit_grammar.specs.Names.{declared_by_all}
-use Rattle.unit_grammar.specs.Reading.{read}
+use Rattle.c_grammar.specs.CPlaces.Lines.{row_line}
+use Rattle.c_grammar.specs.CPlaces.Stands.{Stands}
+use Rattle.c_grammar.specs.UnitGrammar.Construct.{TaggedType}
+use Rattle.c_grammar.specs.UnitGrammar.Names.{declared_by_all}
+use Rattle.c_grammar.specs.UnitGrammar.Reading.{read}
 use Rattle.c_expr.specs.Gives.{ending_with, count_in}
 use Rattle.c_parser.specs.TypedOnce.{read_typed_once}
-use Rattle.unit_grammar.specs.TaggedSteps.{read_members}
+use Rattle.c_grammar.specs.UnitGrammar.TaggedSteps.{read_members}
 use Rattle.c_parser.proofs.+tags.Given as goal
 
 abbrev pub decreases-specifiers::specifiers_in_front : goal.decreases-specifiers::specifiers_in_front

@@ -3,8 +3,8 @@ use Rattle.block_flows.specs.Ends.{IsEnd}
 use Rattle.block_flows.proofs.OfEvents.{at-event, none-left}
 use Rattle.block_flows.proofs.Standing.{OnWay, way-start, way-next, way-end}
 use Rattle.least_set.specs.Logs.{IsExactly, IsOnce, SomeGives}
-use Rattle.tuple_flows.proofs.Lists.{if-ok}
-use Rattle.tuple_flows.specs.Behind.{IsBehind}
+use Rattle.block_flows.proofs.TupleFlows.Lists.{if-ok}
+use Rattle.block_flows.specs.TupleFlows.Behind.{IsBehind}
 use Rattle.block_flows.proofs.crossing.ends.Goals as goal
 
 pub loop-event-init : goal.loop-event-init

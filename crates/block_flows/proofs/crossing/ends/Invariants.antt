@@ -1,9 +1,9 @@
 use Rattle.std.proofs.Common.{List, drop}
 use Rattle.block_flows.specs.Events.{AreOfEvents}
 use Rattle.block_flows.proofs.Standing.{OnWay}
-use Rattle.checker_model.specs.Happenings.{Function, Happening}
-use Rattle.checker_model.specs.Reports.{Checker}
-use Rattle.tuple_flows.specs.Moved.{AreObjects}
+use Rattle.path_model.specs.CheckerModel.Happenings.{Function, Happening}
+use Rattle.path_model.specs.CheckerModel.Reports.{Checker}
+use Rattle.block_flows.specs.TupleFlows.Moved.{AreObjects}
 use Rattle.block_flows.proofs.crossing.ends.Given as goal
 
 -- these stand on the way, before the events that are left

@@ -1,5 +1,5 @@
 use Rattle.std.proofs.Common.{refl}
-use Rattle.tuple_flows.proofs.Tuples.{same-parts}
+use Rattle.block_flows.proofs.TupleFlows.Tuples.{same-parts}
 use Rattle.block_flows.proofs.fronts.copy_tuple.Goals as goal
 
 pub returns : goal.returns

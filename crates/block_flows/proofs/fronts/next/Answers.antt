@@ -1,7 +1,7 @@
 use Rattle.std.proofs.Common.{subst, sym, [], inl, inr}
 use Rattle.least_set.specs.Logs.{Adds, SomeGives}
 use Rattle.least_set.proofs.Growing.{nothing, either, adds_nothing, adds_next, adds_exactly, all_of}
-use Rattle.tuple_flows.specs.Behind.{IsBehind}
+use Rattle.block_flows.specs.TupleFlows.Behind.{IsBehind}
 use Rattle.block_flows.proofs.fronts.next.Goals as goal
 
 pub loop-tuple-init : goal.loop-tuple-init

@@ -1,10 +1,10 @@
 use Rattle.std.proofs.Common.{[], take}
-use Rattle.applied_rules.specs.Events.{AreOfEvent}
-use Rattle.checker_model.specs.Happenings.{Function, Happening}
-use Rattle.checker_model.specs.Reports.{Checker}
+use Rattle.state_tuples.specs.AppliedRules.Events.{AreOfEvent}
+use Rattle.path_model.specs.CheckerModel.Happenings.{Function, Happening}
+use Rattle.path_model.specs.CheckerModel.Reports.{Checker}
 use Rattle.least_set.specs.Logs.{Adds, SomeGives}
-use Rattle.tuple_flows.specs.Behind.{IsBehind}
-use Rattle.tuple_flows.specs.Moved.{AreObjects}
+use Rattle.block_flows.specs.TupleFlows.Behind.{IsBehind}
+use Rattle.block_flows.specs.TupleFlows.Moved.{AreObjects}
 use Rattle.block_flows.proofs.fronts.next.Given as goal
 
 -- those of the tuples that were gone through have been added

@@ -1,11 +1,11 @@
 use Rattle.std.proofs.Common.{Option, None, Some, ap, subst, sym, ◌∙◌}
 use Rattle.std.specs.Prelude.{IfSome}
-use Rattle.applied_rules.specs.Takers.{IsFirstFor}
+use Rattle.state_tuples.specs.AppliedRules.Takers.{IsFirstFor}
 use Rattle.block_flows.proofs.Firsts.{kept}
 use Rattle.block_flows.specs.Firings.{acting}
 use Rattle.c_objects.specs.Objects.{Object}
-use Rattle.c_typing.specs.Options.{if_there}
-use Rattle.checker_model.specs.Choices.{scene, taken, taken_global}
+use Rattle.type_rules.specs.Options.{if_there}
+use Rattle.path_model.specs.CheckerModel.Choices.{scene, taken, taken_global}
 use Rattle.block_flows.proofs.taken_rules.acted.Goals as goal
 
 pub returns-in-Some-clause-rule : goal.returns-in-Some-clause-rule

@@ -2,13 +2,13 @@ use Rattle.std.proofs.Common.{◌≡◌, ◌∙◌, refl, sym, subst, ap, map, [
 use Rattle.std.proofs.lemmas.List.Elements.{All-nil, All-push, All-same}
 use Rattle.std.specs.List.{filter_map}
 use Rattle.std.specs.Option.{option_map}
-use Rattle.applied_rules.specs.Takers.{IsFirstFor}
+use Rattle.state_tuples.specs.AppliedRules.Takers.{IsFirstFor}
 use Rattle.block_flows.specs.Firings.{fire_of, fire_in, IsFirstHere}
 use Rattle.block_flows.proofs.Fires.{fire, gave, gave-none}
 use Rattle.c_objects.specs.Objects.{Object}
-use Rattle.checker_model.specs.Choices.{scene}
+use Rattle.path_model.specs.CheckerModel.Choices.{scene}
 use Rattle.least_set.proofs.Growing.{all_of}
-use Rattle.rule_choices.specs.Values.{taken_of}
+use Rattle.state_tuples.specs.RuleChoices.Values.{taken_of}
 use Rattle.block_flows.proofs.taken_rules.fired_each.Goals as goal
 
 pub loop-tuple-init : goal.loop-tuple-init

@@ -1,9 +1,9 @@
 use Rattle.std.proofs.Common.{◌≡◌, map, take}
 use Rattle.std.specs.List.{All, filter_map}
-use Rattle.applied_rules.specs.Events.{AreOfEvent}
+use Rattle.state_tuples.specs.AppliedRules.Events.{AreOfEvent}
 use Rattle.block_flows.specs.Firings.{fire_of, fire_in, IsFirstHere}
-use Rattle.checker_model.specs.Happenings.{Function, Happening}
-use Rattle.checker_model.specs.Reports.{Checker}
+use Rattle.path_model.specs.CheckerModel.Happenings.{Function, Happening}
+use Rattle.path_model.specs.CheckerModel.Reports.{Checker}
 use Rattle.block_flows.proofs.taken_rules.fired_each.Given as goal
 
 -- the tuples that were gone through

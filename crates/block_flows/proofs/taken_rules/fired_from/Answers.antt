@@ -5,8 +5,8 @@ use Rattle.block_flows.proofs.Fires.{fires}
 use Rattle.flow_graph.specs.Values.{event_of}
 use Rattle.least_set.specs.Logs.{IsExactly}
 use Rattle.objects.specs.Units.{facts_in}
-use Rattle.tuple_flows.proofs.Events.{moved-there}
-use Rattle.tuple_flows.proofs.Lists.{if-ok}
+use Rattle.block_flows.proofs.TupleFlows.Events.{moved-there}
+use Rattle.block_flows.proofs.TupleFlows.Lists.{if-ok}
 use Rattle.block_flows.proofs.taken_rules.fired_from.Goals as goal
 
 pub returns-clause-rules : goal.returns-clause-rules

@@ -1,11 +1,11 @@
 use Rattle.std.proofs.Common.{map, take}
 use Rattle.std.specs.List.{All}
-use Rattle.applied_rules.specs.Events.{AreOfEvent}
+use Rattle.state_tuples.specs.AppliedRules.Events.{AreOfEvent}
 use Rattle.block_flows.specs.Firings.{fire_in, TakenHere, IsFirstHere}
-use Rattle.checker_model.specs.Happenings.{Function, Happening}
-use Rattle.checker_model.specs.Reports.{Checker}
+use Rattle.path_model.specs.CheckerModel.Happenings.{Function, Happening}
+use Rattle.path_model.specs.CheckerModel.Reports.{Checker}
 use Rattle.least_set.specs.Logs.{IsExactly, SomeGives}
-use Rattle.tuple_flows.specs.Moved.{AreObjects}
+use Rattle.block_flows.specs.TupleFlows.Moved.{AreObjects}
 use Rattle.block_flows.proofs.taken_rules.fired_here.Given as goal
 
 -- what is taken from the tuples that were gone through

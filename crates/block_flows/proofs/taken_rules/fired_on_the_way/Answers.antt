@@ -6,7 +6,7 @@ use Rattle.block_flows.proofs.Fires.{IsNoted, notes-start, notes-next, notes-end
 use Rattle.block_flows.proofs.Firsts.{among}
 use Rattle.block_flows.proofs.OfEvents.{at-event, none-left}
 use Rattle.least_set.specs.Logs.{IsExactly, SomeGives}
-use Rattle.tuple_flows.specs.Behind.{IsBehind}
+use Rattle.block_flows.specs.TupleFlows.Behind.{IsBehind}
 use Rattle.block_flows.proofs.taken_rules.fired_on_the_way.Goals as goal
 
 pub loop-number-init : goal.loop-number-init

@@ -3,9 +3,9 @@ use Rattle.std.specs.List.{All}
 use Rattle.block_flows.specs.Events.{AreOfEvents}
 use Rattle.block_flows.specs.Firings.{fire_in, IsFirstAmong}
 use Rattle.block_flows.proofs.Fires.{IsNoted}
-use Rattle.checker_model.specs.Happenings.{Function, Happening}
-use Rattle.checker_model.specs.Reports.{Checker}
-use Rattle.tuple_flows.specs.Moved.{AreObjects}
+use Rattle.path_model.specs.CheckerModel.Happenings.{Function, Happening}
+use Rattle.path_model.specs.CheckerModel.Reports.{Checker}
+use Rattle.block_flows.specs.TupleFlows.Moved.{AreObjects}
 use Rattle.block_flows.proofs.taken_rules.fired_on_the_way.Given as goal
 
 -- what is taken at the events that were gone through is noted

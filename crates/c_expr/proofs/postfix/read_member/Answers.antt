@@ -1,4 +1,4 @@
-use Rattle.c_places.specs.Stands.{OfBoth}
+use Rattle.c_grammar.specs.CPlaces.Stands.{OfBoth}
 use Rattle.c_expr.proofs.Standing.{at_node, made, in_arena}
 use Rattle.c_expr.proofs.postfix.read_member.Goals as goal
 

@@ -1,4 +1,4 @@
-use Rattle.c_places.specs.Stands.{OfKept, OfPlace}
+use Rattle.c_grammar.specs.CPlaces.Stands.{OfKept, OfPlace}
 use Rattle.c_expr.proofs.Standing.{made_part}
 use Rattle.c_expr.proofs.specifiers.read_item.Goals as goal
 

@@ -1,5 +1,5 @@
 use Rattle.std.proofs.Common.{◌≡◌, ◌+◌, length, refl, sym, ◌∙◌, arith}
-use Rattle.c_reading.specs.Chunks.{AreChunks}
+use Rattle.c_lexer.specs.CReading.Chunks.{AreChunks}
 use Rattle.c_lexer.proofs.ChunkSteps.{nests_first, nests_next, nests_are, ends_true, ends_false, follow-push, chunk_here, chunk_left, none_more}
 use Rattle.c_lexer.proofs.chunk_bounds.chunks.Goals as goal
 use Rattle.c_lexer.proofs.chunk_bounds.chunks.Goals.{then-start-all+in_ok-push-2, else-start-all}

@@ -1,5 +1,5 @@
 use Rattle.std.proofs.Common.{◌-◌, ◌<◌, ◌≤◌, ℕ, length}
-use Rattle.c_reading.specs.Chunks.{EndsChunk, Follow}
+use Rattle.c_lexer.specs.CReading.Chunks.{EndsChunk, Follow}
 use Rattle.c_lexer.specs.Nests.{Nests}
 use Rattle.c_lexer.proofs.chunk_bounds.chunks.Given as goal
 

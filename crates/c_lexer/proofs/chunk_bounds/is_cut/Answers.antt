@@ -1,6 +1,6 @@
 use Rattle.std.proofs.Common.{◌≡◌, ◌+◌, ◌↔◌, ℕ, Bool, true, false, IsTrue, List, length, refl, sym, ◌∙◌, subst, arith}
 use Rattle.c_tree.specs.declared.token.Token.{Token}
-use Rattle.c_reading.specs.Chunks.{EndsChunk, IsCut}
+use Rattle.c_lexer.specs.CReading.Chunks.{EndsChunk, IsCut}
 use Rattle.c_lexer.proofs.ChunkSteps.{nests_first, nests_next, nests_are, ends_true, ends_false}
 use Rattle.c_lexer.proofs.chunk_bounds.is_cut.Goals as goal
 

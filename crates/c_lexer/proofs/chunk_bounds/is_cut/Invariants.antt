@@ -1,5 +1,5 @@
 use Rattle.std.proofs.Common.{◌≡◌, ◌+◌, ◌-◌, ◌≤◌, ℕ, true, false, length}
-use Rattle.c_reading.specs.Chunks.{EndsChunk}
+use Rattle.c_lexer.specs.CReading.Chunks.{EndsChunk}
 use Rattle.c_lexer.specs.Nests.{Nests}
 use Rattle.c_lexer.proofs.chunk_bounds.is_cut.Given as goal
 

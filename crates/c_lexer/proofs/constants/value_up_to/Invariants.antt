@@ -1,5 +1,5 @@
 use Rattle.std.proofs.Common.{◌≡◌, length}
-use Rattle.c_reading.specs.Constants.{value_after}
+use Rattle.c_lexer.specs.CReading.Constants.{value_after}
 use Rattle.c_lexer.proofs.constants.value_up_to.Given as goal
 
 abbrev pub invariant-going : goal.invariant-going

@@ -4,7 +4,7 @@ use Rattle.c_lexer.proofs.Reaching.{reached_first, reached_next, reached_end, re
 use Rattle.std.proofs.lemmas.Grind.{common_steps}
 use Rattle.std.proofs.lemmas.List.{take_rest, nil_from_length}
 use Rattle.c_lexer.specs.Pieces.{piece_len}
-use Rattle.c_reading.proofs.Readings.{no_reading}
+use Rattle.c_lexer.proofs.CReading.Readings.{no_reading}
 use Rattle.c_lexer.proofs.lexer.lex.Goals as goal
 
 pub cutting-init : goal.cutting-init

@@ -1,6 +1,6 @@
 use Rattle.std.proofs.Common.{◌≡◌, ◌+◌, length}
-use Rattle.c_reading.specs.Cutting.{closing}
-use Rattle.c_reading.specs.Scans.{plus}
+use Rattle.c_lexer.specs.CReading.Cutting.{closing}
+use Rattle.c_lexer.specs.CReading.Scans.{plus}
 use Rattle.c_lexer.proofs.literals.closing.Given as goal
 
 abbrev pub invariant-going : goal.invariant-going

@@ -1,6 +1,6 @@
 use Rattle.std.proofs.Common.{◌∙◌, arith}
 use Rattle.std.proofs.lemmas.Grind.{common_steps}
-use Rattle.c_reading.proofs.Scans.{quoted-next, quoted-behind}
+use Rattle.c_lexer.proofs.CReading.Scans.{quoted-next, quoted-behind}
 use Rattle.c_lexer.proofs.literals.quoted.Goals as goal
 
 pub going-preserved : goal.going-preserved

@@ -1,6 +1,6 @@
 use Rattle.std.proofs.Common.{◌≡◌, ◌+◌, length}
-use Rattle.c_reading.specs.Spellings.{quoted}
-use Rattle.c_reading.specs.Scans.{plus}
+use Rattle.c_lexer.specs.CReading.Spellings.{quoted}
+use Rattle.c_lexer.specs.CReading.Scans.{plus}
 use Rattle.c_lexer.proofs.literals.quoted.Given as goal
 
 abbrev pub invariant-going : goal.invariant-going

@@ -1,5 +1,5 @@
 use Rattle.std.proofs.Common.{◌≡◌, length}
-use Rattle.c_reading.specs.Markers.{are_flags}
+use Rattle.c_lexer.specs.CReading.Markers.{are_flags}
 use Rattle.c_lexer.proofs.markers.are_flags.Given as goal
 
 abbrev pub invariant-going : goal.invariant-going

@@ -1,5 +1,5 @@
 use Rattle.std.proofs.Common.{◌≡◌, ◌++◌, length}
-use Rattle.c_reading.specs.Markers.{unescaped}
+use Rattle.c_lexer.specs.CReading.Markers.{unescaped}
 use Rattle.c_lexer.proofs.markers.unescaped.Given as goal
 
 abbrev pub invariant-going : goal.invariant-going

@@ -1,6 +1,6 @@
 use Rattle.std.proofs.Common.{◌≡◌, ◌+◌, length}
-use Rattle.c_reading.specs.Runs.{run_len}
-use Rattle.c_reading.specs.Spellings.{goes_on}
+use Rattle.c_lexer.specs.CReading.Runs.{run_len}
+use Rattle.c_lexer.specs.CReading.Spellings.{goes_on}
 use Rattle.c_lexer.proofs.numbers.run_len.Given as goal
 
 abbrev pub invariant-going : goal.invariant-going

@@ -1,4 +1,4 @@
-use Rattle.c_reading.proofs.ClassKinds.{kind-punctuator}
+use Rattle.c_lexer.proofs.CReading.ClassKinds.{kind-punctuator}
 use Rattle.c_lexer.proofs.spellings.sign.Goals as goal
 
 pub returns : goal.returns

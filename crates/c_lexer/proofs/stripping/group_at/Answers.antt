@@ -1,6 +1,6 @@
 use Rattle.std.proofs.Common.{◌≡◌, [], ◌∷◌, true, false, reverse, sym, ap, ◌∙◌, arith}
 use Rattle.std.proofs.lemmas.List.{append-nil, nil_from_length, reverse-append}
-use Rattle.c_reading.specs.Strip.{is_open_paren, is_close_paren}
+use Rattle.c_lexer.specs.CReading.Strip.{is_open_paren, is_close_paren}
 use Rattle.c_lexer.proofs.TokenGroups.{at_open, at_open_group, at_close, at_other}
 use Rattle.c_lexer.proofs.stripping.group_at.Goals as goal
 

@@ -1,6 +1,6 @@
 use Rattle.std.proofs.Common.{◌<◌, length, sym, ◌∙◌, arith}
 use Rattle.std.proofs.lemmas.Option.{slice_get-get_or}
-use Rattle.c_reading.proofs.Tests.{some_is}
+use Rattle.c_lexer.proofs.CReading.Tests.{some_is}
 use Rattle.c_lexer.proofs.TokenGroups.{group_within, group_past}
 use Rattle.c_lexer.proofs.stripping.group_len.Goals as goal
 

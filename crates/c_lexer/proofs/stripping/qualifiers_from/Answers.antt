@@ -1,5 +1,5 @@
 use Rattle.std.proofs.Common.{◌+◌, sym, ap, ◌∙◌, arith}
-use Rattle.c_reading.specs.Scans.{plus}
+use Rattle.c_lexer.specs.CReading.Scans.{plus}
 use Rattle.c_lexer.proofs.TokenGroups.{asm_more, asm_stops, asm_past}
 use Rattle.c_lexer.proofs.stripping.qualifiers_from.Goals as goal
 

@@ -1,6 +1,6 @@
 use Rattle.std.proofs.Common.{◌≡◌, ◌+◌, ◌-◌, ◌≤◌, length, drop}
-use Rattle.c_reading.specs.Strip.{asm_len}
-use Rattle.c_reading.specs.Scans.{plus}
+use Rattle.c_lexer.specs.CReading.Strip.{asm_len}
+use Rattle.c_lexer.specs.CReading.Scans.{plus}
 use Rattle.c_lexer.proofs.stripping.qualifiers_from.Given as goal
 
 abbrev pub invariant-qualifying : goal.invariant-qualifying

@@ -1,5 +1,5 @@
 use Rattle.std.proofs.Common.{◌≡◌, ◌++◌, sym, ap, ◌∙◌, arith}
-use Rattle.c_reading.specs.Strip.{stripped}
+use Rattle.c_lexer.specs.CReading.Strip.{stripped}
 use Rattle.c_lexer.proofs.TokenGroups.{strip_dropped, strip_kept, strip_end}
 use Rattle.c_tree.specs.TokenPlaces.{AreOfFile, Rises}
 use Rattle.c_lexer.proofs.Kept.{rises_stripped, file_stripped}

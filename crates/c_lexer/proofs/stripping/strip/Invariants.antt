@@ -1,5 +1,5 @@
 use Rattle.std.proofs.Common.{◌≡◌, ◌-◌, ◌≤◌, ◌++◌, length, drop}
-use Rattle.c_reading.specs.Strip.{stripped_behind}
+use Rattle.c_lexer.specs.CReading.Strip.{stripped_behind}
 use Rattle.c_lexer.proofs.stripping.strip.Given as goal
 
 abbrev pub invariant-going : goal.invariant-going

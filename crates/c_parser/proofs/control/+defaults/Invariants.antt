@@ -2,7 +2,7 @@ use Rattle.std.proofs.Common.{◌≡◌, ℕ, ◌+◌, ◌*◌, ◌≤◌, min, 
 use Rattle.std.specs.Borrow.{Bor}
 use Rattle.c_tree.specs.declared.tree.Tree.{Tree, size-Tree}
 use Rattle.c_tree.specs.Forget.{list_view, view_all}
-use Rattle.unit_grammar.specs.Control.{all_defaults}
+use Rattle.c_grammar.specs.UnitGrammar.Control.{all_defaults}
 use Rattle.c_parser.proofs.control.+defaults.Given as goal
 
 abbrev pub invariant-defaults_of_all-loop-tree : goal.invariant-defaults_of_all-loop-tree

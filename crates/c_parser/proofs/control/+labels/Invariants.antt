@@ -2,7 +2,7 @@ use Rattle.std.proofs.Common.{◌≡◌, ℕ, ◌+◌, ◌*◌, drop, Option, No
 use Rattle.std.specs.Borrow.{Bor}
 use Rattle.c_tree.specs.declared.tree.Tree.{Tree, size-Tree}
 use Rattle.c_tree.specs.Forget.{list_view, view_all}
-use Rattle.unit_grammar.specs.Control.{all_labels}
+use Rattle.c_grammar.specs.UnitGrammar.Control.{all_labels}
 use Rattle.c_parser.specs.Gathered.{gathered}
 use Rattle.c_parser.proofs.control.+labels.Given as goal
 

@@ -2,7 +2,7 @@ use Rattle.std.proofs.Common.{◌-◌, ◌∙◌, refl, arith}
 use Rattle.c_tree.specs.Symbol.{symbols_of}
 use Rattle.c_tree.specs.Forget.{view}
 use Rattle.c_grammar.specs.Nonterminal.{WithName}
-use Rattle.c_places.specs.Stands.{OfNothing, OfBoth}
+use Rattle.c_grammar.specs.CPlaces.Stands.{OfNothing, OfBoth}
 use Rattle.c_expr.proofs.Standing.{made, at_node, at_passed}
 use Rattle.c_parser.proofs.InitialSteps.{declarator-height}
 use Rattle.c_parser.proofs.DeclarationPlaces.{declares}

@@ -3,9 +3,9 @@ use Rattle.c_tree.specs.Symbol.{symbols_of}
 use Rattle.c_tree.specs.Forget.{view}
 use Rattle.c_grammar.specs.Nonterminal.{WithName}
 use Rattle.c_grammar.specs.Reading.{read as read_expressions}
-use Rattle.unit_grammar.specs.Names.{with_declarators}
-use Rattle.unit_grammar.specs.DeclarationSteps.{read_init_declarators}
-use Rattle.unit_grammar.specs.Reading.{read}
+use Rattle.c_grammar.specs.UnitGrammar.Names.{with_declarators}
+use Rattle.c_grammar.specs.UnitGrammar.DeclarationSteps.{read_init_declarators}
+use Rattle.c_grammar.specs.UnitGrammar.Reading.{read}
 use Rattle.c_expr.specs.Gives.{ending_with}
 use Rattle.c_expr.proofs.Items.{height_pushed}
 use Rattle.c_expr.proofs.StandingParts.{ending-start, height-start}

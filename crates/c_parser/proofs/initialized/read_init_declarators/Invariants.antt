@@ -4,12 +4,12 @@ use Rattle.c_tree.specs.Symbol.{symbols_of}
 use Rattle.c_tree.specs.Height.{height_of, height_in}
 use Rattle.c_tree.specs.Forget.{view, view_all}
 use Rattle.c_tree.specs.Views.{node_of}
-use Rattle.c_places.specs.Lines.{◌⨾◌, line_of}
-use Rattle.c_places.specs.Stands.{Stands, StandsOver}
+use Rattle.c_grammar.specs.CPlaces.Lines.{◌⨾◌, line_of}
+use Rattle.c_grammar.specs.CPlaces.Stands.{Stands, StandsOver}
 use Rattle.c_grammar.specs.Reading.{read as read_expressions}
-use Rattle.unit_grammar.specs.Names.{with_declarators}
-use Rattle.unit_grammar.specs.DeclarationSteps.{read_init_declarators}
-use Rattle.unit_grammar.specs.Reading.{read}
+use Rattle.c_grammar.specs.UnitGrammar.Names.{with_declarators}
+use Rattle.c_grammar.specs.UnitGrammar.DeclarationSteps.{read_init_declarators}
+use Rattle.c_grammar.specs.UnitGrammar.Reading.{read}
 use Rattle.c_expr.specs.Gives.{ending_with}
 use Rattle.c_expr.proofs.Standing.{led_line}
 use Rattle.c_parser.proofs.initialized.read_init_declarators.Given as goal

@@ -5,8 +5,8 @@ use Rattle.c_tree.specs.Forget.{view}
 use Rattle.c_tree.specs.Views.{node_of}
 use Rattle.c_grammar.specs.Names.{with_name}
 use Rattle.c_grammar.specs.Reading.{read as read_expressions}
-use Rattle.unit_grammar.specs.Reading.{read}
-use Rattle.c_places.specs.Stands.{OfBoth}
+use Rattle.c_grammar.specs.UnitGrammar.Reading.{read}
+use Rattle.c_grammar.specs.CPlaces.Stands.{OfBoth}
 use Rattle.c_expr.proofs.Standing.{made, at_node}
 use Rattle.c_parser.proofs.InitialSteps.{initialized-read, initialized-lost}
 use Rattle.c_parser.proofs.DeclarationPlaces.{name-stands, initialized-declares}

@@ -1,4 +1,4 @@
-use Rattle.c_places.specs.Stands.{OfNothing, OfBoth}
+use Rattle.c_grammar.specs.CPlaces.Stands.{OfNothing, OfBoth}
 use Rattle.c_tree.specs.Views.{nodes_of}
 use Rattle.c_expr.proofs.Standing.{made, at_passed, list-next, list-last, led-start}
 use Rattle.c_expr.proofs.StandingParts.{list-done, list-start, height-start}
@@ -6,8 +6,8 @@ use Rattle.c_parser.proofs.DeclarationPlaces.{braces_behind}
 use Rattle.std.proofs.Common.{◌-◌, ◌<◌, ◌∙◌, sym, arith, rules}
 use Rattle.c_tree.specs.Symbol.{symbols_of}
 use Rattle.c_grammar.specs.Reading.{read as read_expressions}
-use Rattle.unit_grammar.specs.DeclarationSteps.{read_initials}
-use Rattle.unit_grammar.specs.Reading.{read}
+use Rattle.c_grammar.specs.UnitGrammar.DeclarationSteps.{read_initials}
+use Rattle.c_grammar.specs.UnitGrammar.Reading.{read}
 use Rattle.c_expr.proofs.Items.{height_pushed}
 use Rattle.c_parser.proofs.ListSteps.{initials-next}
 use Rattle.c_parser.proofs.InitialSteps.{commas-start}

@@ -2,10 +2,10 @@ use Rattle.std.proofs.Common.{◌≡◌, ◌+◌, ◌-◌, ◌*◌, ◌≤◌, l
 use Rattle.c_tree.specs.Symbol.{symbols_of}
 use Rattle.c_tree.specs.Height.{height_in}
 use Rattle.c_tree.specs.Forget.{view_all}
-use Rattle.c_places.specs.Stands.{Stands}
+use Rattle.c_grammar.specs.CPlaces.Stands.{Stands}
 use Rattle.c_grammar.specs.Reading.{read as read_expressions}
-use Rattle.unit_grammar.specs.DeclarationSteps.{read_initials}
-use Rattle.unit_grammar.specs.Reading.{read}
+use Rattle.c_grammar.specs.UnitGrammar.DeclarationSteps.{read_initials}
+use Rattle.c_grammar.specs.UnitGrammar.Reading.{read}
 use Rattle.c_expr.proofs.Standing.{led_line}
 use Rattle.c_parser.specs.CommaLists.{commas_after}
 use Rattle.c_parser.proofs.initials.+braces.Given as goal

@@ -1,4 +1,4 @@
-use Rattle.c_places.specs.Stands.{OfBoth}
+use Rattle.c_grammar.specs.CPlaces.Stands.{OfBoth}
 use Rattle.c_expr.proofs.Standing.{made, at_passed}
 use Rattle.c_parser.proofs.jumps.read_break.Goals as goal
 

@@ -2,7 +2,7 @@ use Rattle.std.proofs.Common.{refl}
 use Rattle.c_tree.specs.Syntax.{Specifier, StructDeclaration}
 use Rattle.c_tree.specs.Views.{node_of, nodes_of}
 use Rattle.c_tree.specs.Forget.{view, list_view}
-use Rattle.c_places.specs.Stands.{OfBoth}
+use Rattle.c_grammar.specs.CPlaces.Stands.{OfBoth}
 use Rattle.c_expr.proofs.Standing.{made, at_node}
 use Rattle.c_expr.proofs.StandingParts.{list-done, list-start}
 use Rattle.c_parser.proofs.TaggedPlaces.{list-behind}

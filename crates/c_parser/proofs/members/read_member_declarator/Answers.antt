@@ -1,5 +1,5 @@
 use Rattle.std.proofs.Common.{arith}
-use Rattle.c_places.specs.Stands.{OfNothing, OfBoth}
+use Rattle.c_grammar.specs.CPlaces.Stands.{OfNothing, OfBoth}
 use Rattle.c_expr.proofs.Standing.{made, at_passed, at_node}
 use Rattle.c_parser.proofs.TaggedSteps.{read-low}
 use Rattle.c_parser.proofs.members.read_member_declarator.Goals as goal

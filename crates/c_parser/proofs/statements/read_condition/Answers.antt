@@ -1,4 +1,4 @@
-use Rattle.c_places.specs.Stands.{OfBoth}
+use Rattle.c_grammar.specs.CPlaces.Stands.{OfBoth}
 use Rattle.c_parser.proofs.statements.read_condition.Goals as goal
 
 pub returns-clause-stands : goal.returns-clause-stands

@@ -1,4 +1,4 @@
-use Rattle.c_places.specs.Stands.{OfNothing, OfBoth}
+use Rattle.c_grammar.specs.CPlaces.Stands.{OfNothing, OfBoth}
 use Rattle.c_expr.proofs.Standing.{in_arena}
 use Rattle.c_parser.proofs.statements.read_maybe_expression.Goals as goal
 

@@ -1,7 +1,7 @@
 use Rattle.std.proofs.Common.{refl}
 use Rattle.c_tree.specs.Symbol.{symbol_of, symbols_of}
 use Rattle.c_tree.specs.Syntax.{Specifier, EnumTag}
-use Rattle.c_places.specs.Stands.{OfBoth}
+use Rattle.c_grammar.specs.CPlaces.Stands.{OfBoth}
 use Rattle.c_expr.proofs.Standing.{made, at_passed}
 use Rattle.c_parser.proofs.TaggedPlaces.{bare-opens, tag-opens}
 use Rattle.c_parser.proofs.TaggedSteps.{made-declares}

@@ -1,4 +1,4 @@
-use Rattle.c_places.specs.Stands.{OfNothing, OfBoth}
+use Rattle.c_grammar.specs.CPlaces.Stands.{OfNothing, OfBoth}
 use Rattle.c_expr.proofs.Standing.{made_part, at_front, some_kept, in_arena}
 use Rattle.c_parser.proofs.tagged.read_enumerator.Goals as goal
 

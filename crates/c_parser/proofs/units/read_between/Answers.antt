@@ -1,7 +1,7 @@
 use Rattle.std.proofs.Common.{◌≡◌, ◌+◌, ◌<◌, ◌≤◌, ℕ, Bool, true, false, length, arith}
 use Rattle.c_tree.specs.Views.{node_of}
-use Rattle.c_places.specs.Lines.{line_of}
-use Rattle.c_reading.specs.Chunks.{EndsChunk}
+use Rattle.c_grammar.specs.CPlaces.Lines.{line_of}
+use Rattle.c_lexer.specs.CReading.Chunks.{EndsChunk}
 use Rattle.c_parser.proofs.Chunks.{ends_inside, ends_last}
 use Rattle.c_parser.proofs.PartStands.{stands_in_all}
 use Rattle.c_parser.proofs.units.read_between.Goals as goal

@@ -2,7 +2,7 @@ use Rattle.std.proofs.Common.{◌≡◌, ◌+◌, ◌*◌, ◌≤◌, ◌<◌, �
 use Rattle.std.proofs.lemmas.List.{drop_more}
 use Rattle.std.proofs.lemmas.Option.{slice_get-get_or}
 use Rattle.c_tree.specs.declared.place.Place.{Place}
-use Rattle.c_reading.specs.Chunks.{Follow, AreChunks}
+use Rattle.c_lexer.specs.CReading.Chunks.{Follow, AreChunks}
 use Rattle.c_expr.proofs.Standing.{row-start, row-next}
 use Rattle.c_expr.specs.Standing.{IsFirst}
 use Rattle.c_parser.specs.Units.{IsFirstBadAt}

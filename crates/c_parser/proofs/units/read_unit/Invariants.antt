@@ -1,8 +1,8 @@
 use Rattle.std.proofs.Common.{ℕ, ◌+◌, ◌-◌, ◌*◌, ◌≤◌, drop, length}
 use Rattle.c_tree.specs.Views.{nodes_in}
-use Rattle.c_places.specs.Lines.{row_line}
-use Rattle.c_places.specs.Stands.{Stands}
-use Rattle.c_reading.specs.Chunks.{Follow}
+use Rattle.c_grammar.specs.CPlaces.Lines.{row_line}
+use Rattle.c_grammar.specs.CPlaces.Stands.{Stands}
+use Rattle.c_lexer.specs.CReading.Chunks.{Follow}
 use Rattle.c_parser.proofs.Chunks.{GoesOn, BadGoesOn}
 use Rattle.c_parser.proofs.units.read_unit.Given as goal
 

@@ -1,11 +1,11 @@
 use Rattle.std.proofs.Common.{◌≡◌, ◌∙◌, ℕ, Option, Some, None, Bor, ap, sym, subst}
 use Rattle.c_tree.specs.Views.{node_of, nodes_of}
-use Rattle.c_typing.specs.Options.{◌>?◌}
+use Rattle.type_rules.specs.Options.{◌>?◌}
 use Rattle.call_graph.specs.Followed.{body_followed}
 use Rattle.metal_tree.specs.Whole.{machine_view}
-use Rattle.programs.specs.Calls.{called_name_at}
-use Rattle.programs.specs.Definitions.{definitions, trees_in}
-use Rattle.programs.proofs.Placed.{one-unit}
+use Rattle.call_graph.specs.OfPrograms.Calls.{called_name_at}
+use Rattle.call_graph.specs.OfPrograms.Definitions.{definitions, trees_in}
+use Rattle.call_graph.proofs.OfPrograms.Placed.{one-unit}
 use Rattle.typed_unit.specs.declared.typed_unit.TypedUnit.{TypedUnit}
 use Rattle.typed_unit.specs.Places.{StandsAt}
 use Rattle.call_graph.proofs.following.followed.Goals as goal

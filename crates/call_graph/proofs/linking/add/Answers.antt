@@ -1,5 +1,5 @@
 use Rattle.std.proofs.Common.{refl}
-use Rattle.programs.specs.Definitions.{defined_by}
+use Rattle.call_graph.specs.OfPrograms.Definitions.{defined_by}
 use Rattle.call_graph.proofs.Linked.{next-repeats}
 use Rattle.typed_unit.specs.Functions.{function_of}
 use Rattle.call_graph.proofs.linking.add.Goals as goal

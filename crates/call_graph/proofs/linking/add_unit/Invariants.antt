@@ -1,7 +1,7 @@
 use Rattle.std.proofs.Common.{◌≡◌, ◌++◌, List, map, drop}
-use Rattle.c_typing.specs.Functions.{Defined}
-use Rattle.programs.specs.Definitions.{defined_by}
-use Rattle.programs.specs.Repeats.{first_repeat}
+use Rattle.type_rules.specs.Functions.{Defined}
+use Rattle.call_graph.specs.OfPrograms.Definitions.{defined_by}
+use Rattle.call_graph.specs.OfPrograms.Repeats.{first_repeat}
 use Rattle.typed_unit.specs.Functions.{function_of}
 use Rattle.call_graph.proofs.linking.add_unit.Given as goal
 

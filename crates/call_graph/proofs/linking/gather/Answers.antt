@@ -2,8 +2,8 @@ use Rattle.std.proofs.Common.{◌+◌, ◌<◌, [], length, map, drop, arith}
 use Rattle.std.proofs.lemmas.Grind.{common_steps}
 use Rattle.call_graph.specs.Faults.{IsRepeat}
 use Rattle.call_graph.proofs.Linked.{passes, repeat-among, room-for-unit, unit-at}
-use Rattle.programs.specs.Definitions.{defined_by, kept_in}
-use Rattle.programs.specs.Repeats.{first_repeat}
+use Rattle.call_graph.specs.OfPrograms.Definitions.{defined_by, kept_in}
+use Rattle.call_graph.specs.OfPrograms.Repeats.{first_repeat}
 use Rattle.typed_unit.specs.Functions.{function_of}
 use Rattle.call_graph.proofs.linking.gather.Goals as goal
 

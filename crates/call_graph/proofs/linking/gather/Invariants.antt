@@ -1,6 +1,6 @@
 use Rattle.std.proofs.Common.{◌≡◌, ◌++◌, [], drop}
-use Rattle.programs.specs.Definitions.{defined_by, kept_in}
-use Rattle.programs.specs.Repeats.{first_repeat}
+use Rattle.call_graph.specs.OfPrograms.Definitions.{defined_by, kept_in}
+use Rattle.call_graph.specs.OfPrograms.Repeats.{first_repeat}
 use Rattle.call_graph.proofs.linking.gather.Given as goal
 
 -- the functions of the units up to here are kept, and the first repeat is among those that are left

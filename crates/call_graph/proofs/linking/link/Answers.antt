@@ -1,7 +1,7 @@
 use Rattle.call_graph.specs.Faults.{IsLinkFault}
 use Rattle.call_graph.proofs.Linked.{few, no-fault, passes, the-fault}
-use Rattle.programs.specs.Definitions.{definitions, trees_in}
-use Rattle.programs.specs.Repeats.{link_fault}
+use Rattle.call_graph.specs.OfPrograms.Definitions.{definitions, trees_in}
+use Rattle.call_graph.specs.OfPrograms.Repeats.{link_fault}
 use Rattle.call_graph.proofs.linking.link.Goals as goal
 
 pub gather-requires : goal.gather-requires

@@ -1,5 +1,5 @@
 use Rattle.std.proofs.Common.{Global, map, string_bytes, refl, inl}
-use Rattle.reporters.proofs.Appending.{on_err}
+use Rattle.report_model.proofs.OfReporters.Appending.{on_err}
 use Rattle.command.specs.Tasks.{command_of}
 use Rattle.command.proofs.Plans.{failed_for_words, leaves_for_words, leaves_unasked}
 use Rattle.command.proofs.plan.decide.Goals as goal

@@ -1,12 +1,12 @@
 use Rattle.std.proofs.Common.{length, map, string_bytes, sym, ap, ◌+◌, ◌∙◌}
 use Rattle.std.proofs.lemmas.Result.{IfOk-weaker}
-use Rattle.reporters.proofs.Appending.{on_err}
+use Rattle.report_model.proofs.OfReporters.Appending.{on_err}
 use Rattle.command_words.specs.Words.{is_checker_word, is_source_word}
 use Rattle.command.specs.Plans.{IsAmong, IsPlanOf}
 use Rattle.command.specs.Tasks.{command_of}
 use Rattle.command.proofs.Plans.{due_for_none, due_for_reports, failed_for_none, is_among, kind_few, of_both}
-use Rattle.judged_files.specs.FirstFault.{AnswersUnjudged}
-use Rattle.judged_files.specs.Judged.{AreAccepted}
+use Rattle.command.specs.JudgedFiles.FirstFault.{AnswersUnjudged}
+use Rattle.command.specs.JudgedFiles.Judged.{AreAccepted}
 use Rattle.request_files.specs.Views.{words_of}
 use Rattle.command.proofs.plan.plan_task.Goals as goal
 

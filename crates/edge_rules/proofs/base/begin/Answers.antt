@@ -1,5 +1,5 @@
 use Rattle.edge_rules.proofs.Beginnings.{of-all-roots}
-use Rattle.engine_tables.proofs.Places.{if-ok}
+use Rattle.function_tables.proofs.EngineTables.Places.{if-ok}
 use Rattle.edge_rules.proofs.base.begin.Goals as goal
 
 pub returns : goal.returns

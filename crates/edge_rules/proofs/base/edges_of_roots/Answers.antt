@@ -1,8 +1,8 @@
-use Rattle.edge_steps.specs.Steps.{BeginsIn}
+use Rattle.path_edges.specs.EdgeSteps.Steps.{BeginsIn}
 use Rattle.least_set.specs.Logs.{IsExactly, SomeGives}
 use Rattle.least_set.proofs.Growing.{all_of}
-use Rattle.programs.specs.declared.functions.FnId.{FnId}
-use Rattle.engine_tables.specs.Known.{checker_in, texts_in, graphs_in}
+use Rattle.call_graph.specs.declared.programs.functions.FnId.{FnId}
+use Rattle.function_tables.specs.EngineTables.Known.{checker_in, texts_in, graphs_in}
 use Rattle.edge_rules.proofs.Beginnings.{given-at}
 use Rattle.edge_rules.proofs.base.edges_of_roots.Goals as goal
 

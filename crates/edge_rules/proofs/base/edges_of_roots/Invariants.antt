@@ -1,7 +1,7 @@
 use Rattle.std.proofs.Common.{take}
 use Rattle.least_set.specs.Logs.{IsExactly, SomeGives}
-use Rattle.engine_tables.specs.Known.{AreKnown, checker_in, texts_in, graphs_in}
-use Rattle.edge_steps.specs.Steps.{BeginsIn}
+use Rattle.function_tables.specs.EngineTables.Known.{AreKnown, checker_in, texts_in, graphs_in}
+use Rattle.path_edges.specs.EdgeSteps.Steps.{BeginsIn}
 use Rattle.edge_rules.proofs.base.edges_of_roots.Given as goal
 
 -- those of the roots that were gone through

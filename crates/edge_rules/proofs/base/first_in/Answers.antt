@@ -1,7 +1,7 @@
 use Rattle.std.proofs.Common.{◌∙◌, ap}
-use Rattle.edge_steps.specs.Steps.{first_edges}
+use Rattle.path_edges.specs.EdgeSteps.Steps.{first_edges}
 use Rattle.edge_rules.proofs.Beginnings.{first-exactly}
-use Rattle.engine_tables.proofs.Places.{if-ok, place}
+use Rattle.function_tables.proofs.EngineTables.Places.{if-ok, place}
 use Rattle.edge_rules.proofs.base.first_in.Goals as goal
 
 pub returns : goal.returns

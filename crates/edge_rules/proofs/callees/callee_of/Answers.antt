@@ -1,9 +1,9 @@
 use Rattle.std.proofs.Common.{◌∙◌, None, Some}
-use Rattle.checker_graphs.specs.Graphs.{function_at}
+use Rattle.path_model.specs.CheckerGraphs.Graphs.{function_at}
 use Rattle.edge_rules.specs.declared.callees.Callee.{Callee}
 use Rattle.edge_rules.proofs.Followed.{none-into}
-use Rattle.engine_tables.specs.Known.{checker_in, texts_in}
-use Rattle.engine_tables.proofs.Places.{leads-into}
+use Rattle.function_tables.specs.EngineTables.Known.{checker_in, texts_in}
+use Rattle.function_tables.proofs.EngineTables.Places.{leads-into}
 use Rattle.edge_rules.proofs.callees.callee_of.Goals as goal
 
 pub returns-in_err-number-clause-followed : goal.returns-in_err-number-clause-followed

@@ -1,9 +1,9 @@
 use Rattle.std.proofs.Common.{sym, subst}
-use Rattle.edge_steps.specs.Steps.{StandsBehind}
+use Rattle.path_edges.specs.EdgeSteps.Steps.{StandsBehind}
 use Rattle.least_set.specs.Logs.{IsExactly}
-use Rattle.engine_tables.specs.Known.{IsFrame, checker_in, texts_in, graphs_in}
+use Rattle.function_tables.specs.EngineTables.Known.{IsFrame, checker_in, texts_in, graphs_in}
 use Rattle.edge_rules.proofs.CrossedBlocks.{nothing-behind}
-use Rattle.engine_tables.proofs.Places.{if-ok, if-some}
+use Rattle.function_tables.proofs.EngineTables.Places.{if-ok, if-some}
 use Rattle.edge_rules.proofs.crossing.behind.Goals as goal
 
 pub returns-in-Some : goal.returns-in-Some

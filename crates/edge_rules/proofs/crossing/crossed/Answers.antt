@@ -1,11 +1,11 @@
 use Rattle.std.proofs.Common.{◌∙◌, sym, subst, ap, slice_get}
 use Rattle.std.specs.Option.{option_copied}
 use Rattle.block_flows.specs.Events.{AreOfEvents}
-use Rattle.checker_programs.specs.Texts.{function_of}
+use Rattle.path_model.specs.CheckerPrograms.Texts.{function_of}
 use Rattle.flow_graph.specs.Seen.{graph_in}
-use Rattle.engine_tables.specs.Known.{checker_in, texts_in}
+use Rattle.function_tables.specs.EngineTables.Known.{checker_in, texts_in}
 use Rattle.edge_rules.proofs.CrossedBlocks.{crossed}
-use Rattle.engine_tables.proofs.Places.{if-ok, place, rules-there, rules-none}
+use Rattle.function_tables.proofs.EngineTables.Places.{if-ok, place, rules-there, rules-none}
 use Rattle.edge_rules.proofs.crossing.crossed.Goals as goal
 
 pub returns-in-Some : goal.returns-in-Some

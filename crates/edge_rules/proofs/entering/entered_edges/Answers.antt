@@ -1,5 +1,5 @@
 use Rattle.edge_rules.specs.Entries.{IsEntry}
-use Rattle.edge_steps.proofs.Lists.{given-next}
+use Rattle.path_edges.proofs.EdgeSteps.Lists.{given-next}
 use Rattle.flow_graph.specs.Seen.{graph_in}
 use Rattle.least_set.specs.Logs.{IsExactly, SomeGives}
 use Rattle.least_set.proofs.Growing.{all_of}

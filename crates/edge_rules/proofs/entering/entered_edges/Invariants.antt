@@ -1,10 +1,10 @@
 use Rattle.std.proofs.Common.{◌≡◌, take}
-use Rattle.checker_model.specs.Happenings.{Function, Site}
-use Rattle.checker_model.specs.Reports.{Checker}
+use Rattle.path_model.specs.CheckerModel.Happenings.{Function, Site}
+use Rattle.path_model.specs.CheckerModel.Reports.{Checker}
 use Rattle.edge_rules.specs.Entries.{IsEntry}
 use Rattle.flow_graph.specs.Seen.{graph_in}
 use Rattle.least_set.specs.Logs.{IsExactly, SomeGives}
-use Rattle.tuple_flows.specs.Passed.{IsSite}
+use Rattle.block_flows.specs.TupleFlows.Passed.{IsSite}
 use Rattle.edge_rules.proofs.entering.entered_edges.Given as goal
 
 -- those of the tuples that were gone through

@@ -1,6 +1,6 @@
 use Rattle.edge_rules.proofs.Entered.{entries-exactly, of-entries}
 use Rattle.edge_rules.proofs.entering.entered_with.Goals as goal
-use Rattle.engine_tables.proofs.Places.{if-ok}
+use Rattle.function_tables.proofs.EngineTables.Places.{if-ok}
 
 pub returns : goal.returns
 returns c =

@@ -1,10 +1,10 @@
 use Rattle.std.proofs.Common.{refl}
 use Rattle.c_tree.specs.Views.{node_of}
-use Rattle.checker_programs.specs.Texts.{function_of, site}
+use Rattle.path_model.specs.CheckerPrograms.Texts.{function_of, site}
 use Rattle.edge_rules.proofs.Followed.{followed-leads, passed-leads}
 use Rattle.edge_rules.proofs.following.at_call.Goals as goal
-use Rattle.engine_tables.proofs.Places.{ending-there, if-ok, place}
-use Rattle.engine_tables.specs.Known.{checker_in, texts_in}
+use Rattle.function_tables.proofs.EngineTables.Places.{ending-there, if-ok, place}
+use Rattle.function_tables.specs.EngineTables.Known.{checker_in, texts_in}
 use Rattle.flow_graph.specs.Seen.{graph_in}
 
 pub returns-in_default : goal.returns-in_default

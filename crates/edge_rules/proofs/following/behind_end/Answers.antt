@@ -1,10 +1,10 @@
 use Rattle.std.proofs.Common.{◌∙◌, ap, sym, subst, map}
 use Rattle.std.specs.Prelude.{flat_map}
-use Rattle.edge_steps.specs.Steps.{edge_at}
+use Rattle.path_edges.specs.EdgeSteps.Steps.{edge_at}
 use Rattle.edge_rules.proofs.Followed.{exit-leads, jump-leads}
 use Rattle.edge_rules.proofs.following.behind_end.Goals as goal
-use Rattle.engine_tables.proofs.Places.{if-ok, place}
-use Rattle.engine_tables.specs.Known.{checker_in, texts_in, graphs_in}
+use Rattle.function_tables.proofs.EngineTables.Places.{if-ok, place}
+use Rattle.function_tables.specs.EngineTables.Known.{checker_in, texts_in, graphs_in}
 use Rattle.flow_graph.specs.declared.graph.End.{End}
 use Rattle.flow_graph.specs.Values.{ending_of}
 use Rattle.least_set.specs.Logs.{IsExactly}

@@ -1,8 +1,8 @@
 use Rattle.std.proofs.Common.{sym, subst}
 use Rattle.edge_rules.proofs.Followed.{no-function-leads}
 use Rattle.edge_rules.proofs.following.next_edges.Goals as goal
-use Rattle.engine_tables.proofs.Places.{if-ok, if-some}
-use Rattle.engine_tables.specs.Known.{IsFrame, checker_in, texts_in, graphs_in}
+use Rattle.function_tables.proofs.EngineTables.Places.{if-ok, if-some}
+use Rattle.function_tables.specs.EngineTables.Known.{IsFrame, checker_in, texts_in, graphs_in}
 use Rattle.least_set.specs.Logs.{IsExactly}
 use Rattle.path_edges.specs.Relations.{LeadsTo}
 

@@ -2,8 +2,8 @@ use Rattle.std.proofs.Common.{◌∙◌, sym, ap, subst}
 use Rattle.std.specs.Option.{option_map}
 use Rattle.edge_rules.proofs.Followed.{no-block-leads}
 use Rattle.edge_rules.proofs.following.next_in.Goals as goal
-use Rattle.engine_tables.proofs.Places.{if-ok, place}
-use Rattle.engine_tables.specs.Known.{checker_in, texts_in, graphs_in}
+use Rattle.function_tables.proofs.EngineTables.Places.{if-ok, place}
+use Rattle.function_tables.specs.EngineTables.Known.{checker_in, texts_in, graphs_in}
 use Rattle.flow_graph.specs.Values.{ending_of}
 use Rattle.least_set.specs.Logs.{IsExactly}
 use Rattle.path_edges.specs.Relations.{LeadsTo}

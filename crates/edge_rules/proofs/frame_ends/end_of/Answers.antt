@@ -1,7 +1,7 @@
 use Rattle.std.proofs.Common.{◌≡◌, ◌↔◌, sym, subst, Some}
 use Rattle.edge_rules.proofs.Endings.{not-here, ends-here, never-called, ends-called}
-use Rattle.engine_tables.proofs.Places.{place}
-use Rattle.engine_tables.specs.Known.{checker_in, texts_in, graphs_in}
+use Rattle.function_tables.proofs.EngineTables.Places.{place}
+use Rattle.function_tables.specs.EngineTables.Known.{checker_in, texts_in, graphs_in}
 use Rattle.path_edges.specs.declared.edges.Context.{Context}
 use Rattle.path_edges.specs.Relations.{IsEndOf}
 use Rattle.edge_rules.proofs.frame_ends.end_of.Goals as goal

@@ -1,8 +1,8 @@
 use Rattle.std.proofs.Common.{◌≡◌, ℕ, List, [], ap, subst}
 use Rattle.c_tree.specs.Views.{node_of}
-use Rattle.c_paths.specs.Traces.{Definition}
-use Rattle.c_paths.specs.TreeFlow.{flow_of}
-use Rattle.c_paths.specs.Building.{graph_of, flow_blocks}
+use Rattle.flow_graph.specs.CPaths.Traces.{Definition}
+use Rattle.flow_graph.specs.CPaths.TreeFlow.{flow_of}
+use Rattle.flow_graph.specs.CPaths.Building.{graph_of, flow_blocks}
 use Rattle.flow_graph.specs.declared.statements.BodyBuilder.{BodyBuilder}
 use Rattle.flow_graph.specs.Values.{blocks_of, drafts_of}
 use Rattle.flow_graph.specs.Seen.{graph_in}

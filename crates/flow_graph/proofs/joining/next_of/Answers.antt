@@ -1,5 +1,5 @@
 use Rattle.std.proofs.Common.{◌≡◌, [], ◌∷◌, refl}
-use Rattle.c_paths.specs.Graphs.{ToAny}
+use Rattle.flow_graph.specs.CPaths.Graphs.{ToAny}
 use Rattle.flow_graph.specs.Values.{ending_of}
 use Rattle.flow_graph.proofs.TakenOver.{next_is}
 use Rattle.flow_graph.proofs.joining.next_of.Goals as goal

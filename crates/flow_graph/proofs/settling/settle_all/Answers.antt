@@ -1,6 +1,6 @@
 use Rattle.std.proofs.Common.{◌≡◌, ◌∷◌, [], ◌++◌, List, length, map, refl, sym, ap, subst, ◌∙◌, append_assoc, append-nil, arith}
 use Rattle.std.specs.Vec.Iter.{into_iter_items}
-use Rattle.c_paths.specs.Building.{settled}
+use Rattle.flow_graph.specs.CPaths.Building.{settled}
 use Rattle.flow_graph.specs.Values.{block_of, blocks_of, draft_of, drafts_of}
 use Rattle.flow_graph.proofs.Yielding.{nothing_left, settled_step}
 use Rattle.flow_graph.proofs.settling.settle_all.Goals as goal

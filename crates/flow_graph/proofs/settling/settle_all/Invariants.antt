@@ -1,6 +1,6 @@
 use Rattle.std.proofs.Common.{◌≡◌, ◌++◌, map, length}
 use Rattle.std.specs.Vec.Iter.{into_iter_items, into_iter_len}
-use Rattle.c_paths.specs.Building.{settled}
+use Rattle.flow_graph.specs.CPaths.Building.{settled}
 use Rattle.flow_graph.specs.Values.{blocks_of, drafts_of}
 use Rattle.flow_graph.proofs.settling.settle_all.Given as goal
 

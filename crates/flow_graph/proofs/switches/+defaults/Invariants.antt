@@ -2,8 +2,8 @@ use Rattle.std.proofs.Common.{◌≡◌, ℕ, ◌+◌, ◌*◌, drop, Option, No
 use Rattle.std.specs.Borrow.{Bor}
 use Rattle.c_tree.specs.declared.tree.Tree.{Tree, size-Tree}
 use Rattle.c_tree.specs.Views.{nodes_of, nodes_in}
-use Rattle.c_paths.specs.Listing.{has_default_in}
-use Rattle.c_paths.specs.TreeFlow.{flows_of}
+use Rattle.flow_graph.specs.CPaths.Listing.{has_default_in}
+use Rattle.flow_graph.specs.CPaths.TreeFlow.{flows_of}
 use Rattle.flow_graph.specs.Defaults.{silent, nowhere}
 use Rattle.flow_graph.proofs.switches.+defaults.Given as goal
 

@@ -3,7 +3,7 @@ use Rattle.std.proofs.lemmas.Grind.{common_steps}
 use Rattle.function_tables.proofs.OfFunctions.{tables-next, tables-all}
 use Rattle.function_tables.proofs.tables.build_tables.Goals as goal
 use Rattle.metal_tree.specs.Whole.{machine_view}
-use Rattle.programs.specs.Definitions.{definitions, trees_in}
+use Rattle.call_graph.specs.OfPrograms.Definitions.{definitions, trees_in}
 
 pub loop-number-preserved : goal.loop-number-preserved
 loop-number-preserved c =

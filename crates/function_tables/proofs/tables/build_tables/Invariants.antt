@@ -2,7 +2,7 @@ use Rattle.std.proofs.Common.{◌≤◌, length}
 use Rattle.function_tables.proofs.OfFunctions.{AreFirst}
 use Rattle.function_tables.proofs.tables.build_tables.Given as goal
 use Rattle.metal_tree.specs.Whole.{machine_view}
-use Rattle.programs.specs.Definitions.{definitions, trees_in}
+use Rattle.call_graph.specs.OfPrograms.Definitions.{definitions, trees_in}
 
 -- the tables of the functions before this one
 abbrev pub invariant-loop-number : goal.invariant-loop-number

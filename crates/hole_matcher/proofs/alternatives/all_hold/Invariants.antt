@@ -1,6 +1,6 @@
 use Rattle.std.proofs.Common.{◌≡◌, map, drop}
-use Rattle.hole_bindings.specs.Bindings.{binding_of}
-use Rattle.hole_bindings.specs.Settings.{setting_in}
+use Rattle.hole_matcher.specs.HoleBindings.Bindings.{binding_of}
+use Rattle.hole_matcher.specs.HoleBindings.Settings.{setting_in}
 use Rattle.hole_matcher.proofs.alternatives.all_hold.Given as goal
 use Rattle.hole_matching.specs.Alternatives.{all_hold}
 use Rattle.metal_tree.specs.Views.{item_view}

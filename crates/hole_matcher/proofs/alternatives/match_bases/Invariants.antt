@@ -1,10 +1,10 @@
 use Rattle.std.proofs.Common.{◌≡◌, map, drop}
-use Rattle.hole_bindings.specs.Bindings.{binding_of}
-use Rattle.hole_bindings.specs.Settings.{setting_in}
+use Rattle.hole_matcher.specs.HoleBindings.Bindings.{binding_of}
+use Rattle.hole_matcher.specs.HoleBindings.Settings.{setting_in}
 use Rattle.hole_matcher.proofs.alternatives.match_bases.Given as goal
 use Rattle.hole_matching.specs.Alternatives.{matched_bases}
 use Rattle.metal_tree.specs.Views.{item_view}
-use Rattle.path_subjects.specs.Values.{subject_of}
+use Rattle.c_tree.specs.PathSubjects.Values.{subject_of}
 
 -- what is left decides
 abbrev pub invariant-loop-item : goal.invariant-loop-item

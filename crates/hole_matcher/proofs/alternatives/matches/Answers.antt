@@ -3,11 +3,11 @@ use Rattle.std.specs.Option.{option_map}
 use Rattle.hole_matcher.proofs.RuleSteps.{found-matches}
 use Rattle.hole_matcher.proofs.alternatives.matches.Goals as goal
 use Rattle.hole_matching.specs.Alternatives.{matched_alternative}
-use Rattle.metal_machines.specs.Rules.{alternative_of}
+use Rattle.metal_tree.specs.MetalMachines.Rules.{alternative_of}
 use Rattle.metal_tree.specs.Views.{item_view, items_view}
 use Rattle.metal_tree.specs.Whole.{machine_view}
 use Rattle.objects.specs.Units.{facts_in}
-use Rattle.path_subjects.specs.Values.{subject_of}
+use Rattle.c_tree.specs.PathSubjects.Values.{subject_of}
 
 pub returns-in-Some-clause-matches : goal.returns-in-Some-clause-matches
 returns-in-Some-clause-matches c =

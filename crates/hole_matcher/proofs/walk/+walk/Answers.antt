@@ -4,9 +4,9 @@ use Rattle.c_tree.proofs.Rows.{nodes_out}
 use Rattle.c_tree.specs.declared.tree.Trees.{out-Trees}
 use Rattle.c_tree.specs.Forget.{view, list_view, view_all}
 use Rattle.c_tree.specs.Views.{node_of, nodes_of, nodes_in}
-use Rattle.c_typing.specs.Options.{◌>?◌}
-use Rattle.hole_bindings.specs.Bindings.{behind, binding_of}
-use Rattle.hole_bindings.specs.Settings.{setting_in}
+use Rattle.type_rules.specs.Options.{◌>?◌}
+use Rattle.hole_matcher.specs.HoleBindings.Bindings.{behind, binding_of}
+use Rattle.hole_matcher.specs.HoleBindings.Settings.{setting_in}
 use Rattle.hole_matcher.proofs.HeadSteps.{one-step, two-step, front-step, then-true, then-false, cond-step, braces-step, designated-step, at-operation, at-initializer, at-primary}
 use Rattle.hole_matcher.proofs.ListSteps.{list-takes, list-ends, list-goes, list-done, all-behind}
 use Rattle.hole_matcher.proofs.WalkSteps.{by_level, by_hole, by_likewise, last-matched, same-seat}
@@ -18,10 +18,10 @@ use Rattle.hole_matching.specs.Matching.{One, Many, Elsewhere}
 use Rattle.hole_matching.specs.Pattern.{Identifier, Member, Offsetof, Unary, likewise, more, no_more}
 use Rattle.hole_matching.specs.Subjects.{trees}
 use Rattle.hole_matching.specs.Written.{pattern_of, patterns_of, patterns_then, one_part, two_parts}
-use Rattle.path_subjects.specs.Subjects.{Tree}
-use Rattle.path_subjects.specs.Values.{subject_of}
-use Rattle.tree_levels.specs.declared.heads.One.TheVariants as one
-use Rattle.tree_levels.specs.Levels.{level_opened}
+use Rattle.c_tree.specs.PathSubjects.Subjects.{Tree}
+use Rattle.c_tree.specs.PathSubjects.Values.{subject_of}
+use Rattle.tree_comparison.specs.declared.tree_levels.heads.One.TheVariants as one
+use Rattle.tree_comparison.specs.TreeLevels.Levels.{level_opened}
 
 pub match_tree-returns-in-Some : goal.match_tree-returns-in-Some
 match_tree-returns-in-Some t c =

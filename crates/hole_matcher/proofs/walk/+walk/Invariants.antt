@@ -9,8 +9,8 @@ use Rattle.c_tree.specs.declared.declaration.Initializer.{size-Initializer}
 use Rattle.c_tree.specs.declared.declaration.Part.{size-Part}
 use Rattle.c_tree.specs.Forget.{list_view, view_all}
 use Rattle.c_tree.specs.Views.{nodes_of, nodes_in}
-use Rattle.hole_bindings.specs.Bindings.{binding_of}
-use Rattle.hole_bindings.specs.Settings.{setting_in}
+use Rattle.hole_matcher.specs.HoleBindings.Bindings.{binding_of}
+use Rattle.hole_matcher.specs.HoleBindings.Settings.{setting_in}
 use Rattle.hole_matcher.specs.Walks.{seat_of}
 use Rattle.hole_matching.specs.Matched.{matched_all}
 use Rattle.hole_matching.specs.Subjects.{trees}

@@ -3,7 +3,7 @@ use Rattle.hole_roots.proofs.alternatives.all_agree.Given as goal
 use Rattle.hole_roots.specs.Roots.{all_agree}
 use Rattle.metal_tree.specs.Views.{item_view}
 use Rattle.objects.specs.Units.{facts_in}
-use Rattle.path_subjects.specs.Values.{subject_of}
+use Rattle.c_tree.specs.PathSubjects.Values.{subject_of}
 
 -- what is left decides
 abbrev pub invariant-loop-item : goal.invariant-loop-item

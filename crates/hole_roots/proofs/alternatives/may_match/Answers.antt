@@ -2,11 +2,11 @@ use Rattle.std.proofs.Common.{◌∙◌, sym, ap, refl, map, None, Some}
 use Rattle.std.specs.Option.{option_map}
 use Rattle.hole_roots.proofs.ItemSteps.{found-agrees, never-matched}
 use Rattle.hole_roots.proofs.alternatives.may_match.Goals as goal
-use Rattle.metal_machines.specs.Rules.{alternative_of}
+use Rattle.metal_tree.specs.MetalMachines.Rules.{alternative_of}
 use Rattle.metal_tree.specs.Views.{item_view, items_view}
 use Rattle.metal_tree.specs.Whole.{machine_view}
 use Rattle.objects.specs.Units.{facts_in}
-use Rattle.path_subjects.specs.Values.{subject_of}
+use Rattle.c_tree.specs.PathSubjects.Values.{subject_of}
 
 pub returns-in-Some-clause-roots : goal.returns-in-Some-clause-roots
 returns-in-Some-clause-roots c =

@@ -7,7 +7,7 @@ use Rattle.hole_roots.proofs.RootSteps.{called, at_operation, at_primary, consta
 use Rattle.hole_roots.proofs.roots.+root.Goals as goal
 use Rattle.hole_roots.specs.Roots.{has_head}
 use Rattle.objects.specs.Units.{facts_in}
-use Rattle.tree_levels.specs.Levels.{level_opened}
+use Rattle.tree_comparison.specs.TreeLevels.Levels.{level_opened}
 
 pub operation_agrees-returns-in-Index : goal.operation_agrees-returns-in-Index
 operation_agrees-returns-in-Index t c =

@@ -7,7 +7,7 @@ use Rattle.metal_written.specs.declared.written.WrittenRule.{WrittenRule}
 use Rattle.metal_written.specs.Sizes.{HaveSizes}
 use Rattle.metal_written.specs.Written.{row_from, no_rule, rule_view, rules_row}
 use Rattle.metal_written.proofs.Rows.{map-push}
-use Rattle.metal_parts.proofs.InRows.{row-next, row-end, row-gives, row-over}
+use Rattle.metal_clauses.proofs.MetalParts.InRows.{row-next, row-end, row-gives, row-over}
 use Rattle.metal_written.proofs.InSizes.{sizes-turn}
 use Rattle.metal_clauses.proofs.sections.read_rules.Goals as goal
 

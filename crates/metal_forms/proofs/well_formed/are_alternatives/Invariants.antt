@@ -1,6 +1,6 @@
 use Rattle.std.proofs.Common.{◌≡◌, drop, map}
 use Rattle.metal_grammar.specs.Grammar.{Before, each, is_alternative}
-use Rattle.metal_machines.specs.Kept.{all_of}
+use Rattle.metal_tree.specs.MetalMachines.Kept.{all_of}
 use Rattle.metal_forms.specs.Before.{Knows}
 use Rattle.metal_written.specs.Written.{alternative_view, alternatives_row}
 use Rattle.metal_forms.proofs.well_formed.are_alternatives.Given as goal

@@ -1,5 +1,5 @@
 use Rattle.std.proofs.Common.{◌≡◌, ◌++◌, take, filter}
-use Rattle.metal_declared.specs.DeclaredHoles.{declared_views}
+use Rattle.metal_numbers.specs.MetalDeclared.DeclaredHoles.{declared_views}
 use Rattle.metal_numbers.specs.Numbers.{is_kind}
 use Rattle.metal_numbers.proofs.numbering.add_kind.Given as goal
 

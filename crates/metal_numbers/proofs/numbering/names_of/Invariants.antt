@@ -1,5 +1,5 @@
 use Rattle.std.proofs.Common.{◌≡◌, take, map}
-use Rattle.metal_declared.specs.DeclaredHoles.{declared_views}
+use Rattle.metal_numbers.specs.MetalDeclared.DeclaredHoles.{declared_views}
 use Rattle.metal_numbers.proofs.numbering.names_of.Given as goal
 
 abbrev pub invariant-loop-hole : goal.invariant-loop-hole

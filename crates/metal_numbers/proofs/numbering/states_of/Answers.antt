@@ -2,7 +2,7 @@ use Rattle.std.proofs.Common.{◌≤◌, ◌++◌, ◌∷◌, [], length, map, t
 use Rattle.metal_grammar.specs.Meaning.{states_among}
 use Rattle.metal_tree.specs.Parts.{state_names}
 use Rattle.metal_written.specs.Written.{state_view}
-use Rattle.metal_declared.proofs.InHoles.{map_joined, viewed_more}
+use Rattle.metal_numbers.proofs.MetalDeclared.InHoles.{map_joined, viewed_more}
 use Rattle.metal_numbers.specs.Small.{are_few}
 use Rattle.metal_numbers.proofs.FewStates.{few_push, states_few}
 use Rattle.metal_numbers.proofs.numbering.states_of.Goals as goal

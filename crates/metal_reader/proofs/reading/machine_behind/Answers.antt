@@ -1,5 +1,5 @@
 use Rattle.std.proofs.Common.{length, ap, sym, subst, arith}
-use Rattle.metal_declared.specs.DeclaredHoles.{declared_view, declared_views}
+use Rattle.metal_numbers.specs.MetalDeclared.DeclaredHoles.{declared_view, declared_views}
 use Rattle.metal_written.specs.Placed.{placed_view, placed_views}
 use Rattle.metal_written.specs.Written.{clause_views}
 use Rattle.metal_numbers.specs.Numbers.{AreNamed}

@@ -1,7 +1,7 @@
 use Rattle.metal_grammar.specs.FirstFault.{fault_of_rules}
 use Rattle.metal_grammar.specs.Rules.{holes_of, rules_of}
 use Rattle.metal_written.specs.Written.{clause_views}
-use Rattle.metal_faults.specs.FirstFaults.{faults_before_rules}
+use Rattle.metal_reader.specs.MetalFaults.FirstFaults.{faults_before_rules}
 use Rattle.metal_reader.proofs.Few.{in_turn}
 use Rattle.metal_reader.proofs.Refusing.{says_later, says_first}
 use Rattle.metal_reader.proofs.reading.machine_of.Goals as goal

@@ -1,6 +1,6 @@
 use Rattle.std.proofs.Common.{◌++◌, [], ◌∷◌, map, ap, ◌∙◌}
 use Rattle.std.proofs.lemmas.List.{map-append}
-use Rattle.metal_machines.specs.Machine.{HoleText}
+use Rattle.metal_tree.specs.MetalMachines.Machine.{HoleText}
 use Rattle.metal_tree.specs.declared.messages.Piece.TheVariants.{Hole}
 use Rattle.metal_tree.specs.Views.{piece_view}
 use Rattle.metal_written.proofs.InPieces.{step-hole}

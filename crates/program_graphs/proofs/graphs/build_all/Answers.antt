@@ -2,7 +2,7 @@ use Rattle.std.proofs.Common.{◌≡◌, ◌<◌, length, ◌∙◌, arith}
 use Rattle.std.proofs.lemmas.Grind.{common_steps}
 use Rattle.program_graphs.proofs.Gathered.{gathered-next, gathered-all, count-next}
 use Rattle.program_graphs.proofs.graphs.build_all.Goals as goal
-use Rattle.programs.specs.Definitions.{definitions, trees_in}
+use Rattle.call_graph.specs.OfPrograms.Definitions.{definitions, trees_in}
 
 pub loop-number-preserved : goal.loop-number-preserved
 loop-number-preserved c =

@@ -1,7 +1,7 @@
 use Rattle.std.proofs.Common.{◌≡◌, ◌≤◌, length}
 use Rattle.program_graphs.proofs.Gathered.{AreGathered}
 use Rattle.program_graphs.proofs.graphs.build_all.Given as goal
-use Rattle.programs.specs.Definitions.{definitions, trees_in}
+use Rattle.call_graph.specs.OfPrograms.Definitions.{definitions, trees_in}
 
 -- these are the graphs of the functions up to here
 abbrev pub invariant-loop-number : goal.invariant-loop-number

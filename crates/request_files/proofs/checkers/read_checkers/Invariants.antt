@@ -1,7 +1,7 @@
 -- the checkers so far were read without a fault
 use Rattle.std.proofs.Common.{◌≡◌, ◌≤◌, ◌+◌, ◌*◌, ℕ, Some, take, length, slice_get}
 use Rattle.std.specs.Slice.Iter.{iter_mut_rest}
-use Rattle.metal_building.specs.Places.{HasPlaces}
+use Rattle.metal_numbers.specs.MetalBuilding.Places.{HasPlaces}
 use Rattle.metal_tree.specs.declared.machine.Machine.{Machine}
 use Rattle.request_files.specs.InTurn.{AreReadCheckers}
 use Rattle.request_files.specs.Meanings.{AreFirst}

@@ -1,5 +1,5 @@
 use Rattle.std.proofs.Common.{◌≡◌, ◌+◌, ◌*◌, ◌∙◌, length, sym, ap, subst, arith}
-use Rattle.metal_building.specs.Places.{HasPlaces}
+use Rattle.metal_numbers.specs.MetalBuilding.Places.{HasPlaces}
 use Rattle.metal_reader.specs.Faults.{IsLexed}
 use Rattle.request_files.proofs.Refusing.{checker_tokens_known, machine_known, unread_machine}
 use Rattle.request_files.proofs.Turns.{adds_both}

@@ -1,7 +1,7 @@
 use Rattle.std.proofs.Common.{◌∙◌, ap, sym, subst, arith}
-use Rattle.c_reading.specs.Strip.{stripped}
+use Rattle.c_lexer.specs.CReading.Strip.{stripped}
 use Rattle.c_tree.specs.Views.{nodes_of}
-use Rattle.front_end.specs.Sources.{AreTypedTrees}
+use Rattle.request_files.specs.FrontEnd.Sources.{AreTypedTrees}
 use Rattle.typed_unit.specs.Tables.{table_of}
 use Rattle.request_files.proofs.KnownFiles.{stripped_few}
 use Rattle.request_files.proofs.Refusing.{unit_known, has_no_unit}

@@ -3,7 +3,7 @@ use Rattle.std.proofs.lemmas.Grind.{common_steps}
 use Rattle.std.proofs.lemmas.List.{length_push}
 use Rattle.typed_unit.specs.Texts.{texts_of}
 use Rattle.metal_tree.specs.Whole.{machine_view}
-use Rattle.programs.specs.Definitions.{definitions, trees_in}
+use Rattle.call_graph.specs.OfPrograms.Definitions.{definitions, trees_in}
 use Rattle.root_functions.proofs.Listing.{callees_next, lead_next}
 use Rattle.root_functions.proofs.callees.all_callees.Goals as goal
 

@@ -1,7 +1,7 @@
 use Rattle.std.proofs.Common.{◌≡◌, length}
 use Rattle.typed_unit.specs.Texts.{texts_of}
 use Rattle.metal_tree.specs.Whole.{machine_view}
-use Rattle.programs.specs.Definitions.{definitions, trees_in}
+use Rattle.call_graph.specs.OfPrograms.Definitions.{definitions, trees_in}
 use Rattle.root_functions.specs.Callees.{HaveCallees, LeadBelow}
 use Rattle.root_functions.proofs.callees.all_callees.Given as goal
 

@@ -1,5 +1,5 @@
 use Rattle.call_sites.specs.Calls.{nodes_at}
-use Rattle.function_graphs.specs.Known.{known_by}
+use Rattle.call_graph.specs.FunctionGraphs.Known.{known_by}
 use Rattle.metal_tree.specs.Whole.{machine_view}
 use Rattle.root_functions.proofs.Leading.{all_lead}
 use Rattle.root_functions.proofs.callees.callees_of.Goals as goal

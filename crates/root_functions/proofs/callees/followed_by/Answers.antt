@@ -4,7 +4,7 @@ use Rattle.call_sites.specs.Calls.{nodes_at}
 use Rattle.least_set.specs.Logs.{IsExactly}
 use Rattle.least_set.proofs.Growing.{all_of}
 use Rattle.metal_tree.specs.Whole.{machine_view}
-use Rattle.programs.specs.Definitions.{definitions, trees_in}
+use Rattle.call_graph.specs.OfPrograms.Definitions.{definitions, trees_in}
 use Rattle.root_functions.specs.Callees.{FollowedBy}
 use Rattle.root_functions.proofs.Listing.{followed_next, below_next}
 use Rattle.root_functions.proofs.callees.followed_by.Goals as goal

@@ -2,7 +2,7 @@ use Rattle.std.proofs.Common.{length, take}
 use Rattle.call_sites.specs.Calls.{nodes_at}
 use Rattle.least_set.specs.Logs.{IsExactly}
 use Rattle.metal_tree.specs.Whole.{machine_view}
-use Rattle.programs.specs.Definitions.{definitions, trees_in}
+use Rattle.call_graph.specs.OfPrograms.Definitions.{definitions, trees_in}
 use Rattle.root_functions.specs.Callees.{FollowedBy, AreBelow}
 use Rattle.root_functions.proofs.callees.followed_by.Given as goal
 

@@ -2,8 +2,8 @@ use Rattle.std.proofs.Common.{◌<◌, map, length, sym, ap, ◌∙◌, subst}
 use Rattle.std.specs.Global.{Vec}
 use Rattle.typed_unit.specs.Texts.{texts_of}
 use Rattle.metal_tree.specs.Whole.{machine_view}
-use Rattle.programs.specs.declared.functions.FnId.{FnId}
-use Rattle.programs.specs.Definitions.{definitions, trees_in}
+use Rattle.call_graph.specs.declared.programs.functions.FnId.{FnId}
+use Rattle.call_graph.specs.OfPrograms.Definitions.{definitions, trees_in}
 use Rattle.root_functions.specs.Callees.{AreBelow}
 use Rattle.root_functions.specs.Roots.{AreRoots}
 use Rattle.root_functions.proofs.Carried.{roots_listed, seen}

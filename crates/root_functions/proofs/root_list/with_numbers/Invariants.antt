@@ -1,5 +1,5 @@
 use Rattle.std.proofs.Common.{◌≡◌, map, take}
-use Rattle.programs.specs.declared.functions.FnId.{FnId}
+use Rattle.call_graph.specs.declared.programs.functions.FnId.{FnId}
 use Rattle.root_functions.proofs.root_list.with_numbers.Given as goal
 
 -- the functions of the numbers before this one

@@ -1,6 +1,6 @@
 use Rattle.flow_graph.specs.Values.{event_of}
-use Rattle.hole_bindings.specs.Settings.{setting_in}
-use Rattle.rule_choices.specs.Asked.{GlobalState}
+use Rattle.hole_matcher.specs.HoleBindings.Settings.{setting_in}
+use Rattle.state_tuples.specs.RuleChoices.Asked.{GlobalState}
 use Rattle.state_tuples.proofs.Numbered.{all_numbered}
 use Rattle.state_tuples.proofs.choices.fired_global.Goals as goal
 

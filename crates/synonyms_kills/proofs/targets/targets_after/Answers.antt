@@ -1,5 +1,5 @@
 use Rattle.std.proofs.Common.{◌∙◌, sym, ap, subst}
-use Rattle.checker_model.specs.Moves.{move_of}
+use Rattle.path_model.specs.CheckerModel.Moves.{move_of}
 use Rattle.flow_graph.specs.Values.{event_of}
 use Rattle.objects.specs.Units.{facts_in}
 use Rattle.synonyms_kills.specs.Targets.{AreTargets, targets}

@@ -5,11 +5,11 @@ use Rattle.hole_matching.specs.ComparedSubjects.{compared, compared_node, compar
 use Rattle.hole_matching.specs.Pattern.{Assign, likewise, other, same_pattern}
 use Rattle.hole_matching.specs.Written.{one_part, two_parts}
 use Rattle.objects.specs.Units.{facts_in}
-use Rattle.path_subjects.specs.Values.{subject_of}
+use Rattle.c_tree.specs.PathSubjects.Values.{subject_of}
 use Rattle.tree_comparison.proofs.ComparedLevels.{front-same, braces-same, designated-same, at-operation, at-initializer, at-primary}
 use Rattle.tree_comparison.proofs.Sames.{lists-differ, last_compared}
 use Rattle.tree_comparison.proofs.comparison.+same.Goals as goal
-use Rattle.tree_levels.specs.Levels.{level_pattern}
+use Rattle.tree_comparison.specs.TreeLevels.Levels.{level_pattern}
 
 pub same_list-returns-then-all-others : goal.same_list-returns-then-all-others
 same_list-returns-then-all-others t c = sym (lists-differ (facts_in c.args.unit.now) c.args.left.now c.args.right.now c.if-all-others.true)

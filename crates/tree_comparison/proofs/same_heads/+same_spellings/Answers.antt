@@ -1,4 +1,4 @@
-use Rattle.tree_levels.proofs.NoneWritten.{none_same}
+use Rattle.tree_comparison.proofs.TreeLevels.NoneWritten.{none_same}
 use Rattle.tree_comparison.proofs.same_heads.+same_spellings.Goals as goal
 
 pub returns-in-empty : goal.returns-in-empty

@@ -1,5 +1,5 @@
 use Rattle.std.proofs.Common.{◌≡◌, ◌+◌, ℕ, List, length}
-use Rattle.c_reading.specs.Pieces.{behind_bytes}
+use Rattle.c_lexer.specs.CReading.Pieces.{behind_bytes}
 use Rattle.c_lexer.specs.Progress.{here_of, InBounds}
 use Rattle.c_lexer.proofs.here.Here.behind_bytes.Given as goal
 

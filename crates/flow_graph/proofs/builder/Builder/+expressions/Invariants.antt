@@ -5,9 +5,9 @@ use Rattle.c_tree.specs.declared.expression.Primary.{size-Primary}
 use Rattle.c_tree.specs.declared.expression.Operation.{size-Operation}
 use Rattle.c_tree.specs.declared.declaration.Initializer.{size-Initializer}
 use Rattle.c_tree.specs.Views.{nodes_in}
-use Rattle.c_paths.specs.Forms.{done}
-use Rattle.c_paths.specs.TreeForms.{operands}
-use Rattle.c_paths.specs.Building.{row_blocks}
+use Rattle.flow_graph.specs.CPaths.Forms.{done}
+use Rattle.flow_graph.specs.CPaths.TreeForms.{operands}
+use Rattle.flow_graph.specs.CPaths.Building.{row_blocks}
 use Rattle.flow_graph.specs.Values.{drafts_of, made}
 use Rattle.flow_graph.proofs.builder.Builder.+expressions.Given as goal
 

@@ -1,7 +1,7 @@
 use Rattle.std.proofs.Common.{◌≡◌, ◌≤◌, drop, length}
 use Rattle.c_tree.specs.Views.{nodes_in}
-use Rattle.c_paths.specs.TreeFlow.{declarators_row}
-use Rattle.c_paths.specs.Building.{row_blocks}
+use Rattle.flow_graph.specs.CPaths.TreeFlow.{declarators_row}
+use Rattle.flow_graph.specs.CPaths.Building.{row_blocks}
 use Rattle.flow_graph.specs.Values.{drafts_of, made}
 use Rattle.flow_graph.proofs.builder.Builder.declarators.Given as goal
 

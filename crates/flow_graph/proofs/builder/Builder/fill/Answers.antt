@@ -1,9 +1,9 @@
 use Rattle.std.proofs.Common.{◌≡◌, ℕ, List, [], ◌∷◌, map, ap, ◌∙◌}
 use Rattle.std.specs.Prelude.{slice_set}
 use Rattle.std.proofs.lemmas.List.{map-set}
-use Rattle.c_paths.specs.Events.{Event}
-use Rattle.c_paths.specs.Graphs.{ToAny}
-use Rattle.c_paths.specs.Building.{Draft, Settled}
+use Rattle.flow_graph.specs.CPaths.Events.{Event}
+use Rattle.flow_graph.specs.CPaths.Graphs.{ToAny}
+use Rattle.flow_graph.specs.CPaths.Building.{Draft, Settled}
 use Rattle.flow_graph.specs.Values.{event_of, draft_of, drafts_of}
 use Rattle.flow_graph.proofs.builder.Builder.fill.Goals as goal
 

@@ -1,6 +1,6 @@
 use Rattle.c_tree.specs.Views.{node_of}
-use Rattle.c_paths.specs.Fragments.{ToEither}
-use Rattle.c_paths.specs.TreeForms.{form_of}
+use Rattle.flow_graph.specs.CPaths.Fragments.{ToEither}
+use Rattle.flow_graph.specs.CPaths.TreeForms.{form_of}
 use Rattle.flow_graph.proofs.Loops.{still_within}
 use Rattle.flow_graph.proofs.builder.Builder.test.Goals as goal
 

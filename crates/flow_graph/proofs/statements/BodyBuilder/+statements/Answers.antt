@@ -2,11 +2,11 @@ use Rattle.std.proofs.Common.{◌≡◌, ℕ, ◌≤◌, List, [], ◌++◌, ref
 use Rattle.std.specs.Prelude.{not}
 use Rattle.c_tree.specs.Node.{Nodes, IterationShape, For, ForDeclaration}
 use Rattle.c_tree.specs.Views.{node_of, option_node, iteration_shape}
-use Rattle.c_paths.specs.Forms.{done, operand}
-use Rattle.c_paths.specs.Listing.{if_so}
-use Rattle.c_paths.specs.TreeForms.{form_of}
-use Rattle.c_paths.specs.TreeFlow.{maybe_row, maybe_form, declaration_row, flow_of, iteration_flow, flows_of}
-use Rattle.c_paths.specs.Building.{Made, row_blocks, flow_blocks}
+use Rattle.flow_graph.specs.CPaths.Forms.{done, operand}
+use Rattle.flow_graph.specs.CPaths.Listing.{if_so}
+use Rattle.flow_graph.specs.CPaths.TreeForms.{form_of}
+use Rattle.flow_graph.specs.CPaths.TreeFlow.{maybe_row, maybe_form, declaration_row, flow_of, iteration_flow, flows_of}
+use Rattle.flow_graph.specs.CPaths.Building.{Made, row_blocks, flow_blocks}
 use Rattle.flow_graph.specs.declared.statements.BodyBuilder.{BodyBuilder}
 use Rattle.flow_graph.specs.Values.{drafts_of, made}
 use Rattle.flow_graph.specs.Defaults.{silent, nowhere}

@@ -5,7 +5,7 @@ use Rattle.c_tree.specs.declared.tree.Trees.{size-Trees}
 use Rattle.c_tree.specs.declared.statement.Statement.{size-Statement}
 use Rattle.c_tree.specs.declared.statement.Iteration.{size-Iteration}
 use Rattle.c_tree.specs.Views.{nodes_in}
-use Rattle.c_paths.specs.TreeFlow.{flows_of}
+use Rattle.flow_graph.specs.CPaths.TreeFlow.{flows_of}
 use Rattle.flow_graph.specs.Values.{drafts_of}
 use Rattle.flow_graph.specs.Statements.{IsPlaced, rows_ahead}
 use Rattle.flow_graph.proofs.statements.BodyBuilder.+statements.Given as goal

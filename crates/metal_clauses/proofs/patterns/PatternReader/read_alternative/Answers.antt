@@ -6,7 +6,7 @@ use Rattle.metal_grammar.specs.Steps.{read_item}
 use Rattle.metal_written.specs.declared.written.WrittenItem.{WrittenItem}
 use Rattle.metal_written.specs.Written.{row_from, no_item, item_view, alternative_view}
 use Rattle.metal_written.proofs.Rows.{map-push}
-use Rattle.metal_parts.proofs.InRows.{row-next, row-end, row-gives, row-over}
+use Rattle.metal_clauses.proofs.MetalParts.InRows.{row-next, row-end, row-gives, row-over}
 use Rattle.metal_clauses.proofs.patterns.PatternReader.read_alternative.Goals as goal
 
 pub returns-in_err-item-clause-found : goal.returns-in_err-item-clause-found

@@ -6,7 +6,7 @@ use Rattle.metal_grammar.specs.Steps.{read_alternative}
 use Rattle.metal_written.specs.declared.written.WrittenAlternative.{WrittenAlternative}
 use Rattle.metal_written.specs.Written.{row_from, no_alternative, alternative_view, alternatives_row}
 use Rattle.metal_written.proofs.Rows.{map-push}
-use Rattle.metal_parts.proofs.InRows.{row-next, row-end, row-gives, row-over}
+use Rattle.metal_clauses.proofs.MetalParts.InRows.{row-next, row-end, row-gives, row-over}
 use Rattle.metal_clauses.proofs.patterns.PatternReader.read_alternatives.Goals as goal
 
 pub returns-in_err-alternative-clause-found : goal.returns-in_err-alternative-clause-found

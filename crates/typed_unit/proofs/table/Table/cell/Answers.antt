@@ -1,6 +1,6 @@
 use Rattle.std.proofs.Common.{◌∙◌, ap, sym, map, List, Option, None, Some}
 use Rattle.std.specs.Option.{option_map}
-use Rattle.c_typing.specs.Definition.{at}
+use Rattle.type_rules.specs.Definition.{at}
 use Rattle.typed_unit.specs.declared.table.Cell.{Cell}
 use Rattle.typed_unit.specs.Tables.{cell_of}
 use Rattle.typed_unit.proofs.Cells.{cell-at, cell-past}

@@ -1,5 +1,5 @@
 use Rattle.std.proofs.Common.{◌≡◌, ◌+◌, ◌-◌, length}
-use Rattle.c_typing.specs.Order.{put}
+use Rattle.type_rules.specs.Order.{put}
 use Rattle.typed_unit.specs.Tables.{cell_of, table_of}
 use Rattle.typed_unit.proofs.table.Table.put.Given as goal
 

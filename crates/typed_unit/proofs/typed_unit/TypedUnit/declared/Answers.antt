@@ -1,7 +1,7 @@
 use Rattle.c_tree.specs.Views.{node_of, nodes_of}
 use Rattle.std.specs.Option.{option_map}
-use Rattle.c_typing.specs.Parts.{flat}
-use Rattle.c_unit.specs.Vars.{cvar_of}
+use Rattle.type_rules.specs.Parts.{flat}
+use Rattle.type_values.specs.Vars.{cvar_of}
 use Rattle.typed_unit.specs.Tables.{table_of}
 use Rattle.typed_unit.proofs.Placed.{var-placed}
 use Rattle.typed_unit.proofs.typed_unit.TypedUnit.declared.Goals as goal

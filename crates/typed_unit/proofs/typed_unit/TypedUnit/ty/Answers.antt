@@ -2,8 +2,8 @@ use Rattle.std.proofs.Common.{◌∙◌, ap, sym, Bor, Some}
 use Rattle.std.proofs.Math.Logic.{∥∥₁_elim}
 use Rattle.std.specs.Option.{option_map}
 use Rattle.c_tree.specs.Views.{node_of, nodes_of}
-use Rattle.c_typing.specs.Definition.{var_at}
-use Rattle.c_typing.specs.Parts.{flat}
+use Rattle.type_rules.specs.Definition.{var_at}
+use Rattle.type_rules.specs.Parts.{flat}
 use Rattle.typed_unit.specs.declared.table.Cell.{Cell}
 use Rattle.typed_unit.specs.Tables.{cell_of, table_of, type_in}
 use Rattle.typed_unit.proofs.Placed.{cell-at, nothing, some-type}

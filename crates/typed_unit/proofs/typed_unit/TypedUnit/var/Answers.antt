@@ -1,9 +1,9 @@
 use Rattle.std.proofs.Common.{◌≡◌, ◌∙◌, sym, true}
 use Rattle.std.specs.Option.{option_map}
 use Rattle.c_tree.specs.Views.{node_of, nodes_of}
-use Rattle.c_typing.specs.Definition.{var_at}
-use Rattle.c_typing.specs.Parts.{flat}
-use Rattle.c_unit.specs.Vars.{cvar_of}
+use Rattle.type_rules.specs.Definition.{var_at}
+use Rattle.type_rules.specs.Parts.{flat}
+use Rattle.type_values.specs.Vars.{cvar_of}
 use Rattle.typed_unit.specs.Places.{is_identifier}
 use Rattle.typed_unit.specs.Tables.{table_of}
 use Rattle.typed_unit.proofs.Placed.{chosen, identifier-kept, var-placed}

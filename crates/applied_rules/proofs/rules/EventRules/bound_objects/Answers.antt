@@ -1,5 +1,0 @@
-use Rattle.applied_rules.proofs.OfEvents.{all_bound}
-use Rattle.applied_rules.proofs.rules.EventRules.bound_objects.Goals as goal
-
-pub returns : goal.returns
-returns c = all_bound c.args.self.now c.as_slice.result.now c.bound_by.result c.as_slice.ensures.value c.bound_by.ensures

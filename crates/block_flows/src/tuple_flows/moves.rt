@@ -1,0 +1,108 @@
+//! Tuples behind the moves of events.
+
+ghost use Rattle.std.specs.Prelude.{◌≡◌, ◌≤◌, None, is_none, IfOk};
+ghost use Rattle.path_model.specs.CheckerModel.Moves.{source, move_of};
+ghost use Rattle.flow_graph.specs.Values.{event_of};
+ghost use Rattle.least_set.specs.Logs.{IsExactly, SomeGives};
+ghost use Rattle.objects.specs.Units.{facts_in};
+ghost use Rattle.block_flows.specs.TupleFlows.Moved.{AreObjects, IsMoved};
+ghost use Rattle.block_flows.specs.TupleFlows.Facts.{with_object};
+
+use crate::tuple_flows::parts::{with_object, with_objects, without_object};
+use flow_graph::Event;
+use objects::{Object, Origin, copy};
+use state_tuples::Tuple;
+use std::alloc::{AllocError, Global};
+use synonyms_kills::{is_move, source_before, targets_after};
+use typed_unit::TypedUnit;
+
+// Whether an object is unknown behind an event's move, whatever stood before.
+fn is_unknown(event: &Event, unit: &TypedUnit, object: &Object, depth: u8) -> bool
+    requires { depth ≤ 8 }
+    ensures { result ≡ is_none (source depth (move_of (facts_in unit.now) depth (event_of event.now)) object.now) }
+{
+    match source_before(event, unit, object, depth) {
+        Origin::Same => false,
+        Origin::From(_) => false,
+        Origin::Nothing => true,
+    }
+}
+
+// Those of the followed objects that are unknown behind an event's move, in the states of a tuple.
+fn unknown(
+    alloc: Global,
+    event: &Event,
+    unit: &TypedUnit,
+    depth: u8,
+    tuple: &Tuple,
+    followed: &[Object],
+) -> Result<Vec<Tuple>, AllocError>
+    requires { depth ≤ 8 }
+    ensures { IfOk result (λ list. IsExactly list.items (SomeGives (λ o u. (source depth (move_of (facts_in unit.now) depth (event_of event.now)) o ≡ None) × (with_object tuple.now o ≡ u)) followed.now)) }
+{
+    let mut list = Vec::new(alloc);
+    for object in followed {
+        if is_unknown(event, unit, object, depth) {
+            list.push(with_object(tuple, copy(object)))?;
+        }
+    }
+    Ok(list)
+}
+
+// The same where all that are followed are objects: at an event that moves nothing none of them is asked.
+fn made_unknown(
+    alloc: Global,
+    event: &Event,
+    unit: &TypedUnit,
+    depth: u8,
+    tuple: &Tuple,
+    followed: &[Object],
+) -> Result<Vec<Tuple>, AllocError>
+    requires { depth ≤ 8 }
+    ensures { IfOk result (λ list. AreObjects depth followed.now → IsExactly list.items (SomeGives (λ o u. (source depth (move_of (facts_in unit.now) depth (event_of event.now)) o ≡ None) × (with_object tuple.now o ≡ u)) followed.now)) }
+{
+    if is_move(event, unit, depth) {
+        return unknown(alloc, event, unit, depth, tuple, followed);
+    }
+    Ok(Vec::new(alloc))
+}
+
+// The tuples behind an event's move of one without an object.
+fn moved_none(
+    alloc: Global,
+    event: &Event,
+    unit: &TypedUnit,
+    depth: u8,
+    tuple: &Tuple,
+    followed: &[Object],
+) -> Result<Vec<Tuple>, AllocError>
+    requires { depth ≤ 8 }
+    ensures { IfOk result (λ list. tuple.now.object ≡ None → AreObjects depth followed.now → IsExactly list.items (IsMoved depth (move_of (facts_in unit.now) depth (event_of event.now)) followed.now tuple.now)) }
+{
+    let mut list = made_unknown(alloc, event, unit, depth, tuple, followed)?;
+    list.push(without_object(tuple))?;
+    Ok(list)
+}
+
+/// The tuples behind an event's move, before any rule is taken: of a tuple with an object those that have their state from it, and of one
+/// without an object that one, and the followed objects that are unknown there. Those that are followed are objects at this depth. An
+/// event that moves nothing takes constant time.
+pub fn moved(
+    alloc: Global,
+    event: &Event,
+    unit: &TypedUnit,
+    depth: u8,
+    tuple: &Tuple,
+    followed: &[Object],
+) -> Result<Vec<Tuple>, AllocError>
+    requires { depth ≤ 8 }
+    ensures { IfOk result (λ list. AreObjects depth followed.now → IsExactly list.items (IsMoved depth (move_of (facts_in unit.now) depth (event_of event.now)) followed.now tuple.now)) }
+{
+    match &tuple.object {
+        Some(object) => {
+            let targets = targets_after(alloc, event, unit, object, depth)?;
+            with_objects(alloc, tuple, targets.as_slice())
+        }
+        None => moved_none(alloc, event, unit, depth, tuple, followed),
+    }
+}

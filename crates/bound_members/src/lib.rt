@@ -1,9 +1,0 @@
-//! The objects that a checker's rules bind in the functions of a program.
-#![tactic(auto)]
-
-mod blocks;
-mod events;
-mod functions;
-mod items;
-
-pub use functions::bound;

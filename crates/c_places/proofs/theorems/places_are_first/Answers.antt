@@ -1,6 +1,0 @@
-use Rattle.c_places.specs.Lines.{shape_line, numbered}
-use Rattle.c_places.proofs.Places.{first_place}
-use Rattle.c_places.proofs.theorems.places_are_first.Goals as goal
-
-pub returns : goal.returns
-returns c id first shape low high t ts rest h = first_place first (shape_line shape) (numbered id) low high t ts rest h

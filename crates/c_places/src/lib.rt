@@ -1,6 +1,0 @@
-//! Where syntax trees stand: the tokens of each node with their places, and the numbers of the nodes.
-#![tactic(auto)]
-
-mod theorems;
-
-pub use theorems::{numbers_rise, places_are_first};

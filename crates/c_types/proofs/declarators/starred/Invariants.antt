@@ -1,8 +1,0 @@
-use Rattle.std.proofs.Common.{◌≡◌, drop}
-use Rattle.c_typing.specs.Declarators.{starred}
-use Rattle.c_unit.specs.Types.{ctype_of}
-use Rattle.c_types.proofs.declarators.starred.Given as goal
-
--- the stars that are left make the same of what is found as all of them make of the type
-abbrev pub invariant-loop-word : goal.invariant-loop-word
-invariant-loop-word l = starred (drop l.word-index l.pointers) (ctype_of l.found) ≡ starred l.pointers (ctype_of l.ty)

@@ -1,7 +1,0 @@
-use Rattle.std.proofs.Common.{◌∙◌, ap}
-use Rattle.std.specs.Option.{is_some}
-use Rattle.c_types.proofs.Seen.{among-seen}
-use Rattle.c_types.proofs.scopes.Scopes.is_complete.Goals as goal
-
-pub returns : goal.returns
-returns c = c.is_some.ensures ∙ ap is_some c.position.ensures ∙ among-seen c.args.number c.args.self.now.complete

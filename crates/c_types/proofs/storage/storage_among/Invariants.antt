@@ -1,8 +1,0 @@
-use Rattle.std.proofs.Common.{◌≡◌, drop}
-use Rattle.c_tree.specs.Views.{nodes_in, nodes_of}
-use Rattle.c_typing.specs.Specified.{storage_among}
-use Rattle.c_types.proofs.storage.storage_among.Given as goal
-
--- the specifiers that are left decide
-abbrev pub invariant-loop-item : goal.invariant-loop-item
-invariant-loop-item l = storage_among (nodes_in (drop l.item-index l.item-items)) ≡ storage_among (nodes_of l.items)

@@ -1,5 +1,0 @@
-use Rattle.c_typing.proofs.Units.{right-at}
-use Rattle.c_typing.proofs.theorems.cells_are_right.Goals as goal
-
-pub returns : goal.returns
-returns c unit table v r e t m k = right-at unit table v r e t m k

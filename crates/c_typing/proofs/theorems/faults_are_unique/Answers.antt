@@ -1,5 +1,0 @@
-use Rattle.c_typing.proofs.Units.{one-fault}
-use Rattle.c_typing.proofs.theorems.faults_are_unique.Goals as goal
-
-pub returns : goal.returns
-returns c unit a b h k = one-fault unit a b h k

@@ -1,5 +1,0 @@
-use Rattle.c_typing.proofs.Numbers.{numbered-apart}
-use Rattle.c_typing.proofs.theorems.numbers_differ.Goals as goal
-
-pub returns : goal.returns
-returns c unit low high ts rest h = numbered-apart unit low high ts rest h

@@ -1,5 +1,0 @@
-use Rattle.checker_graphs.proofs.GraphTraces.{graphs_have_traces}
-use Rattle.checker_graphs.proofs.theorems.graphs_have_the_traces.Goals as goal
-
-pub returns : goal.returns
-returns c k ts gs h = graphs_have_traces ts gs h k

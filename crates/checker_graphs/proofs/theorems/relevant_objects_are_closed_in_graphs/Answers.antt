@@ -1,5 +1,0 @@
-use Rattle.checker_graphs.proofs.GraphTraces.{closed_in_graphs}
-use Rattle.checker_graphs.proofs.theorems.relevant_objects_are_closed_in_graphs.Goals as goal
-
-pub returns : goal.returns
-returns c k ts gs h = closed_in_graphs ts gs h k

@@ -1,6 +1,0 @@
-//! What a checker reports of a program: its paths from the roots on, with matching calls and returns, as definitions.
-#![tactic(auto)]
-
-mod theorems;
-
-pub use theorems::{relevant_objects_are_closed, relevant_objects_are_objects};

@@ -1,6 +1,0 @@
-//! The reports of all checkers of a request over a program, in the order in which they are printed.
-#![tactic(auto)]
-
-mod reports;
-
-pub use reports::all_reports;

@@ -1,0 +1,10 @@
+use Rattle.std.proofs.Common.{map, take}
+use Rattle.typed_unit.specs.Texts.{texts_of}
+use Rattle.command.specs.CheckerReports.Checkers.{checkers_in}
+use Rattle.metal_tree.specs.Whole.{machine_view}
+use Rattle.saturation.proofs.InOrder.{HasReports}
+use Rattle.command.proofs.checker_reports.reports.gathered.Given as goal
+
+-- the reports of the checkers that were gone through
+abbrev pub invariant-loop-number : goal.invariant-loop-number
+invariant-loop-number l = ∥ HasReports (checkers_in (map machine_view (take l.number l.machines)) l.depth l.names) (texts_of l.program.units.items) l.all.items ∥₁

@@ -1,9 +1,0 @@
-use Rattle.std.proofs.Common.{take}
-use Rattle.engine_tables.specs.Known.{AreKnown, checker_in, texts_in, graphs_in}
-use Rattle.least_set.specs.Logs.{IsExactly, SomeGives}
-use Rattle.path_edges.specs.Relations.{ShowsAt}
-use Rattle.edge_reports.proofs.edges.all_shown.Given as goal
-
--- those of the edges that were gone through
-abbrev pub invariant-loop-edge : goal.invariant-loop-edge
-invariant-loop-edge l = AreKnown l.tables → IsExactly l.reports.items (SomeGives (ShowsAt (checker_in l.tables) (texts_in l.tables) (graphs_in l.tables)) (take l.edge-index l.edges))

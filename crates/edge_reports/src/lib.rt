@@ -1,8 +1,0 @@
-//! What path edges show: the reports of the rules with an action that are taken while an edge's tuple crosses the events of its block.
-#![tactic(auto)]
-
-mod edges;
-mod function_units;
-mod taken_reports;
-
-pub use edges::{all_shown, shown};

@@ -1,0 +1,16 @@
+-- WHAT IS KNOWN of a followed call that was found at the end of a block of a function.
+use Rattle.std.specs.Prelude.{ℕ}
+use Rattle.path_model.specs.CheckerModel.Happenings.{Site}
+use Rattle.path_model.specs.CheckerPrograms.Relevant.{Relevant}
+use Rattle.function_tables.specs.declared.engine_tables.tables.Tables.{Tables}
+use Rattle.function_tables.specs.EngineTables.Known.{checker_in, texts_in, graphs_in}
+use Rattle.least_set.specs.Logs.{IsExactly}
+use Rattle.block_flows.specs.TupleFlows.Passed.{IsSite}
+use Rattle.edge_rules.specs.declared.wait_rules.followed_calls.FollowedCall.{FollowedCall}
+use Rattle.edge_rules.specs.WaitRules.FollowedCalls.{IsCall}
+
+pub record IsFound (t : Tables) (function block : ℕ) (k : FollowedCall) : Type 0 where
+  pub site : Site
+  pub passes : IsSite t.depth k.site site
+  pub call : IsCall (checker_in t) (texts_in t) (graphs_in t) function block k.callee k.behind site
+  pub objects : IsExactly k.objects.now (Relevant (checker_in t) (texts_in t) call.called)

@@ -1,0 +1,151 @@
+//! How an end of a callee wakes who waits for it.
+
+ghost use Rattle.std.specs.Prelude.{◌≡◌, ◌≤◌, IfOk, None};
+ghost use Rattle.path_model.specs.CheckerModel.Happenings.{Function, Site as Call};
+ghost use Rattle.path_model.specs.CheckerModel.Reports.{Checker};
+ghost use Rattle.path_edges.specs.EdgeSteps.Steps.{StandsBehind, woken_edge};
+ghost use Rattle.function_tables.specs.EngineTables.Known.{AreKnown, IsFrame, checker_in, texts_in, graphs_in};
+ghost use Rattle.least_set.specs.Logs.{IsExactly, SomeGives};
+ghost use Rattle.path_edges.specs.declared.edges.Edge.{Edge as End};
+ghost use Rattle.path_edges.specs.Relations.{IsWoken};
+ghost use Rattle.state_tuples.specs.declared.tuple.Tuple.{Tuple as Ended};
+ghost use Rattle.block_flows.specs.TupleFlows.Passed.{IsReturned, IsSite};
+ghost use Rattle.edge_rules.specs.WaitRules.Waiters.{put_back};
+
+use crate::wait_rules::waiting_sites::waiting_site;
+use block_flows::out_of_call;
+use function_tables::{Frame, Tables};
+use objects::{Object, copy};
+use path_edges::{Edge, Waiter, copy_context, woken};
+use refine_restore::Site;
+use state_tuples::Tuple;
+use std::alloc::{AllocError, Global};
+
+// Where a waiter goes on with what is handed back, where its callee has ended with a tuple.
+fn with_handed(
+    alloc: Global,
+    depth: u8,
+    site: &Site,
+    waiter: &Waiter,
+    tuple: &Tuple,
+    objects: &[Object],
+) -> Result<Vec<Edge>, AllocError>
+    requires { depth ≤ 8 }
+    ensures { IfOk result (λ list. (c : Checker) (s : Call) (caller : Function) → c.depth ≡ depth → IsSite depth site.now s → IsExactly list.items (λ d. (u : Ended) × IsReturned c s caller objects.now tuple.now u × (woken_edge waiter.now u ≡ d))) }
+{
+    let handed = out_of_call(alloc, site, depth, tuple, objects)?;
+    woken(alloc, waiter, handed.as_slice())
+}
+
+// The same where it has ended with these tuples.
+fn with_all_handed(
+    alloc: Global,
+    depth: u8,
+    site: &Site,
+    waiter: &Waiter,
+    tuples: &[Tuple],
+    objects: &[Object],
+) -> Result<Vec<Edge>, AllocError>
+    requires { depth ≤ 8 }
+    ensures { IfOk result (λ list. (c : Checker) (s : Call) (caller : Function) → c.depth ≡ depth → IsSite depth site.now s → IsExactly list.items (SomeGives (λ t d. (u : Ended) × IsReturned c s caller objects.now t u × (woken_edge waiter.now u ≡ d)) tuples.now)) }
+{
+    let mut edges = Vec::new(alloc);
+    for tuple in tuples {
+        let mut found = with_handed(alloc, depth, site, waiter, tuple, objects)?;
+        edges.append(&mut found)?;
+    }
+    Ok(edges)
+}
+
+// A saved object with its state, in the global state of a tuple.
+fn put_back(tuple: &Tuple, object: &Object, state: Option<(u8, u16)>) -> Tuple
+    ensures { result ≡ put_back tuple.now object.now state }
+{
+    Tuple {
+        global: tuple.global,
+        object: Some(copy(object)),
+        state,
+    }
+}
+
+// Where a waiter goes on with the object that was saved, at an end of its callee with a tuple.
+fn put_back_edge(waiter: &Waiter, object: &Object, state: Option<(u8, u16)>, tuple: &Tuple) -> Edge
+    ensures { result ≡ woken_edge waiter.now (put_back tuple.now object.now state) }
+{
+    Edge {
+        context: copy_context(&waiter.context),
+        is_root: waiter.is_root,
+        block: waiter.behind,
+        tuple: put_back(tuple, object, state),
+    }
+}
+
+// The same at each of these ends without an object.
+fn with_put_back(
+    alloc: Global,
+    waiter: &Waiter,
+    object: &Object,
+    state: Option<(u8, u16)>,
+    tuples: &[Tuple],
+) -> Result<Vec<Edge>, AllocError>
+    ensures { IfOk result (λ list. IsExactly list.items (SomeGives (λ t d. (t.object ≡ None) × (woken_edge waiter.now (put_back t object.now state) ≡ d)) tuples.now)) }
+{
+    let mut edges = Vec::new(alloc);
+    for tuple in tuples {
+        if tuple.object.is_none() {
+            edges.push(put_back_edge(waiter, object, state, tuple))?;
+        }
+    }
+    Ok(edges)
+}
+
+// Where a waiter in this function goes on that has nothing saved.
+fn goes_on_handed<'a>(
+    alloc: Global,
+    tables: &Tables<'_, '_, 'a>,
+    frame: &Frame<'_, '_, 'a>,
+    waiter: &Waiter,
+    tuples: &[Tuple],
+) -> Result<Vec<Edge>, AllocError>
+    ensures { IfOk result (λ list. AreKnown tables.now → IsFrame tables.now waiter.now.context.function frame.now → waiter.now.saved ≡ None → (e : End) → IsExactly tuples.now (StandsBehind (checker_in tables.now) (texts_in tables.now) (graphs_in tables.now) e) → IsExactly list.items (IsWoken (checker_in tables.now) (texts_in tables.now) (graphs_in tables.now) waiter.now e)) }
+{
+    match waiting_site(tables, frame, waiter.context.function, waiter.block) {
+        Some(site) => with_all_handed(alloc, tables.depth, &site, waiter, tuples, frame.objects),
+        None => Ok(Vec::new(alloc)),
+    }
+}
+
+// Where a waiter in this function goes on.
+fn goes_on<'a>(
+    alloc: Global,
+    tables: &Tables<'_, '_, 'a>,
+    frame: &Frame<'_, '_, 'a>,
+    waiter: &Waiter,
+    tuples: &[Tuple],
+) -> Result<Vec<Edge>, AllocError>
+    ensures { IfOk result (λ list. AreKnown tables.now → IsFrame tables.now waiter.now.context.function frame.now → (e : End) → IsExactly tuples.now (StandsBehind (checker_in tables.now) (texts_in tables.now) (graphs_in tables.now) e) → IsExactly list.items (IsWoken (checker_in tables.now) (texts_in tables.now) (graphs_in tables.now) waiter.now e)) }
+{
+    match &waiter.saved {
+        Some((object, state)) => with_put_back(alloc, waiter, object, *state, tuples),
+        None => goes_on_handed(alloc, tables, frame, waiter, tuples),
+    }
+}
+
+/// Where a waiter goes on behind its call at an end of the callee, where these are the tuples that stand at the end of that edge's block. One
+/// that has nothing saved goes on with each tuple that is handed back of one of them; one that has saved an object goes on with it, in
+/// the state that was saved and the global state of each of them that has no object. Any waiter may be asked for, also one that stands
+/// at no call or in a function that isn't there.
+pub fn wake(
+    alloc: Global,
+    tables: &Tables,
+    waiter: &Waiter,
+    end: &Edge,
+    tuples: &[Tuple],
+) -> Result<Vec<Edge>, AllocError>
+    ensures { IfOk result (λ list. AreKnown tables.now → IsExactly tuples.now (StandsBehind (checker_in tables.now) (texts_in tables.now) (graphs_in tables.now) end.now) → IsExactly list.items (IsWoken (checker_in tables.now) (texts_in tables.now) (graphs_in tables.now) waiter.now end.now)) }
+{
+    match tables.frame(waiter.context.function) {
+        Some(frame) => goes_on(alloc, tables, &frame, waiter, tuples),
+        None => Ok(Vec::new(alloc)),
+    }
+}

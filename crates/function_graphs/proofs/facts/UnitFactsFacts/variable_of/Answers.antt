@@ -1,9 +1,0 @@
-use Rattle.std.proofs.Common.{◌∙◌}
-use Rattle.c_tree.specs.Views.{node_of}
-use Rattle.function_graphs.proofs.Tables.{declared_in}
-use Rattle.function_graphs.proofs.facts.UnitFactsFacts.variable_of.Goals as goal
-
-pub returns : goal.returns
-returns c =
-    let known = c.args.self.now in
-    c.declared.ensures ∙ declared_in known.program.now.units.items known.file known.unit (node_of c.args.declarator.now) known.found

@@ -1,6 +1,0 @@
--- the texts so far were appended
-use Rattle.std.proofs.Common.{◌≡◌, ◌++◌, take, flat_map}
-use Rattle.generated_program.proofs.pieces.append_all.Given as goal
-
-abbrev pub invariant-loop-piece : goal.invariant-loop-piece
-invariant-loop-piece l = l.into ≡ l.initial.into ++ flat_map (λ t. t.now) (take l.piece-index l.texts)

@@ -1,8 +1,0 @@
-use Rattle.std.proofs.Common.{take, []}
-use Rattle.graph_roots.specs.Graphs.{Entered}
-use Rattle.least_set.specs.Logs.{Adds}
-use Rattle.graph_roots.proofs.reaching.entered.Given as goal
-
--- what the functions before this one lead to was added
-abbrev pub invariant-loop-row : goal.invariant-loop-row
-invariant-loop-row l = Adds (Entered (take l.row-index l.row-items)) [] l.found.keys

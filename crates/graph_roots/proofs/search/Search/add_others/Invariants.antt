@@ -1,9 +1,0 @@
-use Rattle.graph_roots.specs.Searches.{AreReached, HasOthers}
-use Rattle.graph_roots.proofs.search.Search.add_others.Given as goal
-
--- all roots among the functions before i are there
-abbrev pub invariant-loop-i : goal.invariant-loop-i
-invariant-loop-i l = record {
-  reached : AreReached l.callees.items l.self.roots.items l.self.reached.keys;
-  others : HasOthers l.callees.items l.i l.fn.self.roots.items l.self.roots.items;
-}

@@ -1,8 +1,0 @@
-//! Calls seen from the other end: the objects that take the state of an object at the entry of a callee, and behind the call.
-#![tactic(auto)]
-
-mod ends;
-mod handed;
-mod takers;
-
-pub use handed::{entered_by, handed_to};

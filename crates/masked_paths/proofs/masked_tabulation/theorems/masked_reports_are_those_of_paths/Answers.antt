@@ -1,0 +1,8 @@
+use Rattle.path_theory.specs.Numbered.{model, origins_of, graphs_of}
+use Rattle.path_theory.proofs.NumberedLaws.{numbered_local}
+use Rattle.masked_paths.specs.Theorems.{mask_of}
+use Rattle.masked_paths.proofs.MaskedTabulation.MaskedReports.{log_errors}
+use Rattle.masked_paths.proofs.masked_tabulation.theorems.masked_reports_are_those_of_paths.Goals as goal
+
+pub returns : goal.returns
+returns k s enough log least = log_errors (model s.checker) (origins_of s.checker) (numbered_local s.checker) (mask_of s.checker s.objects s.loose) (graphs_of s.checker s.program) s.function s.numbers log least enough

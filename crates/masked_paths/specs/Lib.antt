@@ -1,0 +1,9 @@
+pub mod Masked
+pub mod Enough
+pub mod Matched
+pub mod States
+pub mod Within
+pub mod Theorems
+pub mod Example
+pub mod MaskedTabulation
+pub mod StrictFlows

@@ -1,8 +1,0 @@
-//! Makes the machines of texts that have no fault.
-#![tactic(auto)]
-
-mod building;
-mod machines;
-
-pub use building::Builder;
-pub use machines::{builder_of, made_of};

@@ -1,7 +1,0 @@
-use Rattle.std.proofs.Common.{◌≡◌, drop, map}
-use Rattle.metal_grammar.specs.Rules.{is_among}
-use Rattle.metal_declared.specs.DeclaredNames.{declared_name}
-use Rattle.metal_declared.proofs.limits.is_declared.Given as goal
-
-abbrev pub invariant-loop-other : goal.invariant-loop-other
-invariant-loop-other l = is_among (map declared_name (drop l.other-index l.before)) l.name ≡ is_among (map declared_name l.before) l.name

@@ -1,5 +1,0 @@
-use Rattle.metal_faults.proofs.Actions.{wide_members}
-use Rattle.metal_faults.proofs.first_fault.any_wide.Goals as goal
-
-pub loop-literal-init : goal.loop-literal-init
-loop-literal-init c = wide_members c.args.action

@@ -1,9 +1,0 @@
--- The theorems of this crate as statements, which contracts can name.
-use Rattle.std.specs.Prelude.{◌≡◌, ℕ, ◌+◌, List, slice_get}
-use Rattle.metal_machines.specs.Machine.{Rule}
-use Rattle.metal_machines.specs.Limits.{AreNumbered}
-use Rattle.metal_machines.specs.Rules.{rule_numbered}
-
--- Rules that are numbered one after the other are found by their places.
-abbrev pub RulesAreFound : Type 0
-RulesAreFound = (number k : ℕ) (rs : List Rule) → AreNumbered number rs → rule_numbered (number + k) rs ≡ slice_get rs k

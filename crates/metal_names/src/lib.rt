@@ -1,8 +1,0 @@
-//! The names that stand in a pattern, and those of them that are holes.
-#![tactic(auto)]
-
-mod holes;
-mod mentioned;
-
-pub use holes::{is_among, number_among, with_holes};
-pub use mentioned::mentions;

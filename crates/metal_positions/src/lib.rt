@@ -1,8 +1,0 @@
-//! Where the rules of checkers begin.
-#![tactic(auto)]
-
-mod places;
-mod theorems;
-
-pub use places::rule_place;
-pub use theorems::rules_are_counted;

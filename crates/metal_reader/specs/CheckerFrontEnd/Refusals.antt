@@ -1,0 +1,64 @@
+-- The refusals that the faults of the lexer and of the reader of machines come to.
+use Rattle.std.specs.Prelude.{ℕ, Option, Some, None}
+use Rattle.c_tree.specs.Symbol.{symbols_of}
+use Rattle.c_lexer.specs.declared.c_reading.fault.Fault as reading
+use Rattle.c_lexer.specs.declared.c_reading.fault.Fault.TheVariants as lexical
+use Rattle.c_lexer.specs.Tokens.{TokenList}
+use Rattle.c_lexer.specs.declared.fault.Spot.{Spot}
+use Rattle.c_lexer.specs.declared.fault.LexFault.{LexFault}
+use Rattle.c_lexer.specs.declared.fault.LexFault.TheVariants as lexer
+use Rattle.metal_reader.specs.MetalPositions.Positions.{beginnings, position_with}
+use Rattle.metal_reader.specs.declared.metal_faults.fault.MetalFault.{MetalFault}
+use Rattle.metal_reader.specs.declared.metal_faults.fault.MetalFault.TheVariants as faults
+use Rattle.metal_reader.specs.declared.checker_front_end.fault.CheckerFault.TheVariants as checker
+use Rattle.metal_reader.specs.declared.checker_front_end.fault.Refusal.{Refusal}
+use Rattle.metal_reader.specs.declared.checker_front_end.fault.Refusal.TheVariants.{Faulty, NoMemory}
+use Rattle.metal_reader.specs.CheckerFrontEnd.Faults.{of_reading}
+use Rattle.metal_reader.specs.CheckerFrontEnd.Checkers.{stands_at}
+
+abbrev pub kind_and_spot : LexFault → Option (reading.Fault × Spot)
+kind_and_spot (lexer.BadByte spot) = Some (lexical.BadByte, spot)
+kind_and_spot (lexer.OpenText spot) = Some (lexical.OpenText, spot)
+kind_and_spot (lexer.BadNumber spot) = Some (lexical.BadNumber, spot)
+kind_and_spot (lexer.BadMarker spot) = Some (lexical.BadMarker, spot)
+kind_and_spot lexer.NoMemory = None
+
+abbrev pub unread_as : Option (reading.Fault × Spot) → Refusal
+unread_as None = NoMemory
+unread_as (Some k) = Faulty (record { fault = of_reading k.0; source = k.1.source; line = k.1.line })
+
+-- the number, else that of the end
+abbrev pub or_end : TokenList → Option ℕ → ℕ
+or_end list None = list.end.place.token
+or_end list (Some position) = position
+
+-- the number of the first token of a rule
+abbrev pub rule_token : TokenList → ℕ → ℕ
+rule_token list rule = or_end list (position_with 0 rule (beginnings 0 0 (symbols_of list.all)))
+
+abbrev pub unmade_as : TokenList → MetalFault → Refusal
+unmade_as list (faults.Lex fault) = unread_as (kind_and_spot fault)
+unmade_as list (faults.Syntax place) = Faulty (stands_at list checker.Syntax place.token)
+unmade_as list (faults.TooMany which place) = Faulty (stands_at list checker.TooMany place.token)
+unmade_as list (faults.Twice name place) = Faulty (stands_at list checker.Twice place.token)
+unmade_as list (faults.UnknownCallout name place) = Faulty (stands_at list checker.UnknownCallout place.token)
+unmade_as list (faults.TwoVariables rule) = Faulty (stands_at list checker.TwoVariables (rule_token list rule))
+unmade_as list (faults.BadSplit rule) = Faulty (stands_at list checker.BadSplit (rule_token list rule))
+unmade_as list (faults.BadSource rule) = Faulty (stands_at list checker.BadSource (rule_token list rule))
+unmade_as list (faults.VariableMissing rule) = Faulty (stands_at list checker.VariableMissing (rule_token list rule))
+unmade_as list (faults.BadFormat rule) = Faulty (stands_at list checker.BadFormat (rule_token list rule))
+unmade_as list faults.NoMemory = NoMemory
+
+-- the number of the rule that a fault is of
+abbrev pub refused_rule : MetalFault → Option ℕ
+refused_rule (faults.Lex fault) = None
+refused_rule (faults.Syntax place) = None
+refused_rule (faults.TooMany which place) = None
+refused_rule (faults.Twice name place) = None
+refused_rule (faults.UnknownCallout name place) = None
+refused_rule (faults.TwoVariables rule) = Some rule
+refused_rule (faults.BadSplit rule) = Some rule
+refused_rule (faults.BadSource rule) = Some rule
+refused_rule (faults.VariableMissing rule) = Some rule
+refused_rule (faults.BadFormat rule) = Some rule
+refused_rule faults.NoMemory = None

@@ -1,0 +1,7 @@
+//! Where the rules of checkers begin.
+
+mod places;
+mod theorems;
+
+pub use places::rule_place;
+pub use theorems::rules_are_counted;

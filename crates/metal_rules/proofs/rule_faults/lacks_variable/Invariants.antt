@@ -1,8 +1,0 @@
-use Rattle.std.proofs.Common.{◌≡◌, drop}
-use Rattle.metal_grammar.specs.Faults.{any_of}
-use Rattle.metal_written.specs.Placed.{placed_view}
-use Rattle.metal_rules.specs.RuleFaults.{needed_hole}
-use Rattle.metal_rules.proofs.rule_faults.lacks_variable.Given as goal
-
-abbrev pub invariant-loop-hole : goal.invariant-loop-hole
-invariant-loop-hole l = any_of (needed_hole (placed_view l.rule)) (drop l.hole-index l.holes) ≡ any_of (needed_hole (placed_view l.rule)) l.holes

@@ -1,0 +1,3 @@
+pub mod CheckerModel
+pub mod CheckerPrograms
+pub mod CheckerGraphs

@@ -1,0 +1,17 @@
+-- These theorems as statements, which contracts can name.
+use Rattle.std.specs.Prelude.{List}
+use Rattle.c_objects.specs.Objects.{Object, IsObject}
+use Rattle.path_model.specs.CheckerModel.Checkers.{model, origins}
+use Rattle.path_model.specs.CheckerModel.Happenings.{Function}
+use Rattle.path_model.specs.CheckerModel.Reports.{Checker}
+use Rattle.path_model.specs.CheckerPrograms.Paths.{program}
+use Rattle.path_model.specs.CheckerPrograms.Relevant.{Relevant}
+use Rattle.typed_unit.specs.Texts.{Text}
+use Rattle.path_theory.specs.Relevant.{IsClosed}
+
+abbrev pub RelevantObjectsAreClosed : Type 0
+RelevantObjectsAreClosed = (c : Checker) (ts : List Text) → IsClosed (model c) (program c ts) (origins c) (Relevant c ts)
+
+-- each of them is an object at the checker's depth
+abbrev pub RelevantObjectsAreObjects : Type 0
+RelevantObjectsAreObjects = (c : Checker) (ts : List Text) (f : Function) (o : Object) → Relevant c ts f o → IsObject c.depth o

@@ -1,0 +1,5 @@
+//! What a checker reports of a program: its paths from the roots on, with matching calls and returns, as definitions.
+
+mod theorems;
+
+pub use theorems::{relevant_objects_are_closed, relevant_objects_are_objects};

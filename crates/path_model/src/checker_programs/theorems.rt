@@ -1,0 +1,13 @@
+// The theorems about relevant objects, each in the contract of a function that does nothing: a call of it hands the fact to a caller's proof.
+
+ghost use Rattle.path_model.specs.CheckerPrograms.Theorems.{RelevantObjectsAreClosed, RelevantObjectsAreObjects};
+
+/// Whatever is left out where relevant objects alone are followed is unknown on every path, and takes no rule with a report.
+pub fn relevant_objects_are_closed()
+    ensures { RelevantObjectsAreClosed }
+{}
+
+/// Relevant objects have at most as many steps as the depth, and none is the address of what ends in `*`.
+pub fn relevant_objects_are_objects()
+    ensures { RelevantObjectsAreObjects }
+{}

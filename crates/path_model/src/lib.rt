@@ -1,0 +1,17 @@
+//! What a checker reports of a program, as definitions: the moves, choices and reports of a checker, the paths of a program under it, and
+//! these over flow graphs.
+#![tactic(auto)]
+
+mod checker_graphs;
+mod checker_model;
+mod checker_programs;
+
+pub use checker_graphs::{
+    functions_have_one_number, functions_have_their_graphs, functions_stand_apart,
+    graphs_have_the_traces, graphs_report_the_same, relevant_objects_are_closed_in_graphs,
+};
+pub use checker_model::{
+    actuals_reach_what_formals_give, ends_are_quiet, one_object_at_a_time,
+    other_events_ignore_frames,
+};
+pub use checker_programs::{relevant_objects_are_closed, relevant_objects_are_objects};

@@ -1,9 +1,0 @@
-use Rattle.relevant_objects.proofs.Adding.{back-added}
-use Rattle.relevant_objects.proofs.Gathered.{if-ok}
-use Rattle.relevant_objects.proofs.calls.add_back.Goals as goal
-
-pub returns : goal.returns
-returns c =
-    if-ok _ _ c.add_members.result
-    (λ u e. back-added c.args.depth c.args.member.now c.args.call.now c.in_ok-objects.objects.items c.args.found.now.items c.add_members.new.found.items c.if-call-member.false c.in_ok-objects.ensures e)
-    c.add_members.ensures

@@ -1,8 +1,0 @@
-use Rattle.std.proofs.Common.{take}
-use Rattle.least_set.specs.Logs.{Adds, SomeGives}
-use Rattle.relevant_objects.specs.Links.{LinksOver}
-use Rattle.relevant_objects.proofs.calls.add_over_calls.Given as goal
-
--- what the calls before this one link to was put behind
-abbrev pub invariant-loop-call : goal.invariant-loop-call
-invariant-loop-call l = Adds (SomeGives (LinksOver l.depth l.member) (take l.call-index l.call-items)) l.fn.found.items l.found.items

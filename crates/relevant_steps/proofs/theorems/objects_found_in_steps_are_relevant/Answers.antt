@@ -1,5 +1,0 @@
-use Rattle.relevant_steps.proofs.Found.{found}
-use Rattle.relevant_steps.proofs.theorems.objects_found_in_steps_are_relevant.Goals as goal
-
-pub returns : goal.returns
-returns c k ts gs graphs apart n f o e = found k ts gs graphs apart n f o e

@@ -1,5 +1,0 @@
-use Rattle.relevant_steps.proofs.Found.{relevant-found}
-use Rattle.relevant_steps.proofs.theorems.relevant_objects_are_of_functions.Goals as goal
-
-pub returns : goal.returns
-returns c k ts gs graphs apart f o r = let x = relevant-found k ts gs graphs apart f o r in (x.number, x.named)

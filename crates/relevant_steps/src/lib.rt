@@ -1,6 +1,0 @@
-//! The relevant objects of a program over its flow graphs, step by step.
-#![tactic(auto)]
-
-mod theorems;
-
-pub use theorems::{objects_found_in_steps_are_relevant, relevant_objects_are_of_functions};

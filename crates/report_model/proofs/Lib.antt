@@ -1,0 +1,2 @@
+pub mod ReportLists
+pub mod OfReporters

@@ -1,7 +1,0 @@
--- the members so far and those that are left are all
-use Rattle.std.proofs.Common.{◌≡◌, ◌++◌, drop, flat_map}
-use Rattle.reporters.specs.Members.{member_text}
-use Rattle.reporters.proofs.json.write_members.Given as goal
-
-abbrev pub invariant-loop-member : goal.invariant-loop-member
-invariant-loop-member l = l.into ++ flat_map member_text (drop l.member-index l.members) ≡ l.initial.into ++ flat_map member_text l.members

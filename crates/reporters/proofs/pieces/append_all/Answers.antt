@@ -1,8 +1,0 @@
-use Rattle.std.proofs.Common.{◌∙◌}
-use Rattle.reporters.proofs.Appending.{begun, on_err}
-use Rattle.reporters.proofs.pieces.append_all.Goals as goal
-
-pub returns-in_err-push_all-clause-err : goal.returns-in_err-push_all-clause-err
-returns-in_err-push_all-clause-err c =
-    on_err c.from_residual.result _
-    (begun _ c.args.texts.now c.loop-piece.piece-index c.args.into.now c.push_all.new.self (c.in_err-push_all.ensures.err ∙ c.loop-piece.invariant))

@@ -1,6 +1,0 @@
-//! The tokens of a unit from one of them on, found by halves. What they mean stands elsewhere.
-#![tactic(auto)]
-
-mod search;
-
-pub use search::from_number;

@@ -1,0 +1,2 @@
+pub mod TreeLevels
+pub mod MatchedTypes

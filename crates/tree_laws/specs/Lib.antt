@@ -1,0 +1,2 @@
+pub mod TreeYields
+pub mod TreeEquality

@@ -1,8 +1,0 @@
-use Rattle.std.proofs.Common.{◌≡◌, take, Contains}
-use Rattle.least_set.specs.Logs.{IsExactly, SomeGives}
-use Rattle.tuple_flows.specs.Facts.{with_object}
-use Rattle.tuple_flows.proofs.parts.with_followed.Given as goal
-
--- the objects that were gone through have given theirs
-abbrev pub invariant-loop-object : goal.invariant-loop-object
-invariant-loop-object l = IsExactly l.list.items (SomeGives (λ o u. Contains l.followed o × (with_object l.tuple o ≡ u)) (take l.object-index l.objects))

@@ -1,5 +1,0 @@
-use Rattle.unit_grammar.proofs.Sound.{read-sound}
-use Rattle.unit_grammar.proofs.theorems.reading_is_sound.Goals as goal
-
-pub returns : goal.returns
-returns c n construct names ts e r h = let s = read-sound n construct names ts e r h in (s.tokens, s.well, s.height)
