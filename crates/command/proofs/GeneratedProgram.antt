@@ -1,2 +1,2 @@
-mod Examples
-mod Lines
+pub mod Examples
+pub mod Lines

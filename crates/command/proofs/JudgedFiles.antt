@@ -1,7 +1,7 @@
-mod Accepting
-mod Defining
-mod Linked
-mod Located
-mod Sizes
-mod Texts
-mod Tokens
+pub mod Accepting
+pub mod Defining
+pub mod Linked
+pub mod Located
+pub mod Sizes
+pub mod Texts
+pub mod Tokens

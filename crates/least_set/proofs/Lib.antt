@@ -5,4 +5,3 @@ pub mod Meeting
 pub mod Processing
 pub mod OneWorking
 pub mod TwoWorking
-pub mod GraphRoots

@@ -3,4 +3,3 @@ pub mod Indexes
 pub mod OnePremise
 pub mod TwoPremises
 pub mod Same
-pub mod GraphRoots

@@ -6,10 +6,10 @@ use Rattle.path_model.specs.CheckerPrograms.Roots as program
 use Rattle.path_model.specs.CheckerPrograms.Roots.{Leads, Itself, Onward}
 use Rattle.path_model.specs.CheckerPrograms.Texts.{functions_in}
 use Rattle.typed_unit.specs.Texts.{Text}
-use Rattle.least_set.specs.declared.graph_roots.callees.Callees.{Callees}
-use Rattle.least_set.specs.GraphRoots.Graphs as graph
-use Rattle.least_set.specs.GraphRoots.Graphs.{LeadsIn}
-use Rattle.least_set.specs.GraphRoots.Listed.{AreListed}
+use Rattle.root_functions.specs.declared.graph_roots.callees.Callees.{Callees}
+use Rattle.root_functions.specs.GraphRoots.Graphs as graph
+use Rattle.root_functions.specs.GraphRoots.Graphs.{LeadsIn}
+use Rattle.root_functions.specs.GraphRoots.Listed.{AreListed}
 use Rattle.metal_tree.specs.MetalMachines.Machine.{Machine}
 use Rattle.root_functions.specs.Callees.{HaveCallees}
 use Rattle.root_functions.specs.Roots.{AreRoots}

@@ -16,7 +16,7 @@ use Rattle.path_model.specs.CheckerPrograms.Roots.{Leads}
 use Rattle.path_model.specs.CheckerPrograms.Texts.{functions_in, table_of, flow_facts, function_of}
 use Rattle.typed_unit.specs.Texts.{texts_of}
 use Rattle.call_graph.specs.FunctionGraphs.Known.{facts_in}
-use Rattle.least_set.specs.declared.graph_roots.callees.Callees.{Callees}
+use Rattle.root_functions.specs.declared.graph_roots.callees.Callees.{Callees}
 use Rattle.least_set.specs.Logs.{IsExactly}
 use Rattle.metal_tree.specs.MetalMachines.Machine.{Machine}
 use Rattle.call_graph.specs.OfPrograms.Bodies.{body_of}

@@ -9,9 +9,9 @@ use Rattle.c_tree.specs.declared.tree.Tree.{Tree}
 use Rattle.c_tree.specs.Node.{Node}
 use Rattle.c_tree.specs.Views.{node_of}
 use Rattle.call_graph.specs.Followed.{followed}
-use Rattle.call_sites.specs.Calls.{nodes_at}
+use Rattle.root_functions.specs.CallSites.Calls.{nodes_at}
 use Rattle.typed_unit.specs.Texts.{Text}
-use Rattle.least_set.specs.declared.graph_roots.callees.Callees.{Callees}
+use Rattle.root_functions.specs.declared.graph_roots.callees.Callees.{Callees}
 use Rattle.least_set.specs.Logs.{IsExactly, SomeGives}
 use Rattle.least_set.proofs.Enumerating.{exactly_more, exactly_skip}
 use Rattle.metal_tree.specs.MetalMachines.Machine.{Machine}

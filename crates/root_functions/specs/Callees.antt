@@ -5,8 +5,8 @@ use Rattle.c_tree.specs.Node.{Node}
 use Rattle.call_graph.specs.Followed.{followed}
 pub use Rattle.path_model.specs.CheckerPrograms.Roots.{Leads}
 use Rattle.typed_unit.specs.Texts.{Text}
-use Rattle.least_set.specs.declared.graph_roots.callees.Callees.{Callees}
-use Rattle.least_set.specs.GraphRoots.Graphs.{LeadsIn}
+use Rattle.root_functions.specs.declared.graph_roots.callees.Callees.{Callees}
+use Rattle.root_functions.specs.GraphRoots.Graphs.{LeadsIn}
 use Rattle.least_set.specs.Logs.{IsExactly, SomeGives}
 use Rattle.metal_tree.specs.MetalMachines.Machine.{Machine}
 use Rattle.call_graph.specs.OfPrograms.Calls.{table_in}

@@ -1,2 +1,4 @@
 pub mod Callees
 pub mod Roots
+pub mod GraphRoots
+pub mod CallSites

@@ -3,7 +3,7 @@ use Rattle.std.specs.Prelude.{ℕ, List, length}
 use Rattle.path_model.specs.CheckerPrograms.Roots.{IsRoot, IsUncalled}
 use Rattle.path_model.specs.CheckerPrograms.Texts.{functions_in}
 use Rattle.typed_unit.specs.Texts.{Text}
-use Rattle.least_set.specs.GraphRoots.Listed.{AreListed}
+use Rattle.root_functions.specs.GraphRoots.Listed.{AreListed}
 use Rattle.metal_tree.specs.MetalMachines.Machine.{Machine}
 
 -- THE LIST OF ROOTS: each once, first those to which no followed call leads, then the others, both in source order.

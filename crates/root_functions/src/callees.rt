@@ -2,18 +2,18 @@
 
 ghost use Rattle.std.specs.Prelude.{◌≡◌, ◌<◌, ◌^◌, ◌++◌, length, IfOk, OnOk};
 ghost use Rattle.std.specs.Option.{option_map};
-ghost use Rattle.call_sites.specs.Calls.{nodes_at};
+ghost use Rattle.root_functions.specs.CallSites.Calls.{nodes_at};
 ghost use Rattle.typed_unit.specs.Texts.{texts_of};
-ghost use Rattle.least_set.specs.GraphRoots.Graphs.{StaysWithin};
+ghost use Rattle.root_functions.specs.GraphRoots.Graphs.{StaysWithin};
 ghost use Rattle.least_set.specs.Logs.{IsExactly};
 ghost use Rattle.metal_tree.specs.Whole.{machine_view};
 ghost use Rattle.call_graph.specs.OfPrograms.Definitions.{definitions, trees_in};
 ghost use Rattle.root_functions.specs.Callees.{FollowedBy, Leads, AreBelow, HaveCallees, listed};
 
+use crate::call_sites::calls_in;
+use crate::graph_roots::Callees;
 use c_tree::Tree;
 use call_graph::{FnId, Program, UnitFacts, followed};
-use call_sites::calls_in;
-use least_set::Callees;
 use metal_tree::Machine;
 use std::alloc::{AllocError, Global};
 

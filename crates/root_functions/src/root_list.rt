@@ -32,6 +32,6 @@ pub fn roots(alloc: Global, program: &Program, machine: &Machine) -> Result<Vec<
     ensures within { IfOk result (λ roots. AreBelow (length (definitions (trees_in program.now.units.items))) (map (λ f. f.number) roots.items)) }
 {
     let callees = all_callees(alloc, program, machine)?;
-    let numbers = least_set::roots(alloc, &callees)?;
+    let numbers = crate::graph_roots::roots(alloc, &callees)?;
     with_numbers(alloc, &numbers)
 }

@@ -1,4 +1,4 @@
-use Rattle.call_sites.specs.Calls.{nodes_at}
+use Rattle.root_functions.specs.CallSites.Calls.{nodes_at}
 use Rattle.call_graph.specs.FunctionGraphs.Known.{known_by}
 use Rattle.metal_tree.specs.Whole.{machine_view}
 use Rattle.root_functions.proofs.Leading.{all_lead}

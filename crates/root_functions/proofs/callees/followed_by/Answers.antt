@@ -1,6 +1,6 @@
 use Rattle.std.proofs.Common.{◌<◌, ◌≤◌, length, arith}
 use Rattle.std.proofs.lemmas.Grind.{common_steps}
-use Rattle.call_sites.specs.Calls.{nodes_at}
+use Rattle.root_functions.specs.CallSites.Calls.{nodes_at}
 use Rattle.least_set.specs.Logs.{IsExactly}
 use Rattle.least_set.proofs.Growing.{all_of}
 use Rattle.metal_tree.specs.Whole.{machine_view}

@@ -1,5 +1,5 @@
 use Rattle.std.proofs.Common.{length, take}
-use Rattle.call_sites.specs.Calls.{nodes_at}
+use Rattle.root_functions.specs.CallSites.Calls.{nodes_at}
 use Rattle.least_set.specs.Logs.{IsExactly}
 use Rattle.metal_tree.specs.Whole.{machine_view}
 use Rattle.call_graph.specs.OfPrograms.Definitions.{definitions, trees_in}

@@ -1,2 +1,0 @@
-mod Gains
-mod Evaluated

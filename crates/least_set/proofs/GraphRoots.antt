@@ -1,3 +1,0 @@
-mod Visiting
-mod Reached
-mod Found

@@ -1,5 +1,0 @@
-use Rattle.least_set.proofs.GraphRoots.Found.{listed}
-use Rattle.least_set.proofs.graph_roots.search.roots.Goals as goal
-
-pub returns : goal.returns
-returns c = listed c.args.callees.now.items c.add_uncalled.new.self.roots.items c.add_others.new.self.roots.items c.in_ok-add_uncalled.ensures.uncalled c.in_ok-add_others.ensures
