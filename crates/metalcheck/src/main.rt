@@ -2,8 +2,6 @@
 #![tactic(auto)]
 
 mod styles;
-#[cfg(test)]
-mod tests;
 
 use crate::styles::run_in_styles;
 use command::Status;

@@ -1,10 +1,9 @@
 //! Trees of expressions, compared with those of the same text with all its parentheses (ISO 9899:1990, 6.3).
 
 use crate::expected::expect;
-use crate::expressions::{Phrase, tree_of};
 use crate::texts::tokens_of;
 use bumpalo::Bump;
-use c_expr::TypeNames;
+use c_expr::{TypeNames, read_expr};
 use c_lexer::{LexFault, Tokens};
 use c_tree::{Arena, Tree};
 use mx_base::Names;
@@ -30,7 +29,12 @@ fn expression_of<'a>(
     tokens: &'a Tokens,
     types: &mut TypeNames,
 ) -> Option<&'a Tree<'a>> {
-    tree_of(arena, Phrase::Expression, tokens, types).ok()
+    let tokens = tokens.all();
+    if tokens.len() > 100000 {
+        return None;
+    }
+    let mut next = 0;
+    read_expr(arena, tokens, types, &mut next).ok()
 }
 
 /// How two lists of tokens are read as expressions.

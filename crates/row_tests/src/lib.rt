@@ -1,4 +1,4 @@
-//! Tests that cross crates: what contracts mean on inputs that are known.
+//! Tests of calls that no run shows: trees that are compared, copied and spelled, how operators bind, and the names in force.
 #![tactic(auto)]
 
 #[cfg(test)]
@@ -6,14 +6,8 @@ mod binding;
 #[cfg(test)]
 mod expected;
 #[cfg(test)]
-mod expressions;
-#[cfg(test)]
-mod heights;
-#[cfg(test)]
 mod texts;
 #[cfg(test)]
 mod trees;
 #[cfg(test)]
 mod type_names;
-#[cfg(test)]
-mod units;

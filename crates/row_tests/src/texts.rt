@@ -2,7 +2,7 @@
 
 use c_lexer::{LexFault, Mode, Tokens, lex};
 use mx_base::Names;
-use std::alloc::{AllocError, Global};
+use std::alloc::Global;
 
 /// The tokens of a short text; a long one is too much for these tests.
 pub fn tokens_of(alloc: Global, text: &[u8], names: &mut Names) -> Result<Tokens, LexFault> {
@@ -10,12 +10,4 @@ pub fn tokens_of(alloc: Global, text: &[u8], names: &mut Names) -> Result<Tokens
         return Err(LexFault::NoMemory);
     }
     lex(alloc, text, Mode::C, 0, b"a.c", names)
-}
-
-/// Appends a text some times.
-pub fn append(text: &mut Vec<u8, Global>, part: &str, times: u32) -> Result<(), AllocError> {
-    for _ in 0..times {
-        text.extend_from_slice(part.as_bytes())?;
-    }
-    Ok(())
 }

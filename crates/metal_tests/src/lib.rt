@@ -1,5 +1,0 @@
-//! Checkers that are known, and texts that are refused: which fault they have first, and where.
-#![tactic(auto)]
-
-#[cfg(test)]
-mod checkers;

@@ -1,0 +1,116 @@
+//! What a row asks: its question stands before the first `: `, and what it is asked about behind it.
+
+use crate::bodies::traces_of_text;
+use crate::expressions::said_of;
+use crate::phrases::{Phrase, is_read};
+use crate::related::{Relation, related};
+use crate::typed::{Question, said_in};
+use c_expr::Form;
+use c_lexer::LexFault;
+use std::alloc::Global;
+use std::str::from_utf8;
+
+/// The phrase that a question asks for.
+fn phrase_of(asked: &str) -> Option<Phrase> {
+    match asked {
+        "an expression" => Some(Phrase::Expression),
+        "specifiers" => Some(Phrase::Specifiers),
+        "a declarator with a name" => Some(Phrase::Declarator(Form::Named)),
+        "a declarator without a name" => Some(Phrase::Declarator(Form::Abstract)),
+        "a declarator of a parameter" => Some(Phrase::Declarator(Form::Either)),
+        _ => None,
+    }
+}
+
+/// What a question asks of an expression behind the declarations of these rows.
+fn asked_of_expression(asked: &str) -> Option<Question> {
+    match asked {
+        "type of" => Some(Question::Type),
+        "type name in" => Some(Question::TypeName),
+        _ => None,
+    }
+}
+
+/// What a question asks of two objects.
+fn asked_of_objects(asked: &str) -> Option<Relation> {
+    match asked {
+        "begins with" => Some(Relation::Begins),
+        "mentions" => Some(Relation::Mentions),
+        "steps behind" => Some(Relation::Appended),
+        _ => None,
+    }
+}
+
+/// What a question asks of a unit.
+fn asked_of_unit(asked: &str) -> Option<Question> {
+    match asked {
+        "fault" => Some(Question::Fault),
+        "type" => Some(Question::Type),
+        "tag" => Some(Question::Tag),
+        "variable" => Some(Question::Variable),
+        "declarator" => Some(Question::Declarator),
+        "initial value" => Some(Question::Initializer),
+        "functions" => Some(Question::Functions),
+        _ => None,
+    }
+}
+
+/// Behind how many events a question asks to cut traces off.
+fn limit_of(asked: &str) -> Option<usize> {
+    match asked.strip_prefix("traces of ") {
+        Some(number) => match number.parse::<usize>() {
+            Ok(limit) => Some(limit),
+            Err(_) => None,
+        },
+        None => None,
+    }
+}
+
+/// A truth in words.
+fn say_truth(alloc: Global, holds: bool) -> Result<String, LexFault> {
+    Ok(String::from_str(alloc, if holds { "yes" } else { "no" })?)
+}
+
+/// The traces of a function with these statements for its body.
+fn say_traces(alloc: Global, statements: &str, limit: usize) -> Result<String, LexFault> {
+    let traces = traces_of_text(alloc, statements, limit)?;
+    let text = from_utf8(traces.as_slice()).unwrap_or("no text");
+    Ok(String::from_str(alloc, text)?)
+}
+
+/// The answer to a question about a unit, which is file 7 where the question says so.
+fn say_of_unit(alloc: Global, asked: &str, text: &str) -> Result<String, LexFault> {
+    let (file, question) = match asked.strip_suffix(" in file 7") {
+        Some(asked) => (7, asked_of_unit(asked)),
+        None => (0, asked_of_unit(asked)),
+    };
+    match question {
+        Some(question) => said_in(alloc, file, text, question),
+        None => Ok(String::from_str(alloc, "no question")?),
+    }
+}
+
+/// The answer to a question about a text.
+fn answer_to(alloc: Global, asked: &str, text: &str) -> Result<String, LexFault> {
+    if let Some(phrase) = phrase_of(asked) {
+        return say_truth(alloc, is_read(alloc, phrase, text.as_bytes())?);
+    }
+    if let Some(question) = asked_of_expression(asked) {
+        return said_of(alloc, text, question);
+    }
+    if let Some(relation) = asked_of_objects(asked) {
+        return related(alloc, text, relation);
+    }
+    match limit_of(asked) {
+        Some(limit) => say_traces(alloc, text, limit),
+        None => say_of_unit(alloc, asked, text),
+    }
+}
+
+/// The answer to a row.
+pub fn answer(alloc: Global, row: &str) -> Result<String, LexFault> {
+    match row.split_once(": ") {
+        Some((asked, text)) => answer_to(alloc, asked, text),
+        None => Ok(String::from_str(alloc, "no row")?),
+    }
+}
