@@ -1,0 +1,285 @@
+"""A text in chunks: one for each declaration and each function, as metalcheck cuts it, but with whole old-style definitions."""
+import re
+
+from .places import Places
+from .tokens import NOWHERE, Token, scanned
+from .words import (
+    ASSEMBLER, ASSEMBLER_QUALIFIERS, CLOSING, CONTROL, FOREIGN, ODD_QUALIFIERS, OPENING, STRIPPED, WORD, is_name)
+
+DECLARATION, FUNCTION, OLD_STYLE, LITERAL, REST = "declaration", "function", "old-style definition", "literal", "rest"
+WHOLE, PROTOTYPE, TRIMMED, GONE = "whole", "prototype", "trimmed", "gone"
+CLEANUP = {"cleanup", "__cleanup__"}
+MOST_OLD_PARAMETERS = 40
+PARTNER = {")": "(", "]": "[", "}": "{"}
+BREAKING = OPENING | CLOSING | {";"}
+# what may need a look, in spellings with one blank between; it is found too often rather than not
+HINT = re.compile(
+    r"\b(?:" + "|".join(sorted(FOREIGN)) + r")\b|\( \{|[,{] [.[]|\? :|[^,(] \.\.\.|[^\w)\]\"'] && \w|\b0[xX][0-9a-fA-F.]*[pP]|\b0[bB][01]"
+    r"|\bgoto \*|(?<![\w\"'])(?:u8|u|U)[\"']|\( (?:\w+ )*(?:struct|union|enum) (?:\w+ )?\{")
+
+
+class Chunk:
+    """A declaration or a function: its tokens [first, behind) of the text, the positions that it covers, and what becomes of it."""
+
+    def __init__(self, first, behind, body=NOWHERE):
+        self.first, self.behind, self.body = first, behind, body
+        self.kind = DECLARATION
+        self.begin = self.end = 0
+        self.name = None
+        self.odd_assembler = self.cleanup = False
+        self.state = WHOLE
+        self.tokens = None          # what stands in place of its own tokens, where it was changed
+        self.forms = set()          # the forms outside the language that stand in it as it came
+        self.left = set()           # those that are left after rewriting
+        self.fault = None           # what metalcheck said of it
+        self.pruned = False
+        self.was_trimmed = False    # trimming was tried
+        self.classes = {}           # the rewritings that were done in it, with their number
+        self.words = None           # its own spellings as a set, once they were asked for
+
+    def is_function(self):
+        """Whether it is a function with its body."""
+        return self.kind in (FUNCTION, OLD_STYLE)
+
+    def reasons(self):
+        """Why it isn't read, in words."""
+        return sorted(self.left) or [self.fault or "not complete"]
+
+
+class Source:
+    """A preprocessed text: its tokens without those that metalcheck strips, its chunks, and its places."""
+
+    def __init__(self, text):
+        self.text = text
+        texts, starts, self.lines = scanned(text)
+        self.line_starts = [line[0] for line in self.lines]
+        self.places = Places(text, self.lines)
+        self.texts, self.starts, self.groups = stripped(texts, starts)
+        self.fault = self.places.fault or self._unbalanced()
+        self.chunks = [] if self.fault else whole_definitions(self, plain_chunks(self.texts))
+        self._settle()
+
+    def _unbalanced(self):
+        """The first bracket without a partner of its kind, in words, or nothing."""
+        waiting = []
+        for i, text in enumerate(self.texts):
+            if text in OPENING:
+                waiting.append(i)
+            elif text in CLOSING:
+                if not waiting or self.texts[waiting.pop()] != PARTNER[text]:
+                    return self._without_partner(i)
+        return self._without_partner(waiting[-1]) if waiting else None
+
+    def _without_partner(self, i):
+        """The message about the bracket at an index."""
+        return f"the text isn't balanced: `{self.texts[i]}` at {self.places.named(self.starts[i], 'line')} has no partner"
+
+    def _settle(self):
+        """Gives each chunk its positions, which cover the stripped words in and before it, and its name."""
+        end, waiting = 0, iter(self.groups + [None])
+        group = next(waiting)
+        for chunk in self.chunks:
+            last = chunk.behind - 1
+            chunk.begin, chunk.end = self.starts[chunk.first], self.starts[last] + len(self.texts[last])
+            while group is not None and group[0] < chunk.end:
+                chunk.begin = min(chunk.begin, max(group[0], end))
+                chunk.odd_assembler |= group[2]
+                chunk.cleanup |= group[3]
+                group = next(waiting)
+            end = chunk.end
+            chunk.name = declared_name(self.texts[chunk.first:chunk.body if chunk.body >= 0 else chunk.behind])
+
+    def tokens(self, chunk):
+        """A chunk's tokens as they stand, or as they were changed."""
+        if chunk.tokens is not None:
+            return chunk.tokens
+        return self.own_tokens(chunk)
+
+    def own_tokens(self, chunk):
+        """The tokens of a chunk as it came."""
+        return [Token(text, at) for text, at in zip(self.own_texts(chunk), self.starts[chunk.first:chunk.behind])]
+
+    def own_texts(self, chunk):
+        """The spellings of a chunk as it came."""
+        return self.texts[chunk.first:chunk.behind]
+
+    def own_words(self, chunk):
+        """The same as a set."""
+        if chunk.words is None:
+            chunk.words = frozenset(self.own_texts(chunk))
+        return chunk.words
+
+    def spelled(self, chunk):
+        """A chunk's spellings with blanks between, as they are to be read."""
+        if chunk.tokens is not None:
+            return " ".join([token.text for token in chunk.tokens])
+        return " ".join(self.own_texts(chunk))
+
+    def body_at(self, chunk):
+        """The position of a function's body, or of the chunk where it has none."""
+        return self.starts[chunk.body if chunk.body >= 0 else chunk.first]
+
+    def in_main(self, chunk):
+        """Whether a chunk stands in the main file."""
+        return self.places.in_main(self.body_at(chunk))
+
+
+def stripped(texts, starts):
+    """The tokens that metalcheck keeps, and the groups that it strips: begin, end, whether it knows their spelling not, whether they
+    name a cleanup."""
+    kept, kept_starts, groups, done = [], [], [], 0
+    for i in [k for k, text in enumerate(texts) if text in STRIPPED]:
+        if i < done:
+            continue
+        behind, odd = group_behind(texts, i)
+        if behind == 0:
+            continue
+        kept += texts[done:i]
+        kept_starts += starts[done:i]
+        words = texts[i:behind]
+        groups.append((starts[i], starts[behind - 1] + len(words[-1]), odd, not CLEANUP.isdisjoint(words)))
+        done = behind
+    return kept + texts[done:], kept_starts + starts[done:], groups
+
+
+def group_behind(texts, i):
+    """The index behind the stripped word at i with its group in parentheses, 0 if it has none, and whether its spelling is odd."""
+    if texts[i] == "__extension__":
+        return i + 1, False
+    k, odd = i + 1, False
+    while texts[i] in ASSEMBLER and k < len(texts) and texts[k] in ASSEMBLER_QUALIFIERS:
+        odd = odd or texts[k] in ODD_QUALIFIERS
+        k += 1
+    if k == len(texts) or texts[k] != "(":
+        return 0, odd
+    depth = 0
+    for k in range(k, len(texts)):
+        depth += (texts[k] == "(") - (texts[k] == ")")
+        if depth == 0:
+            return k + 1, odd
+    return 0, odd
+
+
+def plain_chunks(texts):
+    """The chunks as metalcheck has them: up to a `;` in no bracket, or to the `}` of a `{` in no bracket directly behind a `)`."""
+    found, first, depth, body = [], 0, 0, NOWHERE
+    for i in [k for k, text in enumerate(texts) if text in BREAKING]:
+        text = texts[i]
+        if text in OPENING:
+            if depth == 0 and text == "{":
+                body = i if i > first and texts[i - 1] == ")" else NOWHERE
+            depth += 1
+            continue
+        if text != ";" and depth:
+            depth -= 1
+        if depth == 0 and (text == ";" or text == "}" and body != NOWHERE):
+            found.append(Chunk(first, i + 1, body if text == "}" else NOWHERE))
+            first, body = i + 1, NOWHERE
+    if first < len(texts):
+        found.append(Chunk(first, len(texts)))
+        found[-1].kind = REST
+    return found
+
+
+def whole_definitions(source, chunks):
+    """The chunks, with old-style definitions and initial values that are compound literals put together from their pieces."""
+    found, texts = [], source.texts
+    for chunk in chunks:
+        if chunk.body != NOWHERE:
+            settle_kind(texts, chunk)
+        if found and found[-1].kind == LITERAL and chunk.body == NOWHERE:
+            found[-1].behind = chunk.behind
+            found[-1].kind = DECLARATION if texts[chunk.behind - 1] == ";" else LITERAL
+        elif texts[chunk.first] == "{" and (head := old_head(texts, found)) is not None:
+            found[head:] = old_definition(texts, found[head].first, chunk)
+        else:
+            found.append(chunk)
+    return found
+
+
+def settle_kind(texts, chunk):
+    """A chunk that ends in a `}` is a function, or the beginning of a declaration with a compound literal behind `=`."""
+    depth = 0
+    for text in texts[chunk.first:chunk.body]:
+        depth += (text in OPENING) - (text in CLOSING)
+        if text == "=" and depth == 0:
+            chunk.body, chunk.kind = NOWHERE, LITERAL
+            return
+    chunk.kind = FUNCTION
+
+
+def old_head(texts, chunks):
+    """The index of the chunk with the head of the old-style definition whose body comes behind these chunks, or None."""
+    for k in range(len(chunks) - 1, max(-1, len(chunks) - 1 - MOST_OLD_PARAMETERS), -1):
+        if is_old_head(texts[chunks[k].first:chunks[k].behind]):
+            return k
+    return None
+
+
+def is_old_head(texts):
+    """Whether a list of names in parentheses, behind a name and before a word, begins an old-style definition."""
+    for i in range(1, len(texts) - 2):
+        if texts[i] == "(" and is_name(texts[i - 1]):
+            k = i + 1
+            while k + 1 < len(texts) and is_name(texts[k]) and texts[k + 1] == ",":
+                k += 2
+            return k + 2 < len(texts) and is_name(texts[k]) and texts[k + 1] == ")" and WORD.match(texts[k + 2]) is not None
+    return False
+
+
+def old_definition(texts, first, chunk):
+    """The old-style definition whose body begins with a chunk, and the chunk of what follows there."""
+    depth = 0
+    for i in range(chunk.first, chunk.behind):
+        depth += (texts[i] in OPENING) - (texts[i] in CLOSING)
+        if depth == 0:
+            break
+    definition = Chunk(first, i + 1, chunk.first)
+    definition.kind = OLD_STYLE
+    return [definition] + ([later(texts, i + 1, chunk)] if i + 1 < chunk.behind else [])
+
+
+def later(texts, first, chunk):
+    """What hangs behind the body of an old-style definition in one chunk with it: a declaration or one function."""
+    found, depth = Chunk(first, chunk.behind), 0
+    found.kind = REST if chunk.kind == REST else DECLARATION
+    for i in range(first, chunk.behind):
+        if texts[i] == "{" and depth == 0 and texts[i - 1] == ")":
+            found.body, found.kind = i, FUNCTION
+            break
+        depth += (texts[i] in OPENING) - (texts[i] in CLOSING)
+    return found
+
+
+def declared_name(texts):
+    """The name that a function or declaration is called by in messages."""
+    for i, text in enumerate(texts):
+        if text == "(" and i:
+            if is_name(texts[i - 1]):
+                return texts[i - 1]
+            inner = next((word for word in texts[i:] if is_name(word)), None)
+            if inner:
+                return inner
+    names = [text for text in texts if is_name(text)]
+    return names[-1] if names else "?"
+
+
+def needs_a_look(source, chunk):
+    """Whether a form outside the language may stand in a chunk. A yes costs time alone."""
+    texts, body = source.own_texts(chunk), chunk.body - chunk.first
+    if chunk.kind != FUNCTION:
+        return chunk.kind != DECLARATION or HINT.search(" ".join(texts)) is not None or has_odd_brace(texts, NOWHERE)
+    return (HINT.search(" ".join(texts[:body])) or HINT.search(" ".join(texts[body + 1:]))) is not None or has_odd_brace(texts, body)
+
+
+def has_odd_brace(texts, body):
+    """Whether a `{` stands behind a `)` that doesn't end the head of a statement, the function's own body apart."""
+    waiting = []
+    for i in [k for k, text in enumerate(texts) if text == "(" or text == ")"]:
+        if texts[i] == "(":
+            waiting.append(i)
+            continue
+        opening = waiting.pop()
+        if i + 1 < len(texts) and texts[i + 1] == "{" and i + 1 != body and texts[opening - 1] not in CONTROL:
+            return True
+    return False

@@ -1,0 +1,171 @@
+"""One file from its bytes to a text that is read, with a record of what became of it."""
+import os
+import tempfile
+from collections import Counter
+
+from .asking import Program
+from .chunks import GONE, TRIMMED, WHOLE, Source
+from .judging import Judge, NotRead
+from .losing import cut_what_rests
+from .names import names_of
+from .places import unescaped
+from .preparing import keep_plain_loops, prepare
+from .rewriting.classes import APPROXIMATION
+from .writing import written
+
+MOST_BYTES = 16777216
+
+
+class Options:
+    """What is asked for."""
+
+    def __init__(self, prune=False, rewrite=True, plain_loops=False, always=False):
+        self.prune, self.rewrite, self.plain_loops, self.always = prune, rewrite, plain_loops, always
+
+
+class Unread:
+    """A function or declaration that isn't read: its presumed file and line, its name, and the reasons."""
+
+    def __init__(self, source, chunk, path):
+        file, self.line = source.places.line(source.body_at(chunk))
+        self.file = path if file is None else unescaped(file)
+        self.name, self.reasons = chunk.name, chunk.reasons()
+
+
+class Record:
+    """What became of a file. Where `fault` says why there is no text, nothing else counts."""
+
+    def __init__(self, path):
+        self.path = path
+        self.text = self.fault = None
+        self.as_it_is = False
+        self.functions = self.header_functions = self.header_unread = self.pruned = self.trimmed = self.header_declarations = 0
+        self.unread, self.declarations, self.cleanups = [], [], []
+        self.classes = Counter()
+        self.runs = 0
+
+    def approximations(self):
+        """The classes that are approximations, with their numbers."""
+        return {name: number for name, number in sorted(self.classes.items()) if name in APPROXIMATION}
+
+    def reasons(self):
+        """How many functions of the main file aren't read for each reason."""
+        return Counter(reason for one in self.unread for reason in one.reasons)
+
+    def status(self):
+        """The status of the command for this file."""
+        return 3 if self.text is None else 1 if self.unread else 0
+
+
+def make_readable(path, options=None, program=None):
+    """The record of a file. The program is asked whether it reads the text, and there is none that it doesn't read."""
+    options, program = options or Options(), program or Program()
+    record, before = Record(path), program.runs
+    try:
+        with tempfile.TemporaryDirectory(prefix="readable") as folder:
+            make(record, options, program, folder)
+    except (NotRead, OSError) as fault:
+        record.text = None
+        record.fault = getattr(fault, "strerror", None) or str(fault)
+    record.runs = program.runs - before
+    return record
+
+
+def make(record, options, program, folder):
+    """Fills a record."""
+    text = contents(record.path)
+    record.as_it_is = not options.always and program.refusal(record.path) is None
+    if record.as_it_is and not options.plain_loops:
+        record.text = text
+        return
+    source = Source(text)
+    if source.fault:
+        raise NotRead(source.fault)
+    if record.as_it_is:
+        with_plain_loops(source)
+        record.text = verified(source, program, folder)
+    else:
+        record.text = with_all_steps(source, options, program, folder)
+    note(record, source)
+
+
+def contents(path):
+    """The bytes of a file, each as a character."""
+    if os.path.getsize(path) > MOST_BYTES:
+        raise NotRead(f"larger than {MOST_BYTES} bytes, the most that is read; leave headers out, or divide it")
+    with open(path, encoding="latin-1", newline="") as file:
+        text = file.read()
+    if not text:
+        raise NotRead("empty; was it preprocessed?")
+    if "\0" in text:
+        raise NotRead("no text: it has bytes that are 0")
+    return text
+
+
+def with_plain_loops(source):
+    """Rewrites the loops that run once in a file that is read as it is."""
+    names = names_of(source)
+    for chunk in source.chunks:
+        if chunk.is_function() and "do" in source.own_texts(chunk):
+            keep_plain_loops(source, names, chunk)
+
+
+def with_all_steps(source, options, program, folder):
+    """The text after pruning, rewriting and cutting. Mostly what surely isn't read is all, so that one question is enough."""
+    names = names_of(source)
+    prepare(source, names, options)
+    cut_what_rests(source, names)
+    text = written(source)
+    if refusal_of(text, program, folder) is not None:
+        Judge(source, names, program, folder).settle()
+        text = None
+    if source.chunks and all(chunk.state == GONE for chunk in source.chunks):
+        raise NotRead("nothing in it is read; is it preprocessed C?")
+    return text or verified(source, program, folder)
+
+
+def refusal_of(text, program, folder):
+    """What the program says of a text."""
+    path = os.path.join(folder, "written.i")
+    with open(path, "w", encoding="latin-1", newline="") as file:
+        file.write(text)
+    return program.refusal(path)
+
+
+def verified(source, program, folder):
+    """The text of a source, which the program reads."""
+    text = written(source)
+    refusal = refusal_of(text, program, folder)
+    if refusal is not None:
+        raise NotRead(f"what can be made of it is refused at {refusal.file}:{refusal.line}: {refusal.fault}")
+    return text
+
+
+def note(record, source):
+    """Notes what became of each chunk."""
+    for chunk in source.chunks:
+        if chunk.state in (WHOLE, TRIMMED):
+            record.classes.update(chunk.classes)
+        if chunk.state == TRIMMED:
+            record.trimmed += 1
+        if chunk.is_function():
+            note_function(record, source, chunk)
+        elif chunk.state == GONE and source.in_main(chunk):
+            record.declarations.append(Unread(source, chunk, record.path))
+        elif chunk.state == GONE:
+            record.header_declarations += 1
+
+
+def note_function(record, source, chunk):
+    """Notes what became of a function."""
+    main = source.in_main(chunk)
+    record.functions += main
+    record.header_functions += not main
+    if chunk.pruned:
+        record.pruned += 1
+    elif chunk.state != WHOLE and main:
+        record.unread.append(Unread(source, chunk, record.path))
+    elif chunk.state != WHOLE:
+        record.header_unread += 1
+    elif chunk.cleanup and main:
+        record.cleanups.append(Unread(source, chunk, record.path))

@@ -1,0 +1,160 @@
+"""Statement expressions, from the innermost outward: as an expression with commas, a block, branches, or in front of the statement."""
+from ..statements import divided, is_label, is_typed
+from ..tokens import Token, partners, put_in, spellings, text_at
+from ..words import KEYWORDS, TYPEOF, WORD
+from .around import begins_statement, ends_value
+from .hoisting import in_front
+from .reduction import reduced
+from .substitution import substituted
+
+ROUNDS = 2000
+PER_CPU_RESULTS = {"pscr_ret__", "pto_ret__", "pao_ret__"}
+
+
+def statement_expressions(tokens, work):
+    """All statement expressions, as far as one of the forms fits."""
+    for _ in range(ROUNDS):
+        changed = last_one(tokens, work) if has_one(tokens) else None
+        if changed is None:
+            return tokens
+        tokens = changed
+    return tokens
+
+
+def has_one(tokens):
+    """Whether a statement expression is there at all."""
+    texts = spellings(tokens)
+    return any(first == "(" and second == "{" for first, second in zip(texts, texts[1:]))
+
+
+def last_one(tokens, work):
+    """The tokens with the last statement expression that can be rewritten, or None. An inner one comes before the outer one so."""
+    partner = partners(tokens)
+    for i in range(len(tokens) - 1, 0, -1):
+        if tokens[i].text == "{" and tokens[i - 1].text == "(" and partner[i - 1] == partner[i] + 1:
+            changed = one(tokens, i, partner, work)
+            if changed is not None:
+                return changed
+    return None
+
+
+def one(tokens, opening, partner, work):
+    """The tokens with the statement expression whose brace is given rewritten, or made smaller, or None."""
+    close = partner[opening]
+    body = tokens[opening + 1:close]
+    value = known_value(body, work)
+    if value is not None:
+        return tokens[:opening] + value + tokens[close + 1:]
+    statements = reduced(substituted(reduced(divided(body, work.names), work), work), work)
+    statements = [statement for statement in statements if spellings(statement) != [";"]]
+    value = with_commas(statements, work)
+    if value is not None:
+        return tokens[:opening] + value + tokens[close + 1:]
+    return (as_block(tokens, opening, partner, statements, work) or as_branches(tokens, opening, partner, work)
+            or in_front(tokens, opening, close, partner, statements, work) or smaller(tokens, opening, close, statements))
+
+
+def known_value(body, work):
+    """The value of the address of a label of its own, and of a read of per-CPU data, which stands in asm."""
+    texts = spellings(body)
+    if len(texts) < 9:
+        return None
+    if texts[0] == "__label__" and texts[3:5] == [texts[1], ":"] and texts[-3:] == ["&&", texts[1], ";"]:
+        work.count("address of a label")
+        return put_in("0")
+    if texts[0] in TYPEOF and texts[1] == "(":
+        close = partners(body)[1]
+        if texts[close + 1] in PER_CPU_RESULTS and texts[-2:] == [texts[close + 1], ";"]:
+            work.count("per-CPU read")
+            return body[2:close]
+    return None
+
+
+def with_commas(statements, work):
+    """`({ e; f; })` as `(e, f)`: the tokens inside the parentheses, or None if not all statements are expressions."""
+    if not statements:
+        work.count("nothing")
+        return put_in("0")
+    if not all(is_expression(statement, work.names) for statement in statements):
+        return None
+    work.count("comma")
+    result = statements[0][:-1]
+    for before, statement in zip(statements, statements[1:]):
+        result = result + [Token(",", before[-1].at)] + statement[:-1]
+    return result
+
+
+def is_expression(statement, names):
+    """Whether a statement is an expression and its semicolon."""
+    first = statement[0].text
+    if statement[-1].text != ";" or first in ("{", "__label__") or first in KEYWORDS and first != "sizeof":
+        return False
+    return not is_typed(first, names) and not is_label(statement, 0)
+
+
+def flat(statements):
+    """The tokens of statements one behind the other."""
+    return [token for statement in statements for token in statement]
+
+
+def smaller(tokens, opening, close, statements):
+    """The statement expression with what is left of its statements, if that is less, or None."""
+    left = flat(statements)
+    return tokens[:opening + 1] + left + tokens[close:] if len(left) < close - opening - 1 else None
+
+
+def as_block(tokens, opening, partner, statements, work):
+    """`({ .. });` as `{ .. }` where a statement begins, in parentheses or cast to void or not."""
+    close = partner[opening]
+    before, behind = opening - 1, close + 1
+    while text_at(tokens, before - 1) == "(" and text_at(tokens, behind + 1) == ")" and not WORD.match(text_at(tokens, before - 2)):
+        before, behind = before - 1, behind + 1
+    if text_at(tokens, behind + 1) != ";":
+        return None
+    is_cast = spellings(tokens[max(0, before - 3):before]) == ["(", "void", ")"]
+    start = before - 3 if is_cast else before
+    if start < 1 or not begins_statement(tokens, start - 1, partner) or ends_value(tokens, behind + 2, partner):
+        return None
+    work.count("block")
+    return tokens[:start] + [tokens[opening]] + flat(statements) + [tokens[close]] + tokens[behind + 2:]
+
+
+def as_branches(tokens, opening, partner, work):
+    """`c ? ({ A }) : ({ B });` as `if (c) { A } else { B }`; opening is the brace of the second arm."""
+    arms = arm_before(tokens, opening, partner)
+    if arms is None:
+        return None
+    first, question = arms
+    bounds = statement_bounds(tokens, question, partner[opening] + 1, partner)
+    if bounds is None or not begins_statement(tokens, bounds[0] - 1, partner):
+        return None
+    start, condition, end = bounds
+    work.count("branches")
+    test = [*put_in("{ if ("), *tokens[condition:question], *put_in(")")]
+    ways = [*tokens[first:partner[first] + 1], *put_in("else"), *tokens[opening:partner[opening] + 1], *put_in("}")]
+    return tokens[:start] + test + ways + tokens[end:]
+
+
+def arm_before(tokens, opening, partner):
+    """The brace of the first arm `({ A })` and the `?` in front of it, where the second arm is the one given; or None."""
+    if opening < 5 or spellings(tokens[opening - 3:opening]) != [")", ":", "("]:
+        return None
+    first = partner[opening - 3]
+    if text_at(tokens, first + 1) != "{" or text_at(tokens, first - 1) != "?":
+        return None
+    return first + 1, first - 1
+
+
+def statement_bounds(tokens, question, close, partner):
+    """Where the statement begins that a conditional is, in parentheses or not, and its condition, and the index behind its semicolon."""
+    k = question - 1
+    while k >= 0 and tokens[k].text not in (";", "{", "}", "("):
+        k = partner[k] - 1 if tokens[k].text in (")", "]") else k - 1
+    if k < 0:
+        return None
+    start, behind = k + 1, close + 1
+    if tokens[k].text == "(":
+        if partner[k] != close + 1:
+            return None
+        start, behind = k, close + 2
+    return (start, k + 1, behind + 1) if text_at(tokens, behind) == ";" else None

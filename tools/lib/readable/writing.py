@@ -1,0 +1,115 @@
+"""The last step: the text. What stays stands where it stood; what was put in stands where there is room, or on a line of its own.
+
+Such a line stands between two marker lines, so that the places of what follows stay. What was moved keeps its line and column too."""
+import bisect
+import re
+
+from .chunks import GONE, WHOLE
+from .places import marker
+from .tokens import NOWHERE, spellings
+
+NOT_A_FEED = re.compile(r"[^\n]")
+
+
+def written(source):
+    """The text of a source with its chunks as they stand."""
+    pieces, done = [], 0
+    for chunk in source.chunks:
+        if chunk.state == WHOLE and chunk.tokens is None and not chunk.odd_assembler:
+            continue
+        pieces.append(source.text[done:chunk.begin])
+        pieces.append(chunk_text(source, chunk))
+        done = chunk.end
+    pieces.append(source.text[done:])
+    return "".join(pieces)
+
+
+def chunk_text(source, chunk):
+    """What stands in place of a chunk that was changed or cut."""
+    canvas = blanked(source, chunk.begin, chunk.end)
+    if chunk.state == GONE:
+        return "".join(canvas)
+    standing, last = in_order(source, chunk)
+    breaks = painted(canvas, standing, chunk.begin)
+    if last:
+        breaks.append((len(canvas), last))
+    pieces, done = [], 0
+    for at, tokens in breaks:
+        pieces += ["".join(canvas[done:at]), own_lines(source, chunk.begin + at, tokens)]
+        done = at
+    return "".join(pieces + canvas[done:])
+
+
+def blanked(source, begin, end):
+    """The characters between two positions as blanks, but for line feeds and marker lines."""
+    canvas = list(NOT_A_FEED.sub(" ", source.text[begin:end]))
+    for start, stop, line in source.lines[bisect.bisect_left(source.line_starts, begin):]:
+        if start >= end:
+            break
+        canvas[start - begin:stop - begin] = list(line)
+    return canvas
+
+
+def in_order(source, chunk):
+    """The tokens that can stand at their old position, each with those that come before it and can't, and those behind the last."""
+    standing, waiting, lowest = [], [], chunk.begin
+    for token in source.tokens(chunk):
+        if token.at >= lowest and fits(source, token):
+            standing.append((token, waiting))
+            waiting, lowest = [], token.at + 1
+        else:
+            waiting.append(token)
+    return standing, waiting
+
+
+def fits(source, token):
+    """Whether a token isn't longer than what stood at its position."""
+    return len(token.text) <= len(source.texts[bisect.bisect_left(source.starts, token.at)])
+
+
+def painted(canvas, standing, begin):
+    """Puts tokens onto the canvas. Gives those for which there is no room, as pairs of an index and tokens."""
+    free, breaks = 0, []
+    for token, before in standing:
+        at = token.at - begin
+        if before and not painted_before(canvas, before, at, free):
+            breaks.append((at, before))
+        canvas[at:at + len(token.text)] = list(token.text)
+        free = at + len(token.text)
+    return breaks
+
+
+def painted_before(canvas, tokens, at, free):
+    """Puts tokens directly in front of an index, if all are new and there is room on the line."""
+    spelled = " ".join(spellings(tokens))
+    room = at - max(free, line_start(canvas, at))
+    if any(token.at != NOWHERE for token in tokens) or room < len(spelled) + 2:
+        return False
+    canvas[at - len(spelled) - 1:at - 1] = list(spelled)
+    return True
+
+
+def line_start(canvas, at):
+    """The index at which the line of an index begins."""
+    while at > 0 and canvas[at - 1] != "\n":
+        at -= 1
+    return at
+
+
+def own_lines(source, at, tokens):
+    """Tokens on lines of their own in front of a position, and what brings the text back to its place."""
+    file, line = source.places.line(at)
+    pieces = [f"\n{marker(line, file)}\n"]
+    now, column = (file, line), 1
+    for token in tokens:
+        if token.at != NOWHERE:
+            place, wanted = source.places.line(token.at), source.places.column(token.at)
+            if place != now or wanted < column:
+                pieces.append(f"\n{marker(place[1], place[0])}\n")
+                now, column = place, 1
+            pieces.append(" " * (wanted - column))
+            column = wanted
+        pieces.append(token.text + " ")
+        column += len(token.text) + 1
+    pieces.append(f"\n{marker(line, file)}\n" + " " * (source.places.column(at) - 1))
+    return "".join(pieces)
