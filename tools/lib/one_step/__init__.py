@@ -1,0 +1,1 @@
+"""What `tools/check` is made of: from C sources and compiler options to reports that are explained."""
