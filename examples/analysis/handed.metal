@@ -1,6 +1,6 @@
 sm held {
   state decl any_pointer v;
-  decl any_expr n, x;
+  decl any_expr n;
 
   start:  { v = grab(n) } ==> v.held;
   v.held: { drop(v) } ==> v.stop

@@ -4,7 +4,9 @@ sm clock_sequence {
 
   start:      { clk_prepare(c) } ==> c.prepared
             | { clk_prepare_enable(c) } ==> c.enabled
-            | { clk_enable(c) } && ${ mc_is_local(c) } ==> c.stop, { err("%s is enabled and was not prepared", mc_identifier(c)); };
+            | { clk_enable(c) } && ${ mc_is_local(c) } ==> c.stop, { err("%s is enabled and was not prepared", mc_identifier(c)); }
+            | { 0 } ==> true=stop, false=start
+            | { 1 } ==> true=start, false=stop;
 
   c.prepared: { clk_prepare(c) } ==> true=c.stop, false=c.prepared
             | { clk_enable(c) } ==> c.enabled

@@ -3,7 +3,9 @@ sm freed_use {
   state decl any_pointer v;
   decl any_expr x, n;
 
-  start:   { kfree(v) } || { kvfree(v) } || { vfree(v) } || { free(v) } ==> v.freed;
+  start:   { kfree(v) } || { kvfree(v) } || { vfree(v) } || { free(v) } ==> v.freed
+         | { 0 } ==> true=stop, false=start
+         | { 1 } ==> true=start, false=stop;
 
   v.freed: { *v } || { v[x] }
                ==> v.stop, { err("%s is used after it was freed", mc_identifier(v)); }

@@ -7,7 +7,9 @@ sm lock_pairs {
          | { mutex_trylock(l) } ==> true=l.mutex, false=l.stop
          | { mutex_lock_interruptible(l) } ==> true=l.stop, false=l.mutex;
   start:   { spin_lock(l) } || { spin_lock_irq(l) } || { spin_lock_irqsave(l, flags) } ==> l.spin
-         | { mutex_lock(l) } ==> l.mutex;
+         | { mutex_lock(l) } ==> l.mutex
+         | { 0 } ==> true=stop, false=start
+         | { 1 } ==> true=start, false=stop;
 
   l.spin:  { spin_unlock(l) } || { spin_unlock_irq(l) } || { spin_unlock_irqrestore(l, flags) } ==> l.stop
          | { spin_lock(l) } || { spin_lock_irq(l) } || { spin_lock_irqsave(l, flags) }

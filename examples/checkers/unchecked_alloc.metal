@@ -1,11 +1,18 @@
-// What an allocation gave is used without a test, or where a test has shown that it is null.
+// What an allocation gave is used without a test, or where a test has shown that it is null. The allocation may stand behind a cast: a
+// global state waits for its assignment.
 sm unchecked_alloc {
   state decl any_pointer v;
+  decl any_fn_call other;
   decl any_arguments how;
-  decl any_expr x;
+  decl any_expr x, y;
 
-  start:   { v = kmalloc(how) } || { v = kzalloc(how) } || { v = vmalloc(how) }
-               || { v = malloc(how) } || { v = calloc(how) } ==> v.untested;
+  start:   { kmalloc(how) } || { kzalloc(how) } || { vmalloc(how) } || { malloc(how) } || { calloc(how) } ==> got
+         | { 0 } ==> true=stop, false=start
+         | { 1 } ==> true=start, false=stop;
+  got:     { v = x } ==> v.untested
+         | { kmalloc(how) } || { kzalloc(how) } || { vmalloc(how) } || { malloc(how) } || { calloc(how) } ==> got
+         | { x } ==> true=start, false=start
+         | { y = x } || { other(how) } ==> start;
 
   v.untested: { v } || { v = x } || { __builtin_expect(!!v, x) } || { 0 != v } || { (void *)0 != v }
                ==> true=v.stop, false=v.null

@@ -7,7 +7,8 @@ sm unfreed {
   start:  { malloc(x) } ==> got;
   got:    { v = x } ==> v.held
         | { malloc(x) } ==> got
-        | { y = x } || { other(rest) } ==> start;
+        | { y = x } || { other(rest) } ==> start
+        | { x } ==> true=start, false=start;
   v.held: { free(v) } ==> v.stop
         | $end_of_path$ ==> v.stop, { err("%s is not freed", mc_identifier(v)); };
 }
