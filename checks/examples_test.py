@@ -1,8 +1,9 @@
 """Runs the commands of the manual. checks/examples calls it.
 
-In README.md, docs/ and examples/ a command is a line of an indented block that begins with '$ '. The lines behind it in its block, up to
-the next command, are all that it writes (both outputs). '$ cat FILE' shows a file of the repository. /tmp is a folder that goes away behind
-the page. A command with gcc, or on a file there, is left out where there is no gcc. A row of a table that ends in a refusal of a.c says what becomes of a file of its two lines.
+In README.md, docs/, editors/ and examples/ a command is a line of an indented block that begins with '$ '; in the man page it stands
+between .EX and .EE. The lines behind it in its block, up to the next command, are all that it writes (both outputs). '$ cat FILE' shows a
+file of the repository. /tmp is a folder that goes away behind the page. A command with gcc, or on a file there, is left out where there is
+no gcc. A row of a table that ends in a refusal of a.c says what becomes of a file of its two lines.
 Usage: checks/examples [FILE ..]
 """
 import os
@@ -18,8 +19,19 @@ PROGRAM = built()
 
 
 def manual():
-    found = ["README.md", "examples/checkers/README.md"]
+    found = ["README.md", "examples/checkers/README.md", "editors/README.md", "man/metalcheck.1"]
     return found + sorted("docs/" + name for name in os.listdir(os.path.join(ROOT, "docs")) if name.endswith(".md"))
+
+
+def page_text(page):
+    """The text of a page; of the man page its examples stand as blocks."""
+    with open(os.path.join(ROOT, page), encoding="utf-8") as file:
+        text = file.read()
+    if not page.endswith(".1"):
+        return text
+    parts = re.split(r"(?m)^\.EX\n|^\.EE\n", text)
+    parts[1::2] = [re.sub("(?m)^", "    ", part).replace("\\-", "-") for part in parts[1::2]]
+    return "\n".join(parts)
 
 
 def commands(text):
@@ -68,8 +80,7 @@ def run(command, folder):
 
 def page_of(page):
     """What was tried of a page (line number, text, what was written, what had to be), and how many commands were left out."""
-    with open(os.path.join(ROOT, page), encoding="utf-8") as file:
-        text = file.read()
+    text = page_text(page)
     tried = [(number, lines, refusal(lines), [printed]) for number, lines, printed in rows(text)]
     skipped = 0
     with tempfile.TemporaryDirectory() as folder:
