@@ -95,7 +95,7 @@ class Cases(Folder):
         without_line, without_way, without_mark, count = [], [], [], 0
         for name, words, errs in self.refused():
             lines = command.why(3, errs, words)
-            count += 1
+            count += ": " not in name
             told = ways_told(lines)
             if not any(map(ROW.fullmatch, lines)):
                 without_line.append(name)
