@@ -155,13 +155,15 @@ class Telling(Folder):
 
 class Words(unittest.TestCase):
     def test_options_that_need_another(self):
-        for given in (["--prune"], ["--known-unread", "x"], ["--ninja", "a", "--keep", "b"], ["c.c"], ["--only", "("]):
-            with self.assertRaises(SystemExit) as end, contextlib.redirect_stderr(io.StringIO()):
-                words.read_words([*given, "m.metal", "c.json"])
+        for given in (["--prune"], ["--known-unread", "x"], ["--ninja", "a", "--keep", "b"], ["c.c"], ["--only", "("], ["--depth", "9"],
+                      ["none.metal"], [os.path.dirname(FREE)]):
+            with self.assertRaises(SystemExit) as end, contextlib.redirect_stderr(io.StringIO()) as said:
+                words.read_words([*given, FREE, "c.json"])
             self.assertEqual(end.exception.code, 2)
+            self.assertIn(given[0], said.getvalue())
 
     def test_handed_on(self):
-        asked = words.read_words(["--readable", "--prune", "--depth", "2", "--json", "m.metal", "c.json"])
+        asked = words.read_words(["--readable", "--prune", "--depth", "2", "--json", FREE, "c.json"])
         self.assertEqual(words.program_options(asked), ["--depth", "2", "--format", "json"])
         self.assertEqual(words.readable_options(asked), ["--prune"])
 

@@ -129,6 +129,7 @@ class Differences(Box):
         self.write("m_bad.c", "#include \"kept.h\"\n#ifdef MORE\n" + TWICE + "#endif\nvoid g(char *p) { drop(p); }\n")
         out = self.attempt("--flags", "-DMORE", "m.metal")[1]
         self.assertRegex(out, r"\Am_bad\.c:1: isn't wanted: p is freed twice \(in (\./)?kept\.h\)\n\Z")
+        self.assertEqual(self.attempt("m.metal", CC="cc -DMORE")[1], out)
 
 
 class Refusals(Box):
@@ -143,10 +144,12 @@ class Refusals(Box):
         self.check(2, "no.metal: there is no such file or folder", "no.metal")
         self.check(2, "--deep: the options are --flags", "--deep", "m.metal")
         self.check(2, "--depth: the options are --flags", "--depth", "9", "m.metal")
+        self.check(2, "--flags -D': No closing quotation: mind the quotes", "--flags", "-D'", "m.metal")
         os.mkdir(os.path.join(self.box.name, "empty"))
         self.check(2, "empty: there is no checker in this folder", "empty")
         self.write("m_bad.c", TWICE)
         self.check(2, "m_bad.c: no folder, no checker", "m_bad.c")
+        self.check(2, "m_bad.c: no folder, no checker", ".", "m_bad.c")
 
     def test_help(self):
         status, out, errs = self.attempt("--help")
@@ -191,35 +194,69 @@ class Refusals(Box):
 
 
 class Judged(Box):
-    """bench/judge_checkers over two programs, of which one isn't read."""
+    """bench/judge_checkers over three programs: one is read as it is, one is made readable, and one isn't read."""
+
+    HEAD = "| Checker | Program | Reports | Right | False | Not read | What is false |\n|---|---|---|---|---|---|---|\n"
+    MOST = "judge_checkers: more reports of m are false than right\n"
 
     def setUp(self):
         super().setUp()
         again = "void g(char *q)\n{\n    kfree(q);\n    kfree(q);\n}\n"
-        for program, text in (("one", '# 1 "a.c"\n' + TWICE + again), ("two", "void f( {\n")):
+        later = "void h(char *q) { kfree(q); for (int i = 0; i < 3; i++) kfree(q); }\n"
+        for program, text in (("one", '# 1 "a.c"\n' + TWICE + again), ("three", '# 1 "b.c"\n' + later), ("two", "")):
             os.makedirs(os.path.join(self.box.name, "all", program, "preprocessed"))
             self.write(f"all/{program}/preprocessed/a.i", text)
 
     def judge(self, text, *words):
         self.write("judged", text)
-        command = [os.path.join(ROOT, "bench", "judge_checkers"), *(words or ("all", "judged", "m.metal"))]
+        command = [os.path.join(ROOT, "bench", "judge_checkers"), "--jobs", "2", *(words or ("all", "judged", "m.metal"))]
         done = subprocess.run(command, capture_output=True, text=True, timeout=600, cwd=self.box.name)
         return done.returncode, done.stdout, done.stderr
 
     def test_table(self):
-        head = "| Checker | Right | False | Not read |\n|---|---|---|---|\n"
-        status, out, errs = self.judge("right one m a.c:4 a remark\n\n")
-        self.assertEqual((status, out), (1, head + "| `m` | 1 | 0 | 1 |\n?     one m a.c:9\n"), errs)
-        refused = "all/two/preprocessed/a.i: all/two/preprocessed/a.i:1: refused: Syntax\n"
-        self.assertEqual(errs, refused + "judge_checkers: 1 files, 1 refused\n")
-        self.assertEqual(self.judge("right one m a.c:4\nfalse one m a.c:9\n")[:2], (0, head + "| `m` | 1 | 1 | 0 |\n"))
-        self.assertEqual(self.judge("false one m a.c:4\nfalse one m a.c:9\n")[0], 1)
+        status, out, errs = self.judge("right one m a.c:4 a remark\n\n# read\nfalse three m b.c:1 by a loop\n")
+        rows = "| `m` | one | 2 | 1 | 0 | 1 |  |\n| `m` | three | 1 | 0 | 1 | 0 | by a loop |\n"
+        self.assertEqual((status, out), (1, self.HEAD + rows + "?     one m a.c:9 q is freed twice\n"), errs)
+        self.assertEqual(errs, "all/two/preprocessed/a.i: empty; was it preprocessed?\njudge_checkers: 3 files, 1 made readable, 1 not read\n")
+
+    def test_status(self):
+        self.assertEqual(self.judge("right one m a.c:4\nfalse one m a.c:9\nright three m b.c:1\n")[0], 0)
+        status, _, errs = self.judge("right one m a.c:4\nfalse one m a.c:9\nfalse three m b.c:1\n")
+        self.assertEqual((status, errs[-len(self.MOST):]), (1, self.MOST))
+
+    def test_what_is_kept(self):
+        self.assertEqual(self.judge("")[1].count("?"), 3)
+        for name in ("one/a.json", "three/a.i"):
+            self.assertTrue(os.path.exists(os.path.join(self.box.name, "all", "judged", name)), name)
+        os.environ["METALCHECK"], before = os.path.join(self.box.name, "none"), os.environ["METALCHECK"]
+        try:
+            self.assertEqual(self.judge("")[0], 5)
+            shutil.copy(before, os.environ["METALCHECK"])
+            self.assertEqual(self.judge("")[1].count("?"), 3)
+        finally:
+            os.environ["METALCHECK"] = before
+        self.write("m.metal", FREE.replace("v.freed: {", "v.freed: { other(v) } ==> v.stop | {"))
+        self.write("all/one/preprocessed/a.i", '# 1 "a.c"\n' + TWICE)
+        self.assertEqual(self.judge("")[1].count("?"), 2)
+
+    def test_functions_that_do_not_come_back(self):
+        self.write("all/one/preprocessed/a.i", '# 1 "a.c"\n' + TWICE.replace("kfree(p);\n", "kfree(p);\n    die(1);\n", 1))
+        self.write("m.metal", FREE.replace("state decl", "decl any_arguments how;\n  state decl").replace(
+            "start:   {", "start:   { exit(how) } ==> stop | {"))
+        words = ("--programs", "one", "all", "judged", "m.metal")
+        self.assertEqual(self.judge("", *words)[1].count("?"), 1)
+        self.assertEqual(self.judge("ends one give_up die\n", *words)[1].count("?"), 0)
+
+    def test_programs(self):
+        self.assertEqual(self.judge("", "--programs", "three", "all", "judged", "m.metal")[1].count("?"), 1)
 
     def test_refusals(self):
-        for text, words, said in (("wrong one m a.c:4\n", (), "judged:1: a line is `right PROGRAM CHECKER FILE:LINE`"),
+        for text, words, said in (("wrong one m a.c:4\n", (), "judged:1: a line is `right PROGRAM CHECKER FILE:LINE REMARK`, `false ..`, or `ends PROGRAM"),
                                   ("", ("all", "none"), "none: not read: No such file or directory; an empty file will do"),
                                   ("", ("nowhere", "judged"), "nowhere: there is no PROGRAM/preprocessed/*.i in this folder"),
-                                  ("", ("all", "judged", "no.metal"), "no.metal: not read"), ("", ("all",), "name a folder of programs")):
+                                  ("", ("--programs", "four", "all", "judged"), "all/four: there is no preprocessed/*.i in this folder"),
+                                  ("", ("all", "judged", "no.metal"), "no.metal: not read"),
+                                  ("", ("all",), "the following arguments are required: JUDGEMENTS")):
             status, out, errs = self.judge(text, *words)
             self.assertEqual((status, out), (2, ""), errs)
             self.assertIn(said, errs)

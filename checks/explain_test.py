@@ -1,7 +1,5 @@
 """The tests of tools/explain and tools/check: what they say, where, and their exit status. checks/tools runs them."""
 import contextlib
-import importlib.machinery
-import importlib.util
 import os
 import re
 import shutil
@@ -16,21 +14,13 @@ PROGRAM = os.environ["METALCHECK"] = built()
 sys.path.insert(0, os.path.join(ROOT, "tools", "lib"))
 
 from explain import command, ways
-from explain.hints import hints_of
 from explain.machine import Machine
+from cases_runner import cases
 from refusals import FORMS, WRONG_CHECKERS, WRONG_FILES
 
 HAS_COMPILER = shutil.which("cc")
 ROW = re.compile(r"  +(?:\d+|read) \| ?(.*)")
 MARK = re.compile(r"        \| (\s*)\^")
-
-
-def cases():
-    """The runner of cases as a module."""
-    loader = importlib.machinery.SourceFileLoader("cases_runner", os.path.join(ROOT, "checks", "cases"))
-    module = importlib.util.module_from_spec(importlib.util.spec_from_loader("cases_runner", loader))
-    loader.exec_module(module)
-    return module
 
 
 def tool(name, *words, folder=None, **more):
@@ -189,7 +179,8 @@ class Words(Folder):
         (["--depth", "9", "a.c"], "--depth 9: the value is one digit"), (["--depth", "1", "--depth", "2", "a.c"], "--depth stands twice"),
         (["--format=xml", "a.c"], "--format xml: the value is table or json"), (["--stats", "a.c"], "--stats: there are no statistics"),
         (["--help-me", "a.c"], "--help-me: there is no such option"), (["a.c", "--depth", "1"], "--depth: options stand before"),
-        (["m.metal"], "there is no C file"), (["--generate", "0"], "--generate stands alone"), (["--"], "there is no C file"),
+        (["a.c", "-h"], "-h: options stand before"), (["--depth"], "--depth: a value is wanted behind it, one digit"),
+        (["--format=", "a.c"], "--format: a value is wanted"), (["m.metal"], "there is no C file"), (["--generate", "0"], "--generate stands alone"), (["--"], "there is no C file"),
         (["a.c"] * 65, "0 checkers and 65 C files"), (["m.metal"] * 17 + ["a.c"], "17 checkers and 1 C files"),
     ]
 
@@ -205,6 +196,43 @@ class Words(Folder):
             done = tool("explain", word)
             self.assertEqual(done.returncode, 4)
             self.assertIn(says, done.stderr)
+
+
+class Runs(Folder):
+    """How the program is run, and what becomes of its output; a script stands for it."""
+
+    def program(self, *lines):
+        """A script of these lines as the program."""
+        os.chmod(self.write("program", "\n".join(["#!/bin/sh", *lines, ""])), 0o755)
+        return "./program"
+
+    def test_notes_around_an_unproved_run(self):
+        self.write("a.c", "int x = @;\n")
+        program = self.program("echo 'metalcheck: in a minute' >&2", "echo 'a.c:1: refused: BadByte' >&2", "echo 'metalcheck: so' >&2", "exit 3")
+        done = tool("explain", "a.c", METALCHECK=program)
+        self.assertEqual((done.returncode, done.stdout), (3, ""))
+        self.assertTrue(done.stderr.startswith("metalcheck: in a minute\nmetalcheck: so\na.c:1: refused: BadByte\n  a.c:1:9: "), done.stderr)
+
+    def test_such_a_note_comes_at_once(self):
+        program = self.program("echo 'metalcheck: in a minute' >&2", "while [ ! -e seen ]; do sleep 0.05; done", "echo a.c:1:5: m: held", "exit 1")
+        with subprocess.Popen([os.path.join(ROOT, "tools", "explain"), "a.c"], stdout=subprocess.PIPE, stderr=subprocess.PIPE, text=True,
+                              env={**os.environ, "METALCHECK": program}) as child:
+            self.assertEqual(child.stderr.readline(), "metalcheck: in a minute\n")
+            self.write("seen", "")
+            self.assertEqual(child.stdout.read(), "a.c:1:5: m: held\n")
+
+    def test_output_that_nobody_takes(self):
+        program = self.program("echo a.c:1:5: m: held", "exit 1")
+        for name, words in (("explain", "a.c"), ("check", "-- a.i")):
+            self.write("a.i", "")
+            line = f"METALCHECK={program} '{os.path.join(ROOT, 'tools', name)}' {words} > /dev/full; echo $?"
+            done = subprocess.run(["sh", "-c", line], capture_output=True, text=True)
+            self.assertEqual((done.stdout, done.stderr), ("5\n", f"{name}: not all could be written: No space left on device\n"))
+
+    def test_no_program(self):
+        done = tool("explain", "a.c", METALCHECK="./none")
+        self.assertEqual((done.returncode, done.stdout), (5, ""))
+        self.assertEqual(done.stderr, "./none: No such file or directory; METALCHECK names the program\n")
 
 
 class Reports(Folder):
@@ -246,62 +274,6 @@ class Reports(Folder):
         _, text = self.shown("int f(char *p) { kfree(p); return __builtin_object_size(*p, 0); }\n",
                              "int f(char *p) { kfree(p); return size(*p); }\n")
         self.assertIn("__builtin_object_size(..) on this line is read as a call", text)
-
-
-class Hints(unittest.TestCase):
-    def told(self, rules, text="", declared="state decl any_pointer v;"):
-        """The hints on a checker with these rules, each with what stands at its place."""
-        machine = Machine("sm m { " + declared + " " + rules + " }")
-        self.assertIsNone(machine.fault)
-        return [(machine.spelled(at), says) for at, says in hints_of(machine, [text] if text else [])]
-
-    def test_none_on_ready_checkers(self):
-        runner = cases()
-        seen = 0
-        for folder, _, names in os.walk(os.path.join(ROOT, "examples")):
-            # those in examples/explain have slips to be shown
-            for name in (name for name in names if name.endswith(".metal") and os.path.basename(folder) != "explain"):
-                with open(os.path.join(folder, name), encoding="latin-1") as file:
-                    machine = Machine(file.read())
-                self.assertEqual((machine.fault, hints_of(machine, [])), (None, []), name)
-                seen += 1
-        self.assertGreater(seen, 20)
-        for name in (name for name in runner.all_cases() if name.startswith("examples/")):
-            with tempfile.TemporaryDirectory() as folder:
-                words = runner.read(os.path.join(runner.CASES, name + ".case"), folder)[0]
-                files = [os.path.join(folder, word) for word in words if os.path.exists(os.path.join(folder, word))]
-                self.assertEqual(command.hints(*command.files_among(files)), [], name)
-
-    def test_states(self):
-        self.assertEqual([it[0] for it in self.told("start: { f(v) } ==> v.a; v.b: { g(v) } ==> v.stop;")], ["v", "v"])
-        found = self.told("start: { f(v) } ==> v.a; v.a: { g(v) } ==> v.stop; v.b: { g(v) } ==> v.stop;")
-        self.assertIn("no rule leads to v.b, so no rule of it is ever taken; states that are led to: v.a", found[0][1])
-        self.assertEqual(self.told("start: { f(v) } ==> v.a; v.a: { g(v) } ==> v.stop;"), [])
-
-    def test_unused_hole(self):
-        rules = "start: { f(v) } ==> v.stop;"
-        self.assertEqual(self.told(rules, declared="state decl any_pointer v; decl any_expr x;"), [("x", "the hole x stands in no rule")])
-
-    def test_no_branch(self):
-        for pattern in ("!f(v)", "f(v) == 0", "(f(v) != 0)", "a && f(v)", "f(v) || a", "f(v) ? a : b", "a, f(v)"):
-            found = self.told("start: { %s } ==> true=v.a, false=v.stop; v.a: { g(v) } ==> v.stop;" % pattern)
-            self.assertEqual(len(found), 1, pattern)
-            self.assertIn("no branch is this", found[0][1])
-        for pattern in ("f(v)", "v", "f(v) == 1", "f(v) & 1", "v = x"):
-            self.assertEqual(self.told("start: { %s } ==> true=v.a, false=v.stop; v.a: { g(v) } ==> v.stop;" % pattern), [], pattern)
-
-    def test_macros(self):
-        found = self.told("start: { v = NULL } ==> v.a; v.a: { g(v) } ==> v.stop;")
-        self.assertEqual([name for name, _ in found], ["NULL"])
-        self.assertIn("is a macro", found[0][1])
-
-    def test_names_that_no_file_has(self):
-        rules = "start: { mutex_lokc(v) } ==> v.a; v.a: { mutex_unlock(v) } ==> v.stop;"
-        found = self.told(rules, "void f(int *m) { mutex_lock(m); mutex_unlock(m); }")
-        self.assertEqual([name for name, _ in found], ["mutex_lokc", "mutex_lokc"])
-        self.assertIn("mutex_lock does: is it misspelt?", " ".join(says for _, says in found))
-        self.assertIn("nothing can come of this checker here", " ".join(says for _, says in found))
-        self.assertEqual(self.told(rules.replace("lokc", "lock"), "void f(int *m) { mutex_lock(m); }"), [])
 
 
 class Drawn(Folder):

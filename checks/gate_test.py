@@ -1,6 +1,7 @@
 """The tests of the programs round the gate: ./prove, ./metalcheck, checks/ways, checks/times and checks/more_edits. checks/tools runs
 them. The toolchain's part is played by the scripts of gate_fakes.py, so that they take seconds and prove nothing."""
 import glob
+import hashlib
 import os
 import shutil
 import signal
@@ -58,7 +59,10 @@ class Prove(InWorkspace):
         self.assertRegex(errors, r"prove: 4 of 4, 0 min: metalcheck \(\d+ s\)")
         self.assertTrue(os.access(self.program(), os.X_OK))
         with open(f"{self.root}/crates/metalcheck/out/VERSION", encoding="utf-8") as file:
-            self.assertRegex(file.read(), r"\Acommit unknown\ndate \d{4}-\d\d-\d\d \d\d:\d\d UTC\ntoolchain kit of the test\n\Z")
+            text = file.read()
+        self.assertRegex(text, r"\Acommit unknown\ndate \d{4}-\d\d-\d\d \d\d:\d\d UTC\ntoolchain kit of the test\nsha256 [0-9a-f]{64}\n\Z")
+        with open(self.program(), "rb") as file:
+            self.assertEqual(text.split()[-1], hashlib.sha256(file.read()).hexdigest())
         self.assertEqual(self.call("metalcheck", "a", "b c")[:2], (3, b"proved: a b c\n"))
 
     def test_keeps_by_content(self):

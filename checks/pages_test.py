@@ -287,6 +287,18 @@ class Links(unittest.TestCase):
                     lost.append(f"{name}: {other}, \"{title}\"")
         self.assertEqual(lost, [])
 
+    def test_what_is_to_be_read(self):
+        """The list of definitions that opens docs/THEORY.md names files of its rooms."""
+        rows = [row for row in page("docs/THEORY.md").split("## The theory")[0].split("\n") if row.startswith("| ")][1:]
+        lost, found = [], 0
+        for room, names in (part for row in rows for part in re.findall(r"`(\w+)`: ((?:`[\w/.]+`(?:, )?)+)", row)):
+            for name in re.findall(r"`([^`]+)`", names):
+                found += 1
+                path = f"crates/{room}/{name}" if name.startswith("src/") else f"crates/{room}/specs/{name}.antt"
+                lost += [] if os.path.exists(os.path.join(ROOT, path)) else [path]
+        self.assertEqual(lost, [])
+        self.assertGreater(found, 80)
+
 
 if __name__ == "__main__":
     sys.argv[1:] = sys.argv[1:] or ["-q"]

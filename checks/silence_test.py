@@ -179,6 +179,12 @@ class CheckCommands(Folder):
         log = json.loads(tool("sarif", given=done.stdout).stdout)
         self.assertEqual([len(it["suppressions"]) for it in log["runs"][0]["results"]], [1, 1, 0])
 
+    def test_a_name_that_is_not_ascii(self):
+        self.write("d\u00e9.c", SOURCES["a.c"].replace('#include "a.h"', ""))
+        done = self.check(names=("d\u00e9.c",))
+        self.assertEqual((done.returncode, done.stdout), (1, KEPT.replace("a.c", "d\u00e9.c")))
+        self.assertTrue(done.stderr.startswith((IDLE + WRONG).replace("a.c", "d\u00e9.c")), done.stderr)
+
     def test_all_silenced_is_clean(self):
         self.write("a.c", "void kfree(void *);\nvoid f(char *p) { kfree(p); *p; } // metalcheck: free_checker -- a test\n")
         done = self.check()
@@ -240,6 +246,13 @@ class Check(Folder):
         self.assertEqual((done.returncode, done.stdout), (3, ""))
         self.assertTrue(done.stderr.startswith("b.c:1: refused: Syntax\n  b.c:1: this isn't read: `({ .. })`\n"), done.stderr)
 
+    @unittest.skipUnless(shutil.which("cc"), "there is no C compiler")
+    def test_a_file_that_is_too_large(self):
+        self.write("b.c", "int a;\n" * 2500000)
+        done = self.check("--", "b.c")
+        self.assertEqual((done.returncode, done.stdout), (3, ""))
+        self.assertRegex(done.stderr, r"\Ab\.c:1: refused: TooLarge\n  b\.c: the file has more than 16,777,216 bytes")
+
     def test_a_preprocessed_file(self):
         self.write("b.i", "void f(char *p) { kfree(p); *p = 1; }\n")
         done = self.check(FREE, "--", "b.i", CC="no-such-cc")
@@ -264,7 +277,10 @@ class Check(Folder):
                             (["--json", "--", "a.c"], "--json: before `--` stand --depth N and checkers"),
                             (["no.metal", "--", "a.c"], "no.metal: there is no such"),
                             ([FREE, "--", "no.c"], "no.c: there is no such"), ([FREE, "--", ".", "-I."], ".: it is a folder"),
-                            ([FREE, "--", "a.c", "-I.", "b.c"], "b.c: C files stand before")):
+                            ([FREE, "--", "a.c", "-I.", "b.c"], "b.c: C files stand before"),
+                            ([FREE, "--depth", "1", "--", "a.c"], "--depth: options stand before the checkers"),
+                            (["--", "a.c", FREE], FREE + ": checkers stand before `--`"), (["--", "a.cpp"], "a.cpp: C++ isn't read"),
+                            (["--", "a.o"], "a.o: behind `--` stand C files, whose names end in .c, .h or .i")):
             done = self.check(*words)
             self.assertEqual((done.returncode, done.stdout), (2, ""), words)
             self.assertTrue(done.stderr.startswith("check: " + says), (words, done.stderr))

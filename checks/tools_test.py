@@ -60,10 +60,21 @@ class Sarif(unittest.TestCase):
     def test_no_report(self):
         self.assertEqual(self.log("")["runs"][0]["results"], [])
 
-    def test_no_line_of_json(self):
-        done = tool("sarif", given="a.c:1:28: free_checker: using p after free!\n")
-        self.assertNotEqual(done.returncode, 0)
-        self.assertIn("line 1", done.stderr)
+    def test_what_is_no_report(self):
+        for given in ("a.c:1:28: free_checker: using p after free!\n", LINE % 1 + "\n{}\n", "[]\n", '"a"\n', LINE % 1 + "caf\u00e9\n"):
+            done = tool("sarif", given=given)
+            self.assertEqual((done.returncode, done.stdout), (2, ""), given)
+            number = given.count("\n")
+            self.assertTrue(done.stderr.startswith(f"sarif: standard input:{number}: no report of `metalcheck --format json`"), done.stderr)
+
+    def test_no_file(self):
+        done = tool("sarif", "no.jsonl")
+        self.assertEqual((done.returncode, done.stdout), (2, ""))
+        self.assertEqual(done.stderr, "sarif: no.jsonl: No such file or directory: name a file that tools/check_commands --json wrote\n")
+
+    def test_a_report_without_an_object(self):
+        found = self.log('{"file":"a.c","line":1,"col":2,"checker":"m","rule":1,"message":"held"}\n')["runs"][0]["results"]
+        self.assertEqual(found[0]["properties"], {"preprocessedColumn": 2})
 
     def test_lines_of_the_program(self):
         with tempfile.TemporaryDirectory() as folder:

@@ -207,6 +207,27 @@ static int order(int n)
     return taken + sum + before + ({ int last = n; event(95) + last; });
 }
 
+/* conditionals without a middle, whose condition only reads */
+static int defaults(int n)
+{
+    int none = n - 3, sum = none ?: event(96);
+
+    return sum + (n & 1 ?: none ?: event(97)) * 10;
+}
+
+/* a value that is prepared in one arm of a conditional, or behind a comma; labels of blocks; a selection by type */
+static int arms(int n)
+{
+    int taken, other;
+
+    taken = n > 4 ? event(98) : ({ int left = n; while (left > 0) left -= event(2); left; });
+    if ((event(99), ({ int up = 0; while (up < n) up += 2; up; })) > 3) taken++;
+    { __label__ out; if (n & 1) goto out; event(100); out: ; }
+    { __label__ out; if (n & 2) goto out; event(101); out: ; }
+    other = _Generic(n, int: event(102), long: 3);
+    return n ? taken + other : ({ while (taken > 0) taken--; taken; });
+}
+
 int main(void)
 {
     static struct item all[5];
@@ -228,6 +249,8 @@ int main(void)
         sum = sum * 31 + loops(i);
         sum = sum * 31 + once(i);
         sum = sum * 31 + order(i);
+        sum = sum * 31 + defaults(i);
+        sum = sum * 31 + arms(i);
     }
     printf("%ld\n", sum);
     for (i = 0; i < event_count; i++) printf("%d ", events[i]);

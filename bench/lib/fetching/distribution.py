@@ -4,6 +4,7 @@ import os
 import re
 import shutil
 import subprocess
+import tarfile
 
 SYSTEM = "/etc/apt"
 MOST_VERSIONS = 6
@@ -63,6 +64,12 @@ def source_lines(folder=SYSTEM, release=None):
     lines = [f"deb-src {options} {address} {suite} {components}".replace("  ", " ") for options, address, suite, components in found
              if release and re.match(re.escape(release) + r"(?=$|[-/])", suite)]
     return list(dict.fromkeys(lines))
+
+
+def original(description):
+    """The archive of what the authors gave out, by the description of a source package of theirs: without the distribution's revision."""
+    found = glob.glob(glob.escape(description[:-len(".dsc")].rpartition("-")[0]) + ".orig.tar.*")
+    return next((path for path in sorted(found) if not path.endswith(".asc")), description)
 
 
 class Distribution:
@@ -127,8 +134,24 @@ class Distribution:
             return os.path.join(folder, f"{package}_{plain}.dsc")
         raise refused
 
-    def unpack(self, description, target):
-        """Unpacks a source package that was fetched."""
+    def unpack(self, description, target, parts=()):
+        """Unpacks a source package that was fetched, or only these parts of it."""
         shutil.rmtree(target, ignore_errors=True)
+        if parts:
+            self.unpack_parts(original(description), target, parts)
+            return
         words = ["dpkg-source", "--no-check", "--no-copy", "-x", description, target]
         self.call(words, f"{os.path.basename(description)} can't be unpacked")
+
+    def unpack_parts(self, archive, target, parts):
+        """Unpacks these parts of what the authors gave out, without the distribution's changes: a pattern without `/` is a name in any
+        folder."""
+        refused = f"{os.path.basename(archive)} can't be unpacked"
+        try:
+            with tarfile.open(archive) as opened:
+                top = opened.next().name.split("/")[0]
+        except (OSError, tarfile.TarError) as fault:
+            raise Unreachable(f"{refused}: {fault}") from fault
+        os.makedirs(target)
+        words = ["tar", "-x", "-f", archive, "-C", target, "--strip-components=1", "--wildcards", "--wildcards-match-slash"]
+        self.call(words + [f"{top}/{part}" if "/" in part else f"*/{part}" for part in parts], refused)

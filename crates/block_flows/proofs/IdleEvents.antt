@@ -17,7 +17,8 @@ use Rattle.block_flows.specs.IdleEvents.{is_idle, is_within, leaves_all, AreLeft
 use Rattle.c_objects.specs.Objects.{Object, is_object}
 use Rattle.flow_graph.specs.CPaths.Events.{Event}
 use Rattle.type_rules.specs.Options.{if_there}
-use Rattle.path_model.specs.CheckerModel.Choices.{State, stop, is_asked, is_global_asked, target_at, global_behind, object_behind, taken, taken_global, next_global, chosen}
+use Rattle.metal_tree.specs.MetalMachines.Machine.{stop}
+use Rattle.path_model.specs.CheckerModel.Choices.{State, is_asked, is_global_asked, target_at, global_behind, object_behind, taken, taken_global, next_global, chosen}
 use Rattle.path_model.specs.CheckerModel.Happenings.{Function, Happening}
 use Rattle.path_model.specs.CheckerModel.Moves.{Move, move_of}
 use Rattle.path_model.specs.CheckerModel.Reports.{Checker}

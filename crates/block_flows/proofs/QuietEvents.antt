@@ -14,7 +14,8 @@ use Rattle.c_objects.specs.Objects.{Object}
 use Rattle.flow_graph.specs.CPaths.Events.{Event}
 use Rattle.type_rules.specs.Options.{or_else}
 use Rattle.path_model.specs.CheckerModel.Checkers.{model, origins}
-use Rattle.path_model.specs.CheckerModel.Choices.{State, Taken, stop, is_asked, is_global_asked, first_some, taken, taken_global}
+use Rattle.metal_tree.specs.MetalMachines.Machine.{stop}
+use Rattle.path_model.specs.CheckerModel.Choices.{State, Taken, is_asked, is_global_asked, first_some, taken, taken_global}
 use Rattle.path_model.specs.CheckerModel.Happenings.{Function, Happening}
 use Rattle.path_model.specs.CheckerModel.Reports.{Checker}
 use Rattle.path_theory.specs.EventWalks.Happenings.{HappensHere, ToObject, ToGlobal, HappensAt, Here, Later}

@@ -2,13 +2,18 @@
 //! action are taken on the way. An engine enters a block once for each tuple at its head, and needs these alone.
 #![tactic(auto)]
 
-mod crossing;
-mod fronts;
+// idle and quiet events
 mod idle_events;
 mod quiet_events;
+
+// tuples and how they flow
+mod fronts;
 mod sets;
-mod taken_rules;
 mod tuple_flows;
+
+// over the events of a block
+mod crossing;
+mod taken_rules;
 
 pub use crossing::ends;
 pub use taken_rules::{Firing, firings};

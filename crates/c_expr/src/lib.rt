@@ -1,20 +1,29 @@
 //! Reads C's expressions, type names, specifiers and declarators.
 #![tactic(auto)]
 
-mod declarators;
-mod expressions;
+// nodes, symbols, names and faults
 mod fault;
 mod nodes;
-mod operators;
-mod params;
-mod postfix;
-mod primary;
-mod reading;
-mod specifier_words;
-mod specifiers;
 mod symbols;
 mod type_names;
+
+// operators and words of specifiers
+mod operators;
+mod specifier_words;
+
+// expressions by their levels
+mod expressions;
+mod postfix;
+mod primary;
+
+// specifiers, declarators and type names
+mod declarators;
+mod params;
+mod specifiers;
 mod types;
+
+// readings of all tokens
+mod reading;
 
 pub use declarators::{Form, declarator_in_front};
 pub use expressions::expression_in_front;

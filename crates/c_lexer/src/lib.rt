@@ -1,23 +1,32 @@
 //! Reads bytes as the tokens of C or of a checker, and what it means to read them.
 #![tactic(auto)]
 
-mod bytes;
+// tokens and what reading means
 mod c_reading;
-mod chunk_bounds;
-mod constants;
 mod fault;
-mod here;
-mod kinds;
-mod lexer;
+mod tokens;
+
+// bytes, literals and numbers
+mod bytes;
+mod constants;
 mod literals;
-mod markers;
 mod numbers;
-mod pieces;
+
+// words and punctuators
 mod punctuators;
 mod spellings;
-mod stripping;
-mod tokens;
 mod words;
+
+// pieces and where they stand
+mod here;
+mod markers;
+mod pieces;
+
+// whole sources and their tokens
+mod chunk_bounds;
+mod kinds;
+mod lexer;
+mod stripping;
 
 pub use c_reading::Mode;
 pub use chunk_bounds::{chunks, is_cut};

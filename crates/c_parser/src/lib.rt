@@ -1,28 +1,41 @@
 //! Reads declarations, statements and translation units of C.
 #![tactic(auto)]
 
-mod blocks;
-mod control;
-mod declaration_nodes;
-mod declarations;
-mod declared;
-mod definitions;
+// faults and tokens in front
 mod fault;
 mod front;
-mod functions;
+
+// parts and their nodes
+mod declaration_nodes;
+mod parts;
+mod statement_nodes;
+mod tagged_nodes;
+
+// names, labels and definitions
+mod control;
+mod declared;
+mod definitions;
+mod labels;
+
+// specifiers with their bodies
+mod members;
+mod specifiers;
+mod tagged;
+
+// declarations and initial values
+mod declarations;
 mod initialized;
 mod initials;
+
+// statements by their kinds
+mod blocks;
 mod jumps;
-mod labels;
 mod loops;
-mod members;
-mod parts;
 mod selections;
-mod specifiers;
-mod statement_nodes;
 mod statements;
-mod tagged;
-mod tagged_nodes;
+
+// external definitions and units
+mod functions;
 mod units;
 
 pub use fault::ParseFault;

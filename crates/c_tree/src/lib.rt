@@ -2,19 +2,24 @@
 //! tokens a tree has.
 #![tactic(auto, using(crate::proofs::Rows::nodes_out))]
 
-mod alike;
-mod declaration;
-mod expression;
-mod heights;
+// tokens
 mod keyword;
-mod operator;
-mod passed_tokens;
-mod path_subjects;
 mod place;
 mod punctuator;
-mod statement;
 mod token;
+
+// trees
+mod declaration;
+mod expression;
+mod operator;
+mod statement;
 mod tree;
+
+// what is asked of trees
+mod alike;
+mod heights;
+mod passed_tokens;
+mod path_subjects;
 
 pub use alike::{same_tag, same_token, same_tokens};
 pub use declaration::{Declarator, Initializer, Outer, Part, Specifier};

@@ -11,3 +11,4 @@ mod Generating
 pub mod GeneratedProgram
 pub mod CheckerReports
 pub mod JudgedFiles
+pub mod Unique

@@ -40,10 +40,10 @@ kind_few f p files kind most e h =
     let c = length-map files f in
     omega (arith, a, b, c, h, ap length e)
 
-module _ (told : List ℕ → Option (List ℕ)) (command : Command) (old new : List (List ℕ)) where
+module _ (Holds : List ℕ → List ℕ → Type 0) (command : Command) (old new : List (List ℕ)) where
   -- ---- the files gave reports
-  pub due_for_reports : (rendered : List Report → List (List ℕ)) (reports : List Report) (s : Status) (text line : List ℕ) → AreAccepted told (checkers_of command) (sources_of command) command.depth reports → new ≡ old
-      → IsPlanFor command.place (rendered reports) reports s text line → IsDueFor told command rendered old new s text line
+  pub due_for_reports : (rendered : List Report → List (List ℕ)) (reports : List Report) (s : Status) (text line : List ℕ) → AreAccepted Holds (checkers_of command) (sources_of command) command.depth reports → new ≡ old
+      → IsPlanFor command.place (rendered reports) reports s text line → IsDueFor Holds command rendered old new s text line
   due_for_reports rendered reports status.Clean text line a n p = record { reports = reports; accepted = a; none_failed = n; asked = p.0; text_is = p.1; line_is = p.2 }
   due_for_reports rendered reports status.Reports text line a n p = record { reports = reports; accepted = a; none_failed = n; asked = p.0; text_is = p.1; line_is = p.2 }
   due_for_reports rendered reports status.Usage text line a n p = absurd p
@@ -53,18 +53,18 @@ module _ (told : List ℕ → Option (List ℕ)) (command : Command) (old new : 
   due_for_reports rendered reports status.NoMemory text line a n p = absurd p
 
   -- ---- they gave none
-  pub due_for_none : (rendered : List Report → List (List ℕ)) (u : Unjudged) (s : Status) (text line : List ℕ) → AnswersUnjudged told (checkers_of command) (sources_of command) old new u → IsPlanOf (checkers_of command) (sources_of command) u s text line
-      → IsDueFor told command rendered old new s text line
+  pub due_for_none : (rendered : List Report → List (List ℕ)) (u : Unjudged) (s : Status) (text line : List ℕ) → AnswersUnjudged Holds (checkers_of command) (sources_of command) old new u → IsPlanOf (checkers_of command) (sources_of command) u s text line
+      → IsDueFor Holds command rendered old new s text line
   due_for_none rendered (NotRead position) s text line a p =
-      let lacking : IsLacking told command old new text line = record { position = position; failed = a; text_is = p.1; line_is = p.2 a.is_turn.turn a.is_turn.here } in
-      subst (λ x. IsDueFor told command rendered old new x text line) (sym p.0) lacking
+      let lacking : IsLacking Holds command old new text line = record { position = position; failed = a; text_is = p.1; line_is = p.2 a.is_turn.turn a.is_turn.is } in
+      subst (λ x. IsDueFor Holds command rendered old new x text line) (sym p.0) lacking
   due_for_none rendered (Faulty l) s text line a p =
-      let refused : IsRefused told command old new text line = record { fault = located_of l; first = a.0; none_failed = a.1; text_is = p.1; line_is = p.2 } in
-      subst (λ x. IsDueFor told command rendered old new x text line) (sym p.0) refused
+      let refused : IsRefused Holds command old new text line = record { fault = located_of l; first = a.0; none_failed = a.1; text_is = p.1; line_is = p.2 } in
+      subst (λ x. IsDueFor Holds command rendered old new x text line) (sym p.0) refused
   due_for_none rendered NoMemory s text line a p = absurd p
 
   -- whatever they came to
-  pub failed_for_none : (u : Unjudged) → AnswersUnjudged told (checkers_of command) (sources_of command) old new u → FailedInTurnOf told command old new
+  pub failed_for_none : (u : Unjudged) → AnswersUnjudged Holds (checkers_of command) (sources_of command) old new u → FailedInTurnOf Holds command old new
   failed_for_none (NotRead position) a = inr (position, a)
   failed_for_none (Faulty l) a = inl a.1
   failed_for_none NoMemory a = inl a
@@ -74,24 +74,24 @@ pub of_both : {X : Type 0} (P : List X → List X → Type 0) (xs ys us vs : Lis
 of_both P xs ys us vs e f h = subst (λ zs. P zs vs) e (subst (λ zs. P xs zs) f h)
 
 -- the position of a file that wasn't read is that of a file
-pub is_among : (told : List ℕ → Option (List ℕ)) (checkers sources : List (Bor (List ℕ))) (old new : List (List ℕ)) (u : Unjudged) → AnswersUnjudged told (words_of checkers) (words_of sources) old new u → IsAmong (length checkers + length sources) u
-is_among told checkers sources old new (NotRead position) a =
-    let h = slice_get_within (turns (words_of checkers) (words_of sources)) position a.is_turn.turn a.is_turn.here in
+pub is_among : (Holds : List ℕ → List ℕ → Type 0) (checkers sources : List (Bor (List ℕ))) (old new : List (List ℕ)) (u : Unjudged) → AnswersUnjudged Holds (words_of checkers) (words_of sources) old new u → IsAmong (length checkers + length sources) u
+is_among Holds checkers sources old new (NotRead position) a =
+    let h = slice_get_within (turns (words_of checkers) (words_of sources)) position a.is_turn.turn a.is_turn.is in
     let b = length-map checkers (λ (w : Bor (List ℕ)). w.now) in
     let c = length-map sources (λ (w : Bor (List ℕ)). w.now) in
     omega (arith, h, b, c, all_turns (words_of checkers) (words_of sources))
-is_among told checkers sources old new (Faulty l) a = tt
-is_among told checkers sources old new NoMemory a = tt
+is_among Holds checkers sources old new (Faulty l) a = tt
+is_among Holds checkers sources old new NoMemory a = tt
 
 -- ---- the words give this command, and no other
 
 module _ (words called : List (List ℕ)) (command : Command) (given : IsCommand words called command) (only : (c : Command) → IsCommand words called c → c ≡ command) where
-  pub due_for_words : (told : List ℕ → Option (List ℕ)) (rendered : List Report → List (List ℕ)) (old new : List (List ℕ)) (s : Status) (text line : List ℕ) → IsDueFor told command rendered old new s text line → IsDue told words called rendered old new s text line
-  due_for_words told rendered old new s text line due = inr (inl (record { command = command; given = given; due = due }))
+  pub due_for_words : (Holds : List ℕ → List ℕ → Type 0) (rendered : List Report → List (List ℕ)) (old new : List (List ℕ)) (s : Status) (text line : List ℕ) → IsDueFor Holds command rendered old new s text line → IsDue Holds words called rendered old new s text line
+  due_for_words Holds rendered old new s text line due = inr (inl (record { command = command; given = given; due = due }))
 
-  pub failed_for_words : (told : List ℕ → Option (List ℕ)) (old new : List (List ℕ)) → FailedInTurnOf told command old new → FailedInTurn told words called old new
-  failed_for_words told old new (inl e) = inl e
-  failed_for_words told old new (inr f) = inr (command, given, f)
+  pub failed_for_words : (Holds : List ℕ → List ℕ → Type 0) (old new : List (List ℕ)) → FailedInTurnOf Holds command old new → FailedInTurn Holds words called old new
+  failed_for_words Holds old new (inl e) = inl e
+  failed_for_words Holds old new (inr f) = inr (command, given, f)
 
   pub leaves_for_words : (rendered : List Report → List (List ℕ)) (before after : List (List Report)) (s : Status) → LeavesAt command.place before after s → Leaves words (record { called = called; rendered = rendered; before = before; after = after }) s
   leaves_for_words rendered before after status.Clean l = λ c g. subst (λ (k : Command). LeavesAt k.place before after status.Clean) (sym (only c g)) l
@@ -117,9 +117,9 @@ leaves_unasked words called count rendered before after status.NoMemory is kept 
 
 -- ---- what is due was written
 
-pub carried_out : (told : List ℕ → Option (List ℕ)) (words : List (List ℕ)) (r : ReporterStep) (old new : List (List ℕ)) (result : Status) (out errs : SinkStep) (s : Status) (text handed line rest : List ℕ)
-    → handed ≡ text → rest ≡ line → IsDue told words r.called r.rendered old new s text line → Leaves words r s → Spares words r → Written s handed rest result out errs → CarriesOut told words r old new result out errs
-carried_out told words r old new result out errs s text handed line rest e f due leaves spares written = record {
+pub carried_out : (Holds : List ℕ → List ℕ → Type 0) (words : List (List ℕ)) (r : ReporterStep) (old new : List (List ℕ)) (result : Status) (out errs : SinkStep) (s : Status) (text handed line rest : List ℕ)
+    → handed ≡ text → rest ≡ line → IsDue Holds words r.called r.rendered old new s text line → Leaves words r s → Spares words r → Written s handed rest result out errs → CarriesOut Holds words r old new result out errs
+carried_out Holds words r old new result out errs s text handed line rest e f due leaves spares written = record {
   status = s;
   text = text;
   line = line;

@@ -1,5 +1,5 @@
 -- What each status says of a run.
-use Rattle.std.proofs.Common.{◌≡◌, ◌≢◌, ◌⊎◌, inl, inr, ℕ, List, [], Option, refl, sym, ◌∙◌, subst}
+use Rattle.std.proofs.Common.{◌≡◌, ◌≢◌, ◌⊎◌, inl, inr, ℕ, List, [], refl, sym, ◌∙◌, subst}
 use Rattle.mx_io.specs.Causes.{Rose}
 use Rattle.report_model.specs.declared.report.Report.{Report}
 use Rattle.command_words.specs.Generation.{IsGeneration}
@@ -10,12 +10,12 @@ use Rattle.command.specs.Due.{IsDue, IsDueFor, HasGeneration, HasTask, IsMeasure
 use Rattle.command.specs.Ran.{Ran, IsEmptied, Leaves, Spares, ReporterStep, Answers, Measures, Prints, Misuses, Refuses, Misses}
 use Rattle.command.specs.Written.{SinkStep, Written, Took, IsStill}
 
-module _ (told : List ℕ → Option (List ℕ)) (words : List (List ℕ)) (r : ReporterStep) (old new : List (List ℕ)) (result : Status) (out errs : SinkStep) where
+module _ (Holds : List ℕ → List ℕ → Type 0) (words : List (List ℕ)) (r : ReporterStep) (old new : List (List ℕ)) (result : Status) (out errs : SinkStep) where
   -- what was due under a status was written whole
   pub record Done (s : Status) : Type 0 where
     pub text : List ℕ
     pub line : List ℕ
-    pub due : IsDue told words r.called r.rendered old new s text line
+    pub due : IsDue Holds words r.called r.rendered old new s text line
     pub leaves : Leaves words r s
     pub spares : Spares words r
     pub took_out : Took out text
@@ -23,7 +23,7 @@ module _ (told : List ℕ → Option (List ℕ)) (words : List (List ℕ)) (r : 
     pub out_still : IsStill out
     pub errs_still : IsStill errs
 
-  done : (s : Status) → s ≢ NoMemory → s ≢ WriteFault → Ran told words r old new result out errs → result ≡ s → Done s
+  done : (s : Status) → s ≢ NoMemory → s ≢ WriteFault → Ran Holds words r old new result out errs → result ≡ s → Done s
   done s memory fault (inl stops) e = absurd (memory (sym e ∙ stops.status))
   done s memory fault (inr c) e = by c.written
     where
@@ -31,7 +31,7 @@ module _ (told : List ℕ → Option (List ℕ)) (words : List (List ℕ)) (r : 
       by (inl w) = record {
         text = c.text;
         line = c.line;
-        due = subst (λ x. IsDue told words r.called r.rendered old new x c.text c.line) (sym w.0 ∙ e) c.due;
+        due = subst (λ x. IsDue Holds words r.called r.rendered old new x c.text c.line) (sym w.0 ∙ e) c.due;
         leaves = subst (Leaves words r) (sym w.0 ∙ e) c.leaves;
         spares = c.spares;
         took_out = w.1;
@@ -43,17 +43,17 @@ module _ (told : List ℕ → Option (List ℕ)) (words : List (List ℕ)) (r : 
       by (inr (inr w)) = absurd (fault (sym e ∙ w.0))
 
   -- but for usage it was due for a command or for a generation
-  asked : (s : Status) (text line : List ℕ) → s ≢ Usage → IsDue told words r.called r.rendered old new s text line → HasTask told words r.called r.rendered old new s text line ⊎ HasGeneration words old new s text line
+  asked : (s : Status) (text line : List ℕ) → s ≢ Usage → IsDue Holds words r.called r.rendered old new s text line → HasTask Holds words r.called r.rendered old new s text line ⊎ HasGeneration words old new s text line
   asked s text line n (inl m) = absurd (n m.status_is)
   asked s text line n (inr h) = h
 
-  prints : (IsAsked : List Report → Type 0) (s : Status) (d : Done s) (command : Command) → IsCommand words r.called command → IsReported told command r.rendered old new d.text d.line IsAsked
-      → IsEmptied words r → Prints told words r old new out errs IsAsked
+  prints : (IsAsked : List Report → Type 0) (s : Status) (d : Done s) (command : Command) → IsCommand words r.called command → IsReported Holds command r.rendered old new d.text d.line IsAsked
+      → IsEmptied words r → Prints Holds words r old new out errs IsAsked
   prints IsAsked s d command given cause empty = record {
     command = command;
     given = given;
     text = d.text;
-    cause = subst (λ l. IsReported told command r.rendered old new d.text l IsAsked) cause.line_is cause;
+    cause = subst (λ l. IsReported Holds command r.rendered old new d.text l IsAsked) cause.line_is cause;
     printed = d.took_out;
     nothing = subst (Took errs) cause.line_is d.took_errs;
     out_still = d.out_still;
@@ -75,24 +75,24 @@ module _ (told : List ℕ → Option (List ℕ)) (words : List (List ℕ)) (r : 
     kept = d.spares count is;
   }
 
-  pub clean : Ran told words r old new result out errs → result ≡ Clean → Answers told words r old new out errs (λ reports. reports ≡ [])
+  pub clean : Ran Holds words r old new result out errs → result ≡ Clean → Answers Holds words r old new out errs (λ reports. reports ≡ [])
   clean ran e = let d = done Clean (λ k. cc) (λ k. cc) ran e in by d (asked Clean d.text d.line (λ k. cc) d.due)
     where
-      by : (d : Done Clean) → HasTask told words r.called r.rendered old new Clean d.text d.line ⊎ HasGeneration words old new Clean d.text d.line → Answers told words r old new out errs (λ reports. reports ≡ [])
+      by : (d : Done Clean) → HasTask Holds words r.called r.rendered old new Clean d.text d.line ⊎ HasGeneration words old new Clean d.text d.line → Answers Holds words r old new out errs (λ reports. reports ≡ [])
       by d (inl t) = inl (prints (λ reports. reports ≡ []) Clean d t.command t.given t.due d.leaves)
       by d (inr g) = inr (measures (λ reports. reports ≡ []) Clean d g.count g.is_generation g.none_failed g.due)
 
-  pub reports : Ran told words r old new result out errs → result ≡ Reports → Answers told words r old new out errs (λ reports. reports ≢ [])
+  pub reports : Ran Holds words r old new result out errs → result ≡ Reports → Answers Holds words r old new out errs (λ reports. reports ≢ [])
   reports ran e = let d = done Reports (λ k. cc) (λ k. cc) ran e in by d (asked Reports d.text d.line (λ k. cc) d.due)
     where
-      by : (d : Done Reports) → HasTask told words r.called r.rendered old new Reports d.text d.line ⊎ HasGeneration words old new Reports d.text d.line → Answers told words r old new out errs (λ reports. reports ≢ [])
+      by : (d : Done Reports) → HasTask Holds words r.called r.rendered old new Reports d.text d.line ⊎ HasGeneration words old new Reports d.text d.line → Answers Holds words r old new out errs (λ reports. reports ≢ [])
       by d (inl t) = inl (prints (λ rs. rs ≢ []) Reports d t.command t.given t.due d.leaves)
       by d (inr g) = inr (measures (λ rs. rs ≢ []) Reports d g.count g.is_generation g.none_failed g.due)
 
-  pub usage : Ran told words r old new result out errs → result ≡ Usage → Misuses words r old new out errs
+  pub usage : Ran Holds words r old new result out errs → result ≡ Usage → Misuses words r old new out errs
   usage ran e = let d = done Usage (λ k. cc) (λ k. cc) ran e in by d d.due
     where
-      by : (d : Done Usage) → IsDue told words r.called r.rendered old new Usage d.text d.line → Misuses words r old new out errs
+      by : (d : Done Usage) → IsDue Holds words r.called r.rendered old new Usage d.text d.line → Misuses words r old new out errs
       by d (inl m) = record {
         cause = record { none = m.none; none_failed = m.none_failed; status_is = refl; text_is = refl; line_is = refl };
         nothing = subst (Took out) m.text_is d.took_out;
@@ -104,17 +104,17 @@ module _ (told : List ℕ → Option (List ℕ)) (words : List (List ℕ)) (r : 
       by d (inr (inl t)) = absurd t.due
       by d (inr (inr g)) = absurd g.due
 
-  pub refused : Ran told words r old new result out errs → result ≡ Refused → Refuses told words r old new out errs
+  pub refused : Ran Holds words r old new result out errs → result ≡ Refused → Refuses Holds words r old new out errs
   refused ran e = let d = done Refused (λ k. cc) (λ k. cc) ran e in by d (asked Refused d.text d.line (λ k. cc) d.due)
     where
-      by : (d : Done Refused) → HasTask told words r.called r.rendered old new Refused d.text d.line ⊎ HasGeneration words old new Refused d.text d.line → Refuses told words r old new out errs
+      by : (d : Done Refused) → HasTask Holds words r.called r.rendered old new Refused d.text d.line ⊎ HasGeneration words old new Refused d.text d.line → Refuses Holds words r old new out errs
       by d (inl t) =
-          let cause : IsRefused told t.command old new d.text d.line = t.due in
+          let cause : IsRefused Holds t.command old new d.text d.line = t.due in
           record {
             command = t.command;
             given = t.given;
             line = d.line;
-            cause = subst (λ x. IsRefused told t.command old new x d.line) cause.text_is cause;
+            cause = subst (λ x. IsRefused Holds t.command old new x d.line) cause.text_is cause;
             nothing = subst (Took out) cause.text_is d.took_out;
             printed = d.took_errs;
             out_still = d.out_still;
@@ -123,17 +123,17 @@ module _ (told : List ℕ → Option (List ℕ)) (words : List (List ℕ)) (r : 
           }
       by d (inr g) = absurd g.due
 
-  pub read_fault : Ran told words r old new result out errs → result ≡ ReadFault → Misses told words r old new out errs
+  pub read_fault : Ran Holds words r old new result out errs → result ≡ ReadFault → Misses Holds words r old new out errs
   read_fault ran e = let d = done ReadFault (λ k. cc) (λ k. cc) ran e in by d (asked ReadFault d.text d.line (λ k. cc) d.due)
     where
-      by : (d : Done ReadFault) → HasTask told words r.called r.rendered old new ReadFault d.text d.line ⊎ HasGeneration words old new ReadFault d.text d.line → Misses told words r old new out errs
+      by : (d : Done ReadFault) → HasTask Holds words r.called r.rendered old new ReadFault d.text d.line ⊎ HasGeneration words old new ReadFault d.text d.line → Misses Holds words r old new out errs
       by d (inl t) =
-          let cause : IsLacking told t.command old new d.text d.line = t.due in
+          let cause : IsLacking Holds t.command old new d.text d.line = t.due in
           record {
             command = t.command;
             given = t.given;
             line = d.line;
-            cause = subst (λ x. IsLacking told t.command old new x d.line) cause.text_is cause;
+            cause = subst (λ x. IsLacking Holds t.command old new x d.line) cause.text_is cause;
             nothing = subst (Took out) cause.text_is d.took_out;
             printed = d.took_errs;
             out_still = d.out_still;
@@ -142,11 +142,11 @@ module _ (told : List ℕ → Option (List ℕ)) (words : List (List ℕ)) (r : 
           }
       by d (inr g) = absurd g.due
 
-  pub write_fault : Ran told words r old new result out errs → result ≡ WriteFault → Rose out.faults_before out.faults_after ⊎ Rose errs.faults_before errs.faults_after
+  pub write_fault : Ran Holds words r old new result out errs → result ≡ WriteFault → Rose out.faults_before out.faults_after ⊎ Rose errs.faults_before errs.faults_after
   write_fault (inl stops) e = let k = stops.status in cc
   write_fault (inr c) e = by c.due c.written
     where
-      none : (s : Status) → result ≡ s → IsDue told words r.called r.rendered old new s c.text c.line → s ≡ WriteFault → ⊥
+      none : (s : Status) → result ≡ s → IsDue Holds words r.called r.rendered old new s c.text c.line → s ≡ WriteFault → ⊥
       none s h (inl m) w = let u = m.status_is in cc
       none WriteFault h (inr (inl t)) w = t.due
       none Clean h (inr (inl t)) w = cc
@@ -163,7 +163,7 @@ module _ (told : List ℕ → Option (List ℕ)) (words : List (List ℕ)) (r : 
       none ReadFault h (inr (inr t)) w = cc
       none NoMemory h (inr (inr t)) w = cc
 
-      by : IsDue told words r.called r.rendered old new c.status c.text c.line → Written c.status c.text c.line result out errs → Rose out.faults_before out.faults_after ⊎ Rose errs.faults_before errs.faults_after
+      by : IsDue Holds words r.called r.rendered old new c.status c.text c.line → Written c.status c.text c.line result out errs → Rose out.faults_before out.faults_after ⊎ Rose errs.faults_before errs.faults_after
       by due (inl w) = absurd (none c.status w.0 due (sym w.0 ∙ e))
       by due (inr (inl w)) = inl w.1.0
       by due (inr (inr w)) = inr w.2.0
@@ -174,21 +174,21 @@ module _ (told : List ℕ → Option (List ℕ)) (words : List (List ℕ)) (r : 
   ended s text line (inr (inl w)) = inr w.0
   ended s text line (inr (inr w)) = inr w.0
 
-  pub no_command : Ran told words r old new result out errs → GiveNone words r.called → (result ≡ Usage) ⊎ ((result ≡ WriteFault) ⊎ (result ≡ NoMemory))
+  pub no_command : Ran Holds words r old new result out errs → GiveNone words r.called → (result ≡ Usage) ⊎ ((result ≡ WriteFault) ⊎ (result ≡ NoMemory))
   no_command (inl stops) n = inr (inr stops.status)
   no_command (inr c) n = by c.due (ended c.status c.text c.line c.written)
     where
-      by : IsDue told words r.called r.rendered old new c.status c.text c.line → (result ≡ c.status) ⊎ (result ≡ WriteFault) → (result ≡ Usage) ⊎ ((result ≡ WriteFault) ⊎ (result ≡ NoMemory))
+      by : IsDue Holds words r.called r.rendered old new c.status c.text c.line → (result ≡ c.status) ⊎ (result ≡ WriteFault) → (result ≡ Usage) ⊎ ((result ≡ WriteFault) ⊎ (result ≡ NoMemory))
       by (inl m) (inl e) = inl (e ∙ m.status_is)
       by (inl m) (inr e) = inr (inl e)
       by (inr (inl t)) e = absurd (n.no_command t.command t.given)
       by (inr (inr g)) e = absurd (n.no_generation g.count g.is_generation)
 
-  pub failed : Ran told words r old new result out errs → new ≢ old → (result ≡ ReadFault) ⊎ ((result ≡ WriteFault) ⊎ (result ≡ NoMemory))
+  pub failed : Ran Holds words r old new result out errs → new ≢ old → (result ≡ ReadFault) ⊎ ((result ≡ WriteFault) ⊎ (result ≡ NoMemory))
   failed (inl stops) n = inr (inr stops.status)
   failed (inr c) n = by c.due (ended c.status c.text c.line c.written)
     where
-      for : (command : Command) (s : Status) → IsDueFor told command r.rendered old new s c.text c.line → (result ≡ s) ⊎ (result ≡ WriteFault) → (result ≡ ReadFault) ⊎ ((result ≡ WriteFault) ⊎ (result ≡ NoMemory))
+      for : (command : Command) (s : Status) → IsDueFor Holds command r.rendered old new s c.text c.line → (result ≡ s) ⊎ (result ≡ WriteFault) → (result ≡ ReadFault) ⊎ ((result ≡ WriteFault) ⊎ (result ≡ NoMemory))
       for command Clean due e = absurd (n due.none_failed)
       for command Reports due e = absurd (n due.none_failed)
       for command Usage due e = absurd due
@@ -198,7 +198,7 @@ module _ (told : List ℕ → Option (List ℕ)) (words : List (List ℕ)) (r : 
       for command WriteFault due e = absurd due
       for command NoMemory due e = absurd due
 
-      by : IsDue told words r.called r.rendered old new c.status c.text c.line → (result ≡ c.status) ⊎ (result ≡ WriteFault) → (result ≡ ReadFault) ⊎ ((result ≡ WriteFault) ⊎ (result ≡ NoMemory))
+      by : IsDue Holds words r.called r.rendered old new c.status c.text c.line → (result ≡ c.status) ⊎ (result ≡ WriteFault) → (result ≡ ReadFault) ⊎ ((result ≡ WriteFault) ⊎ (result ≡ NoMemory))
       by (inl m) e = absurd (n m.none_failed)
       by (inr (inl t)) e = for t.command c.status t.due e
       by (inr (inr g)) e = absurd (n g.none_failed)

@@ -1,5 +1,5 @@
--- What a run is due: a status, the text for `out` and the line for `errs`.
-use Rattle.std.specs.Prelude.{◌≡◌, ◌≢◌, ◌⊎◌, ℕ, List, [], ◌∷◌, ◌++◌, Option, codes}
+-- What a run is due: a status, the text for `out` and the line for `errs`. Which bytes stand in a file is said by a word that is handed in.
+use Rattle.std.specs.Prelude.{◌≡◌, ◌≢◌, ◌⊎◌, ℕ, List, [], ◌∷◌, ◌++◌, codes}
 use Rattle.report_model.specs.declared.report.Report.{Report}
 use Rattle.command_words.specs.Generation.{IsGeneration}
 use Rattle.command.specs.Commands.{Command, IsCommand, GiveNone, checkers_of, sources_of, turns_of}
@@ -10,7 +10,7 @@ use Rattle.command.specs.declared.status.Status.TheVariants.{Clean, Reports, Usa
 use Rattle.command.specs.JudgedFiles.FirstFault.{IsFirstFault}
 use Rattle.command.specs.JudgedFiles.Judged.{AreAccepted}
 use Rattle.request_files.specs.Faults.{Located, refused_line}
-use Rattle.request_files.specs.Reading.{FailedAt}
+use Rattle.request_files.specs.Reading.{FailedAt, at_first}
 
 abbrev pub usage_line : List ℕ
 usage_line = codes "usage: metalcheck [--depth N] [--format NAME] [--stats] FILE..." ++ 10 ∷ []
@@ -19,45 +19,45 @@ abbrev pub not_read_line : List ℕ → List ℕ
 not_read_line name = name ++ (codes ": not read" ++ 10 ∷ [])
 
 -- at most one read failed: that of a file of the command whose turn had come
-abbrev pub FailedInTurnOf : (List ℕ → Option (List ℕ)) → Command → List (List ℕ) → List (List ℕ) → Type 0
-FailedInTurnOf told command old new = (new ≡ old) ⊎ ((position : ℕ) × FailedAt told (turns_of command) old new position)
+abbrev pub FailedInTurnOf : (List ℕ → List ℕ → Type 0) → Command → List (List ℕ) → List (List ℕ) → Type 0
+FailedInTurnOf Holds command old new = (new ≡ old) ⊎ ((position : ℕ) × FailedAt Holds at_first (turns_of command) old new position)
 
-abbrev pub FailedInTurn : (List ℕ → Option (List ℕ)) → List (List ℕ) → List (List ℕ) → List (List ℕ) → List (List ℕ) → Type 0
-FailedInTurn told words called old new = (new ≡ old) ⊎ ((command : Command) × IsCommand words called command × ((position : ℕ) × FailedAt told (turns_of command) old new position))
+abbrev pub FailedInTurn : (List ℕ → List ℕ → Type 0) → List (List ℕ) → List (List ℕ) → List (List ℕ) → List (List ℕ) → Type 0
+FailedInTurn Holds words called old new = (new ≡ old) ⊎ ((command : Command) × IsCommand words called command × ((position : ℕ) × FailedAt Holds at_first (turns_of command) old new position))
 
 -- the files of the command were read without a fault, and these are their reports, of the kind that is asked
-pub record IsReported (told : List ℕ → Option (List ℕ)) (command : Command) (rendered : List Report → List (List ℕ)) (old new : List (List ℕ)) (text line : List ℕ) (IsAsked : List Report → Type 0) : Type 0 where
+pub record IsReported (Holds : List ℕ → List ℕ → Type 0) (command : Command) (rendered : List Report → List (List ℕ)) (old new : List (List ℕ)) (text line : List ℕ) (IsAsked : List Report → Type 0) : Type 0 where
   pub reports : List Report
-  pub accepted : AreAccepted told (checkers_of command) (sources_of command) command.depth reports
+  pub accepted : AreAccepted Holds (checkers_of command) (sources_of command) command.depth reports
   pub none_failed : new ≡ old
   pub asked : IsAsked reports
   pub text_is : IsText command.place (rendered reports) reports text
   pub line_is : line ≡ []
 
 -- a file has the first fault, or linking has it, and no read failed before
-pub record IsRefused (told : List ℕ → Option (List ℕ)) (command : Command) (old new : List (List ℕ)) (text line : List ℕ) : Type 0 where
+pub record IsRefused (Holds : List ℕ → List ℕ → Type 0) (command : Command) (old new : List (List ℕ)) (text line : List ℕ) : Type 0 where
   pub fault : Located
-  pub first : IsFirstFault told (checkers_of command) (sources_of command) fault
+  pub first : IsFirstFault Holds (checkers_of command) (sources_of command) fault
   pub none_failed : new ≡ old
   pub text_is : text ≡ []
   pub line_is : line ≡ refused_line fault
 
 -- a read failed
-pub record IsLacking (told : List ℕ → Option (List ℕ)) (command : Command) (old new : List (List ℕ)) (text line : List ℕ) : Type 0 where
+pub record IsLacking (Holds : List ℕ → List ℕ → Type 0) (command : Command) (old new : List (List ℕ)) (text line : List ℕ) : Type 0 where
   pub position : ℕ
-  pub failed : FailedAt told (turns_of command) old new position
+  pub failed : FailedAt Holds at_first (turns_of command) old new position
   pub text_is : text ≡ []
   pub line_is : line ≡ not_read_line failed.is_turn.turn.word
 
 -- what is due for a command
-abbrev pub IsDueFor : (List ℕ → Option (List ℕ)) → Command → (List Report → List (List ℕ)) → List (List ℕ) → List (List ℕ) → Status → List ℕ → List ℕ → Type 0
-IsDueFor told command rendered old new Clean text line = IsReported told command rendered old new text line (λ reports. reports ≡ [])
-IsDueFor told command rendered old new Reports text line = IsReported told command rendered old new text line (λ reports. reports ≢ [])
-IsDueFor told command rendered old new Usage text line = ⊥
-IsDueFor told command rendered old new Refused text line = IsRefused told command old new text line
-IsDueFor told command rendered old new ReadFault text line = IsLacking told command old new text line
-IsDueFor told command rendered old new WriteFault text line = ⊥
-IsDueFor told command rendered old new NoMemory text line = ⊥
+abbrev pub IsDueFor : (List ℕ → List ℕ → Type 0) → Command → (List Report → List (List ℕ)) → List (List ℕ) → List (List ℕ) → Status → List ℕ → List ℕ → Type 0
+IsDueFor Holds command rendered old new Clean text line = IsReported Holds command rendered old new text line (λ reports. reports ≡ [])
+IsDueFor Holds command rendered old new Reports text line = IsReported Holds command rendered old new text line (λ reports. reports ≢ [])
+IsDueFor Holds command rendered old new Usage text line = ⊥
+IsDueFor Holds command rendered old new Refused text line = IsRefused Holds command old new text line
+IsDueFor Holds command rendered old new ReadFault text line = IsLacking Holds command old new text line
+IsDueFor Holds command rendered old new WriteFault text line = ⊥
+IsDueFor Holds command rendered old new NoMemory text line = ⊥
 
 -- the generated program of a number was judged, and this is the line of its reports, which are of the kind that is asked
 pub record IsMeasuredAs (count : ℕ) (text line : List ℕ) (IsAsked : List Report → Type 0) : Type 0 where
@@ -86,10 +86,10 @@ pub record IsMisused (words called old new : List (List ℕ)) (status : Status) 
   pub line_is : line ≡ usage_line
 
 -- the words give a command, and this is due for it
-pub record HasTask (told : List ℕ → Option (List ℕ)) (words called : List (List ℕ)) (rendered : List Report → List (List ℕ)) (old new : List (List ℕ)) (status : Status) (text line : List ℕ) : Type 0 where
+pub record HasTask (Holds : List ℕ → List ℕ → Type 0) (words called : List (List ℕ)) (rendered : List Report → List (List ℕ)) (old new : List (List ℕ)) (status : Status) (text line : List ℕ) : Type 0 where
   pub command : Command
   pub given : IsCommand words called command
-  pub due : IsDueFor told command rendered old new status text line
+  pub due : IsDueFor Holds command rendered old new status text line
 
 -- the words ask for a generation, nothing was read, and this is due for it
 pub record HasGeneration (words old new : List (List ℕ)) (status : Status) (text line : List ℕ) : Type 0 where
@@ -99,6 +99,6 @@ pub record HasGeneration (words old new : List (List ℕ)) (status : Status) (te
   pub due : IsDueForCount count status text line
 
 -- WHAT A RUN IS DUE
-abbrev pub IsDue : (List ℕ → Option (List ℕ)) → List (List ℕ) → List (List ℕ) → (List Report → List (List ℕ)) → List (List ℕ) → List (List ℕ) → Status → List ℕ → List ℕ → Type 0
-IsDue told words called rendered old new status text line =
-    IsMisused words called old new status text line ⊎ (HasTask told words called rendered old new status text line ⊎ HasGeneration words old new status text line)
+abbrev pub IsDue : (List ℕ → List ℕ → Type 0) → List (List ℕ) → List (List ℕ) → (List Report → List (List ℕ)) → List (List ℕ) → List (List ℕ) → Status → List ℕ → List ℕ → Type 0
+IsDue Holds words called rendered old new status text line =
+    IsMisused words called old new status text line ⊎ (HasTask Holds words called rendered old new status text line ⊎ HasGeneration words old new status text line)

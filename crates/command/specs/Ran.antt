@@ -1,5 +1,5 @@
 -- What a run does: it stops for want of memory before the first write, or carries out what it is due.
-use Rattle.std.specs.Prelude.{◌≡◌, ◌≢◌, ℕ, ◌⊎◌, List, [], ◌∷◌, Option, Some}
+use Rattle.std.specs.Prelude.{◌≡◌, ◌≢◌, ℕ, ◌⊎◌, List, [], Option}
 use Rattle.mx_io.specs.Causes.{Rose}
 use Rattle.report_model.specs.declared.report.Report.{Report}
 use Rattle.command_words.specs.Generation.{IsGeneration}
@@ -12,7 +12,6 @@ use Rattle.command.specs.declared.status.Status.TheVariants.{Clean, Reports, Usa
 use Rattle.command.specs.Tasks.{IsEmptiedAt}
 use Rattle.command.specs.Written.{SinkStep, Written, Took, IsStill}
 use Rattle.command.specs.JudgedFiles.Judged.{AreJudged}
-use Rattle.request_files.specs.Turns.{Turn}
 
 abbrev pub sink_step : Option (List ℕ) → Option (List ℕ) → ℕ → ℕ → SinkStep
 sink_step before after faults_before faults_after = record { before = before; after = after; faults_before = faults_before; faults_after = faults_after }
@@ -50,31 +49,35 @@ abbrev pub Spares : List (List ℕ) → ReporterStep → Type 0
 Spares words r = (count : ℕ) → IsGeneration words count → r.after ≡ r.before
 
 -- there was no memory before the first write
-pub record Stops (told : List ℕ → Option (List ℕ)) (words : List (List ℕ)) (r : ReporterStep) (old new : List (List ℕ)) (result : Status) (out errs : SinkStep) : Type 0 where
+pub record Stops (Holds : List ℕ → List ℕ → Type 0) (words : List (List ℕ)) (r : ReporterStep) (old new : List (List ℕ)) (result : Status) (out errs : SinkStep) : Type 0 where
   pub status : result ≡ NoMemory
-  pub turn : FailedInTurn told words r.called old new
+  pub turn : FailedInTurn Holds words r.called old new
   pub out_same : Untouched out
   pub errs_same : Untouched errs
 
 -- what the run is due was written, as far as the sinks took it
-pub record CarriesOut (told : List ℕ → Option (List ℕ)) (words : List (List ℕ)) (r : ReporterStep) (old new : List (List ℕ)) (result : Status) (out errs : SinkStep) : Type 0 where
+pub record CarriesOut (Holds : List ℕ → List ℕ → Type 0) (words : List (List ℕ)) (r : ReporterStep) (old new : List (List ℕ)) (result : Status) (out errs : SinkStep) : Type 0 where
   pub status : Status
   pub text : List ℕ
   pub line : List ℕ
-  pub due : IsDue told words r.called r.rendered old new status text line
+  pub due : IsDue Holds words r.called r.rendered old new status text line
   pub leaves : Leaves words r status
   pub spares : Spares words r
   pub written : Written status text line result out errs
 
-abbrev pub Ran : (List ℕ → Option (List ℕ)) → List (List ℕ) → ReporterStep → List (List ℕ) → List (List ℕ) → Status → SinkStep → SinkStep → Type 0
-Ran told words r old new result out errs = Stops told words r old new result out errs ⊎ CarriesOut told words r old new result out errs
+abbrev pub Ran : (List ℕ → List ℕ → Type 0) → List (List ℕ) → ReporterStep → List (List ℕ) → List (List ℕ) → Status → SinkStep → SinkStep → Type 0
+Ran Holds words r old new result out errs = Stops Holds words r old new result out errs ⊎ CarriesOut Holds words r old new result out errs
+
+-- this was written, as far as the sinks took it, or there was no memory before the first write
+abbrev pub DidAs : Status → List ℕ → List ℕ → Status → SinkStep → SinkStep → Type 0
+DidAs status text line result out errs = ((result ≡ NoMemory) × Untouched out × Untouched errs) ⊎ Written status text line result out errs
 
 -- the reports of the files, of the kind that is asked, were printed, and nothing else; the chosen reporter is empty
-pub record Prints (told : List ℕ → Option (List ℕ)) (words : List (List ℕ)) (r : ReporterStep) (old new : List (List ℕ)) (out errs : SinkStep) (IsAsked : List Report → Type 0) : Type 0 where
+pub record Prints (Holds : List ℕ → List ℕ → Type 0) (words : List (List ℕ)) (r : ReporterStep) (old new : List (List ℕ)) (out errs : SinkStep) (IsAsked : List Report → Type 0) : Type 0 where
   pub command : Command
   pub given : IsCommand words r.called command
   pub text : List ℕ
-  pub cause : IsReported told command r.rendered old new text [] IsAsked
+  pub cause : IsReported Holds command r.rendered old new text [] IsAsked
   pub printed : Took out text
   pub nothing : Took errs []
   pub out_still : IsStill out
@@ -95,15 +98,15 @@ pub record Measures (words : List (List ℕ)) (r : ReporterStep) (old new : List
   pub kept : r.after ≡ r.before
 
 -- reports were printed as the words ask, or the line of a generation
-abbrev pub Answers : (List ℕ → Option (List ℕ)) → List (List ℕ) → ReporterStep → List (List ℕ) → List (List ℕ) → SinkStep → SinkStep → (List Report → Type 0) → Type 0
-Answers told words r old new out errs IsAsked = Prints told words r old new out errs IsAsked ⊎ Measures words r old new out errs IsAsked
+abbrev pub Answers : (List ℕ → List ℕ → Type 0) → List (List ℕ) → ReporterStep → List (List ℕ) → List (List ℕ) → SinkStep → SinkStep → (List Report → Type 0) → Type 0
+Answers Holds words r old new out errs IsAsked = Prints Holds words r old new out errs IsAsked ⊎ Measures words r old new out errs IsAsked
 
 -- the line of a refusal was printed, and nothing else; no reporter was handed anything
-pub record Refuses (told : List ℕ → Option (List ℕ)) (words : List (List ℕ)) (r : ReporterStep) (old new : List (List ℕ)) (out errs : SinkStep) : Type 0 where
+pub record Refuses (Holds : List ℕ → List ℕ → Type 0) (words : List (List ℕ)) (r : ReporterStep) (old new : List (List ℕ)) (out errs : SinkStep) : Type 0 where
   pub command : Command
   pub given : IsCommand words r.called command
   pub line : List ℕ
-  pub cause : IsRefused told command old new [] line
+  pub cause : IsRefused Holds command old new [] line
   pub nothing : Took out []
   pub printed : Took errs line
   pub out_still : IsStill out
@@ -111,11 +114,11 @@ pub record Refuses (told : List ℕ → Option (List ℕ)) (words : List (List �
   pub kept : r.after ≡ r.before
 
 -- the line on a file that wasn't read was printed, and nothing else
-pub record Misses (told : List ℕ → Option (List ℕ)) (words : List (List ℕ)) (r : ReporterStep) (old new : List (List ℕ)) (out errs : SinkStep) : Type 0 where
+pub record Misses (Holds : List ℕ → List ℕ → Type 0) (words : List (List ℕ)) (r : ReporterStep) (old new : List (List ℕ)) (out errs : SinkStep) : Type 0 where
   pub command : Command
   pub given : IsCommand words r.called command
   pub line : List ℕ
-  pub cause : IsLacking told command old new [] line
+  pub cause : IsLacking Holds command old new [] line
   pub nothing : Took out []
   pub printed : Took errs line
   pub out_still : IsStill out
@@ -130,13 +133,6 @@ pub record Misuses (words : List (List ℕ)) (r : ReporterStep) (old new : List 
   pub out_still : IsStill out
   pub errs_still : IsStill errs
   pub kept : r.after ≡ r.before
-
--- the contents of these files are told, and these are they
-abbrev pub Tells : (List ℕ → Option (List ℕ)) → List Turn → List (List ℕ) → Type 0
-Tells told [] [] = Unit {0}
-Tells told [] (b ∷ bs) = ⊥
-Tells told (t ∷ ts) [] = ⊥
-Tells told (t ∷ ts) (b ∷ bs) = (told t.word ≡ Some b) × Tells told ts bs
 
 -- no call failed by this count
 abbrev pub NoRise : ℕ → ℕ → Type 0

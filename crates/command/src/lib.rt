@@ -2,22 +2,31 @@
 //! and its writing.
 #![tactic(auto)]
 
-mod checker_reports;
-mod generated_program;
-mod generation;
-mod judged_files;
+// requests and kinds of files
 mod kinds;
+mod request;
+mod words;
+
+// lines and status
 mod lines;
-mod measuring;
-mod outcome;
-mod plan;
-mod program;
 mod refusal;
 mod rendering;
-mod reported;
-mod request;
 mod status;
-mod words;
+
+// files and their reports
+mod checker_reports;
+mod judged_files;
+mod outcome;
+mod reported;
+
+// generated programs
+mod generated_program;
+mod generation;
+mod measuring;
+
+// the whole run
+mod plan;
+mod program;
 mod write_out;
 
 pub use program::run;

@@ -3,6 +3,7 @@
 ghost use Rattle.std.specs.Prelude.{◌≡◌, ◌≤◌, length, IfOk, IfErr, OnOk};
 ghost use Rattle.command.specs.JudgedFiles.FirstFault.{AnswersUnjudged};
 ghost use Rattle.command.specs.JudgedFiles.Judged.{AreAccepted};
+ghost use Rattle.request_files.specs.Telling.{may_hold};
 ghost use Rattle.request_files.specs.Views.{words_of};
 
 use crate::judged_files::{Unjudged, judge_files};
@@ -24,8 +25,8 @@ pub(crate) fn reports_of<F: Files>(
     requires few_checkers { length checkers.now ≤ 80 }
     requires few_sources { length sources.now ≤ 80 }
     requires deep { depth ≤ 8 }
-    ensures accepted { IfOk result (λ reports. AreAccepted (F.contents files.old) (words_of checkers.now) (words_of sources.now) depth reports.items) }
-    ensures unjudged { IfErr result (λ e. AnswersUnjudged (F.contents files.old) (words_of checkers.now) (words_of sources.now) (F.failed files.old) (F.failed files.new) e) }
+    ensures accepted { IfOk result (λ reports. AreAccepted (may_hold (F.contents files.old)) (words_of checkers.now) (words_of sources.now) depth reports.items) }
+    ensures unjudged { IfErr result (λ e. AnswersUnjudged (may_hold (F.contents files.old)) (words_of checkers.now) (words_of sources.now) (F.failed files.old) (F.failed files.new) e) }
     ensures none_failed { OnOk result (F.failed files.new ≡ F.failed files.old) }
 {
     let Ok(mut checker_places) = empty_places(alloc, checkers.len()) else {

@@ -2,11 +2,12 @@
 
 ghost use Rattle.std.specs.Prelude.{◌≡◌, ◌≢◌, ◌≤◌, ◌<◌, ◌+◌, ℕ, length, map, slice_get, string_bytes, vec_len, IfOk, IfSome, OnErr, Some};
 ghost use Rattle.command_words.specs.Generation.{IsGeneration};
-ghost use Rattle.command.specs.Commands.{IsOther};
+ghost use Rattle.command.specs.Commands.{GiveNone, IsOther};
 ghost use Rattle.command.specs.Due.{FailedInTurn, FailedInTurnOf, IsDue, IsDueFor};
 ghost use Rattle.command.specs.Plans.{IsAmong, IsPlanOf};
 ghost use Rattle.command.specs.Ran.{Leaves, Spares, reporter_step};
 ghost use Rattle.command.specs.Tasks.{LeavesAt, command_of};
+ghost use Rattle.request_files.specs.Telling.{may_hold};
 ghost use Rattle.request_files.specs.Views.{words_of};
 
 use crate::generation::plan_generation;
@@ -64,8 +65,8 @@ fn plan_task<F: Files>(
     requires deep { task.now.depth ≤ 8 }
     requires few { length task.now.files.now ≤ 80 }
     requires within { IfSome task.now.place (λ p. p < vec_len reporters.old) }
-    ensures due { IfOk result (λ plan. IsDueFor (F.contents files.old) (command_of task.now) (λ reports. map (λ b. rendered b reports) reporters.old.items) (F.failed files.old) (F.failed files.new) plan.status plan.text.items plan.line) }
-    ensures failed { OnErr result (FailedInTurnOf (F.contents files.old) (command_of task.now) (F.failed files.old) (F.failed files.new)) }
+    ensures due { IfOk result (λ plan. IsDueFor (may_hold (F.contents files.old)) (command_of task.now) (λ reports. map (λ b. rendered b reports) reporters.old.items) (F.failed files.old) (F.failed files.new) plan.status plan.text.items plan.line) }
+    ensures failed { OnErr result (FailedInTurnOf (may_hold (F.contents files.old)) (command_of task.now) (F.failed files.old) (F.failed files.new)) }
     ensures names { map (λ b. called b) reporters.new.items ≡ map (λ b. called b) reporters.old.items }
     ensures styles { map (λ b. rendered b) reporters.new.items ≡ map (λ b. rendered b) reporters.old.items }
     ensures others { (k : ℕ) → task.now.place ≢ Some k → slice_get (map (λ b. taken b) reporters.new.items) k ≡ slice_get (map (λ b. taken b) reporters.old.items) k }
@@ -86,13 +87,14 @@ pub(crate) fn decide<F: Files>(
     files: &mut F,
     reporters: &mut Vec<Box<dyn Reporter>>,
 ) -> Result<Plan, AllocError>
-    ensures due { IfOk result (λ plan. IsDue (F.contents files.old) (map string_bytes words.now) (map (λ b. called b) reporters.old.items) (λ reports. map (λ b. rendered b reports) reporters.old.items) (F.failed files.old) (F.failed files.new) plan.status plan.text.items plan.line) }
-    ensures failed { OnErr result (FailedInTurn (F.contents files.old) (map string_bytes words.now) (map (λ b. called b) reporters.old.items) (F.failed files.old) (F.failed files.new)) }
+    ensures due { IfOk result (λ plan. IsDue (may_hold (F.contents files.old)) (map string_bytes words.now) (map (λ b. called b) reporters.old.items) (λ reports. map (λ b. rendered b reports) reporters.old.items) (F.failed files.old) (F.failed files.new) plan.status plan.text.items plan.line) }
+    ensures failed { OnErr result (FailedInTurn (may_hold (F.contents files.old)) (map string_bytes words.now) (map (λ b. called b) reporters.old.items) (F.failed files.old) (F.failed files.new)) }
     ensures names { map (λ b. called b) reporters.new.items ≡ map (λ b. called b) reporters.old.items }
     ensures styles { map (λ b. rendered b) reporters.new.items ≡ map (λ b. rendered b) reporters.old.items }
     ensures others { (k : ℕ) → IsOther (map string_bytes words.now) (map (λ b. called b) reporters.old.items) k → slice_get (map (λ b. taken b) reporters.new.items) k ≡ slice_get (map (λ b. taken b) reporters.old.items) k }
     ensures leaves { IfOk result (λ plan. Leaves (map string_bytes words.now) (reporter_step (map (λ b. called b) reporters.old.items) (λ reports. map (λ b. rendered b reports) reporters.old.items) (map (λ b. taken b) reporters.old.items) (map (λ b. taken b) reporters.new.items)) plan.status) }
     ensures untouched { (count : ℕ) → IsGeneration (map string_bytes words.now) count → files.new ≡ files.old }
+    ensures unread { GiveNone (map string_bytes words.now) (map (λ b. called b) reporters.old.items) → files.new ≡ files.old }
     ensures spares { Spares (map string_bytes words.now) (reporter_step (map (λ b. called b) reporters.old.items) (λ reports. map (λ b. rendered b reports) reporters.old.items) (map (λ b. taken b) reporters.old.items) (map (λ b. taken b) reporters.new.items)) }
 {
     if let Some(count) = read_generation(words) {

@@ -1,11 +1,14 @@
 //! The words of the command and the request that they stand for.
 #![tactic(auto)]
 
+// words and what they ask
 mod asked;
+mod words;
+
+// reading of the words
 mod generation;
 mod given;
 mod reading;
-mod words;
 
 pub use asked::Asked;
 pub use generation::read_generation;

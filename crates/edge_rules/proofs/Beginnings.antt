@@ -10,7 +10,7 @@ use Rattle.path_model.proofs.CheckerGraphs.Calls.{root-number}
 use Rattle.path_model.specs.CheckerModel.Checkers.{model, origins}
 use Rattle.path_model.specs.CheckerModel.Happenings.{Function}
 use Rattle.path_model.specs.CheckerModel.Reports.{Checker}
-use Rattle.path_model.specs.CheckerPrograms.Relevant.{Relevant}
+use Rattle.path_model.specs.CheckerPrograms.Relevant.{Followed}
 use Rattle.path_model.specs.CheckerPrograms.Texts.{function_of, functions_in}
 use Rattle.typed_unit.specs.Texts.{Text}
 use Rattle.flow_graph.specs.Seen.{graph_in}
@@ -56,7 +56,7 @@ module _ (t : Tables) (n : ℕ) (f : Frame) (p : IsPlace t n f) where
   first-there : b ≡ (graph_at (texts_in t) (graphs_in t) fn).entry
   first-there = ap (λ (g : Graph). g.entry) (sym p.graph)
 
-  begins-with : (u : Tuple) → u.global ≡ 0 → Starts (model c) (origins c) (Relevant c (texts_in t)) fn (fact_in u) → BeginsIn c (texts_in t) (graphs_in t) n (first_edge n b u)
+  begins-with : (u : Tuple) → u.global ≡ 0 → Starts (model c) (origins c) (Followed c (texts_in t)) fn (fact_in u) → BeginsIn c (texts_in t) (graphs_in t) n (first_edge n b u)
   begins-with u g s = record { fn = fn; named = named t n p.defined p.is; number = refl; start = g; starts = s; kind = refl; first = first-there; same = refl }
 
   listed-begins : (e : Edge) → Contains (first_edges n b f.objects.now) e → BeginsIn c (texts_in t) (graphs_in t) n e
@@ -67,7 +67,7 @@ module _ (t : Tables) (n : ℕ) (f : Frame) (p : IsPlace t n f) where
   ]
 
   -- by the fact with which it begins
-  started : (e : Edge) (x : FactOf Object (ℕ × ℕ)) → fact_in e.context.entry ≡ x → Starts (model c) (origins c) (Relevant c (texts_in t)) fn x
+  started : (e : Edge) (x : FactOf Object (ℕ × ℕ)) → fact_in e.context.entry ≡ x → Starts (model c) (origins c) (Followed c (texts_in t)) fn x
       → e.context.function ≡ n → e.context.entry.global ≡ 0 → e.is_root ≡ true → e.block ≡ b → e.tuple ≡ e.context.entry → Contains (first_edges n b f.objects.now) e
   started e x is StartsNone number g r k s =
       subst (λ z. Contains (first_edges n b f.objects.now) z) (is-first e n b start_tuple number (tuple-fact e.context.entry start_tuple g is) r k s)
@@ -80,7 +80,7 @@ module _ (t : Tables) (n : ℕ) (f : Frame) (p : IsPlace t n f) where
   begins-listed : (e : Edge) → BeginsIn c (texts_in t) (graphs_in t) n e → Contains (first_edges n b f.objects.now) e
   begins-listed e h =
       let same : h.fn ≡ fn = one-function h.fn fn (sym h.named ∙ named t n p.defined p.is) in
-      let starts = subst (λ (z : Function). Starts (model c) (origins c) (Relevant c (texts_in t)) z (fact_in e.context.entry)) same h.starts in
+      let starts = subst (λ (z : Function). Starts (model c) (origins c) (Followed c (texts_in t)) z (fact_in e.context.entry)) same h.starts in
       let block : e.block ≡ b = h.first ∙ ap (λ (z : Function). (graph_at (texts_in t) (graphs_in t) z).entry) same ∙ sym first-there in
       started e (fact_in e.context.entry) refl starts h.number h.start h.kind block h.same
 

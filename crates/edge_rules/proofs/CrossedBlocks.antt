@@ -7,7 +7,7 @@ use Rattle.path_model.specs.CheckerGraphs.Graphs.{flow_graphs, function_at}
 use Rattle.path_model.specs.CheckerModel.Checkers.{model, origins}
 use Rattle.path_model.specs.CheckerModel.Happenings.{Function, Happening}
 use Rattle.path_model.specs.CheckerModel.Reports.{Checker}
-use Rattle.path_model.specs.CheckerPrograms.Relevant.{Relevant}
+use Rattle.path_model.specs.CheckerPrograms.Relevant.{Followed}
 use Rattle.path_model.specs.CheckerPrograms.Texts.{function_of, happening}
 use Rattle.typed_unit.specs.Texts.{Text}
 use Rattle.path_edges.proofs.EdgeSteps.FollowedObjects.{crosses-over}
@@ -47,15 +47,15 @@ module _ (t : Tables) (e : Edge) (f : Frame) (p : IsPlace t e.context.function f
 
   ended-behind : (u : Tuple) → Ended here u → StandsBehind c (texts_in t) (graphs_in t) e u
   ended-behind u h =
-      let over = crosses-over (model c) (origins c) (listed c f.objects.now) (Relevant c (texts_in t)) fn e.is_root _ _ _ _ _ (λ o i. p.followed.0 o i) (subst (λ hs. Ended hs u) events-are h) in
+      let over = crosses-over (model c) (origins c) (listed c f.objects.now) (Followed c (texts_in t)) fn e.is_root _ _ _ _ _ (λ o i. p.followed.0 o i) (subst (λ hs. Ended hs u) events-are h) in
       record { fn = fn; behind = record { named = named t e.context.function p.defined p.is; crosses = over } }
 
   behind-ended : (u : Tuple) → StandsBehind c (texts_in t) (graphs_in t) e u → Ended here u
   behind-ended u s =
       let same : s.fn ≡ fn = one-function s.fn fn (sym s.behind.named ∙ named t e.context.function p.defined p.is) in
-      let crosses = subst (λ (z : Function). Crosses (model c) (origins c) (Relevant c (texts_in t)) z e.is_root ((flow_graphs c (texts_in t) (graphs_in t)).events z e.block) (edge_in e).tuple.global (edge_in e).tuple.fact (tuple_in u).global (tuple_in u).fact) same s.behind.crosses in
+      let crosses = subst (λ (z : Function). Crosses (model c) (origins c) (Followed c (texts_in t)) z e.is_root ((flow_graphs c (texts_in t) (graphs_in t)).events z e.block) (edge_in e).tuple.global (edge_in e).tuple.fact (tuple_in u).global (tuple_in u).fact) same s.behind.crosses in
       subst (λ hs. Ended hs u) (sym events-are)
-      (crosses-over (model c) (origins c) (Relevant c (texts_in t)) (listed c f.objects.now) fn e.is_root _ _ _ _ _ (λ o i. p.followed.1 o i) crosses)
+      (crosses-over (model c) (origins c) (Followed c (texts_in t)) (listed c f.objects.now) fn e.is_root _ _ _ _ _ (λ o i. p.followed.1 o i) crosses)
 
   pub crossed : (list : List Tuple) → IsExactly list (Ended here) → IsExactly list (StandsBehind c (texts_in t) (graphs_in t) e)
   crossed list x = exactly-same (Ended here) (StandsBehind c (texts_in t) (graphs_in t) e) list x ended-behind behind-ended

@@ -15,7 +15,7 @@ use Rattle.path_model.specs.CheckerModel.Checkers.{model, origins}
 use Rattle.path_model.specs.CheckerModel.Choices.{State}
 use Rattle.path_model.specs.CheckerModel.Happenings.{Function}
 use Rattle.path_model.specs.CheckerModel.Reports.{Checker}
-use Rattle.path_model.specs.CheckerPrograms.Relevant.{Relevant}
+use Rattle.path_model.specs.CheckerPrograms.Relevant.{Followed}
 use Rattle.path_model.specs.CheckerPrograms.Roots.{followed_into}
 use Rattle.path_model.specs.CheckerPrograms.Texts.{function_of, site}
 use Rattle.typed_unit.specs.Texts.{Text}
@@ -58,7 +58,7 @@ none-into g o e = sym (ap (λ x. x >? g) e)
 pub no-function-leads : (c : Checker) (ts : List Text) (gs : List Graph) (a : Edge) → function_at ts a.context.function ≡ None → IsExactly [] (LeadsTo c ts gs a)
 no-function-leads c ts gs a none = exactly-none (LeadsTo c ts gs a) (λ d h. by (edge_in d) h)
   where
-    by : (z : rules.PathEdge ℕ Object State ℕ) → rules.Goes (model c) (origins c) (Relevant c ts) (flow_graphs c ts gs) (function_at ts) (edge_in a) z → ⊥
+    by : (z : rules.PathEdge ℕ Object State ℕ) → rules.Goes (model c) (origins c) (Followed c ts) (flow_graphs c ts gs) (function_at ts) (edge_in a) z → ⊥
     by z (rules.GoesOn t f b h n) = nowhere f (sym none ∙ h.named)
     by z (rules.GoesInto t f h s b k behind call there global flow) = nowhere f (sym none ∙ behind.named)
 
@@ -91,7 +91,7 @@ module _ (t : Tables) (a : Edge) (f : Frame) (p : IsPlace t a.context.function f
   pub no-block-leads : option_map (λ (b : Block). b.ending) (slice_get blocks a.block) ≡ None → IsExactly [] (LeadsTo c ts gs a)
   no-block-leads none = exactly-none (LeadsTo c ts gs a) (λ d h. by (edge_in d) h)
     where
-      by : (z : rules.PathEdge ℕ Object State ℕ) → rules.Goes (model c) (origins c) (Relevant c ts) (flow_graphs c ts gs) (function_at ts) (edge_in a) z → ⊥
+      by : (z : rules.PathEdge ℕ Object State ℕ) → rules.Goes (model c) (origins c) (Followed c ts) (flow_graphs c ts gs) (function_at ts) (edge_in a) z → ⊥
       by z (rules.GoesOn u g b h n) = no-block (slice_get blocks a.block) _ none (has-here g n.0 n.1 h.named n.2)
       by z (rules.GoesInto u g h s b k behind call there global flow) = no-block (slice_get blocks a.block) _ none (has-here g call.0 (Calls call.1 b) behind.named call.2)
 
@@ -136,7 +136,7 @@ module _ (t : Tables) (a : Edge) (f : Frame) (p : IsPlace t a.context.function f
       entry-next d s =
           let u = s.0 in
           let v = s.2.entry in
-          let flow = call-over (model c) (origins c) (listed c g.objects.now) (Relevant c ts) (site c.depth ts fn n) callee (fact_in u) (fact_in v) (λ o i. q.followed.0 o i) s.2.entered.fact in
+          let flow = call-over (model c) (origins c) (listed c g.objects.now) (Followed c ts) (site c.depth ts fn n) callee (fact_in u) (fact_in v) (λ o i. q.followed.0 o i) s.2.entered.fact in
           Inward n next k callee u v (behind.0 u s.1) refl (followed ∙ is-callee) is-callee s.2.entered.global flow
           (ap (λ (z : Graph). frame_edge false k z.entry v) q.graph ∙ s.2.is)
 
@@ -146,9 +146,9 @@ module _ (t : Tables) (a : Edge) (f : Frame) (p : IsPlace t a.context.function f
           let node : n ≡ m = one-call n m next b e in
           let same : h ≡ callee = one-function h callee (sym into ∙ ap (λ (x : Node). followed_into c.machine (site c.depth ts fn x)) (sym node) ∙ followed ∙ is-callee) in
           let number : i ≡ k = one-number ts (apart-in t) i k callee (there ∙ ap (λ (x : Function). Some x) same) is-callee in
-          let one = subst (λ (x : Node). CallFlow (model c) (origins c) (Relevant c ts) (site c.depth ts fn x) h (fact_in u) (fact_in v)) (sym node) flow in
-          let two = subst (λ (x : Function). CallFlow (model c) (origins c) (Relevant c ts) (site c.depth ts fn n) x (fact_in u) (fact_in v)) same one in
-          let fact = call-over (model c) (origins c) (Relevant c ts) (listed c g.objects.now) (site c.depth ts fn n) callee (fact_in u) (fact_in v) (λ o j. q.followed.1 o j) two in
+          let one = subst (λ (x : Node). CallFlow (model c) (origins c) (Followed c ts) (site c.depth ts fn x) h (fact_in u) (fact_in v)) (sym node) flow in
+          let two = subst (λ (x : Function). CallFlow (model c) (origins c) (Followed c ts) (site c.depth ts fn n) x (fact_in u) (fact_in v)) same one in
+          let fact = call-over (model c) (origins c) (Followed c ts) (listed c g.objects.now) (site c.depth ts fn n) callee (fact_in u) (fact_in v) (λ o j. q.followed.1 o j) two in
           let edge : frame_edge false k first v ≡ d =
           ap (λ (x : ℕ). frame_edge false x first v) (sym number) ∙ ap (λ (z : Graph). frame_edge false i z.entry v) (sym q.graph) ∙ ap (λ (x : Function). frame_edge false i (graph_at ts gs x).entry v) (sym same) ∙ is in
           (u, behind.1 u s, record { entry = v; entered = record { global = global; fact = fact }; is = edge })

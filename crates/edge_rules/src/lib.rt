@@ -1,12 +1,17 @@
 //! The rules of tabulation: which path edges follow from one, by how its block ends, and who waits for the end of a function and is woken.
 #![tactic(auto)]
 
-mod base;
+// callees and how they are entered
 mod callees;
-mod crossing;
 mod entering;
-mod following;
+
+// ends of blocks and frames
+mod crossing;
 mod frame_ends;
+
+// the rules of path edges
+mod base;
+mod following;
 mod wait_rules;
 
 pub use base::begin;

@@ -2,24 +2,35 @@
 //! these that control comes to.
 #![tactic(auto)]
 
-mod bodies;
-mod builder;
-mod c_paths;
-mod declarations;
-mod draft;
+// events and their facts
 mod event;
-mod expressions;
 mod facts;
+
+// graphs and their traces
+mod c_paths;
 mod graph;
-mod joining;
-mod labels;
-mod operators;
-mod reached_blocks;
 mod reading;
-mod settling;
-mod statements;
+
+// drafts of blocks
+mod builder;
+mod draft;
+
+// labels, switches and zero
+mod labels;
 mod switches;
 mod zero;
+
+// blocks of expressions and statements
+mod declarations;
+mod expressions;
+mod operators;
+mod statements;
+
+// whole graphs
+mod bodies;
+mod joining;
+mod reached_blocks;
+mod settling;
 
 pub use bodies::build_body;
 pub use c_paths::{

@@ -2,10 +2,13 @@
 //! followed objects and roots, all by number.
 #![tactic(auto)]
 
+// tables of blocks and functions
 mod blocks;
-mod engine_tables;
 mod events;
 mod table;
+
+// tables of a program
+mod engine_tables;
 mod tables;
 
 pub use engine_tables::{Frame, Tables, callee_at, end_at, item};

@@ -2,12 +2,15 @@
 //! and the texts of messages.
 #![tactic(auto, using(c_tree::proofs::Rows::nodes_out, c_tree::proofs::Rows::nodes_roll, tree_comparison::proofs::TreeLevels::Apart::heads_apart))]
 
-mod alternatives;
+// holes, patterns and their walk
 mod hole_bindings;
-mod hole_messages;
 mod patterns;
 mod seat;
 mod walk;
+
+// matches and messages
+mod alternatives;
+mod hole_messages;
 
 pub use alternatives::{all_hold, callout, match_items, matches};
 pub use hole_bindings::{Binding, Setting, Taken};

@@ -3,7 +3,7 @@ use Rattle.std.proofs.Common.{◌≡◌, ℕ, true, false, [], ◌∷◌, Option
 use Rattle.std.specs.Prelude.{is_some}
 use Rattle.c_objects.specs.Objects.{Object, path}
 use Rattle.c_objects.proofs.Building.{p, name, paren, star}
-use Rattle.metal_tree.specs.MetalMachines.Machine.{AnyExpr, FromGlobal, FromObject, ToObject, ToUnknown, Always, Base, Holds, EndOfPath, Machine}
+use Rattle.metal_tree.specs.MetalMachines.Machine.{InFunction, NeverHolds, AnyExpr, FromGlobal, FromObject, ToObject, ToUnknown, Always, Base, Holds, EndOfPath, Machine}
 use Rattle.hole_matching.specs.MachineMatches.{RuleAppliesAtEnd, matched_rule, object_bound}
 use Rattle.c_tree.specs.PathSubjects.Subjects.{Subject, Tree, DerefOf}
 use Rattle.hole_matching.proofs.Building.{some_facts, hole, named, calling, starred, call_of}
@@ -19,8 +19,8 @@ machine = record {
   states = (23 ∷ []) ∷ [];
   rules =
       (record { number = 1; position = 9; source = FromGlobal 0; alternatives = (Base (calling (named 6) (hole 0 ∷ [])) ∷ []) ∷ []; dest = Always (ToObject 0 0); action = None })
-      ∷ (record { number = 2; position = 24; source = FromObject 0 0; alternatives = (Base (starred (hole 0)) ∷ Holds (record { negated = false; row = 5; hole = 0; text = 20 }) ∷ []) ∷ (Base (calling (named 6) (hole 0 ∷ [])) ∷ []) ∷ []; dest = Always (ToUnknown 0); action = None })
-      ∷ (record { number = 3; position = 50; source = FromObject 0 0; alternatives = (EndOfPath ∷ Holds (record { negated = false; row = 5; hole = 0; text = 20 }) ∷ []) ∷ (EndOfPath ∷ Holds (record { negated = false; row = 6; hole = 0; text = 0 }) ∷ []) ∷ []; dest = Always (ToUnknown 0); action = None })
+      ∷ (record { number = 2; position = 24; source = FromObject 0 0; alternatives = (Base (starred (hole 0)) ∷ Holds (record { negated = false; row = InFunction; hole = 0; text = 20 }) ∷ []) ∷ (Base (calling (named 6) (hole 0 ∷ [])) ∷ []) ∷ []; dest = Always (ToUnknown 0); action = None })
+      ∷ (record { number = 3; position = 50; source = FromObject 0 0; alternatives = (EndOfPath ∷ Holds (record { negated = false; row = InFunction; hole = 0; text = 20 }) ∷ []) ∷ (EndOfPath ∷ Holds (record { negated = false; row = NeverHolds; hole = 0; text = 0 }) ∷ []) ∷ []; dest = Always (ToUnknown 0); action = None })
       ∷ [];
 }
 

@@ -1,6 +1,6 @@
 -- Callouts, `${ .. }` in Metal: what they ask of a binding.
-use Rattle.std.specs.Prelude.{ℕ, nat_eq, List, [], ◌∷◌, get_or, Bool, true, false, cond, not, ◌&&◌, Option, None, Some, is_none}
-use Rattle.metal_tree.specs.MetalMachines.Machine.{Condition}
+use Rattle.std.specs.Prelude.{ℕ, nat_eq, List, [], ◌∷◌, Bool, true, false, cond, not, ◌&&◌, Option, None, Some, is_none}
+use Rattle.metal_tree.specs.MetalMachines.Machine.{CalloutRow, IsConst, IsGlobal, IsParam, IsLocal, NameIs, InFunction, NeverHolds, AlwaysHolds, Condition}
 use Rattle.c_objects.specs.Facts.{Facts, numbered_type, numbered_var}
 use Rattle.c_objects.specs.Objects.{is_static_var}
 use Rattle.c_tree.specs.Node.{Node, node, Primary, Operation, PrimaryShape, OperationShape, Ident, Constant, StrConst, Paren, Cast}
@@ -77,21 +77,19 @@ of_one holds None = false
 of_one holds (Some (One s)) = holds s
 of_one holds (Some (Many ss)) = false
 
--- THE TABLE of callouts, row by row
-abbrev pub answers : Setting → Condition → Option Taken → List Bool
-answers g c x =
-    of_one (of_tree (is_constant g.facts)) x
-    ∷ of_one (has_base is_static_var g.facts) x
-    ∷ of_one (has_base is_param g.facts) x
-    ∷ of_one (has_base is_local g.facts) x
-    ∷ of_one (of_tree (is_named c.text)) x
-    ∷ nat_eq g.function c.text
-    ∷ false
-    ∷ true
-    ∷ []
+-- WHAT A CALLOUT ANSWERS, with this text, where its hole has taken this
+abbrev pub answer_of : Setting → ℕ → Option Taken → CalloutRow → Bool
+answer_of g text x IsConst = of_one (of_tree (is_constant g.facts)) x
+answer_of g text x IsGlobal = of_one (has_base is_static_var g.facts) x
+answer_of g text x IsParam = of_one (has_base is_param g.facts) x
+answer_of g text x IsLocal = of_one (has_base is_local g.facts) x
+answer_of g text x NameIs = of_one (of_tree (is_named text)) x
+answer_of g text x InFunction = nat_eq g.function text
+answer_of g text x NeverHolds = false
+answer_of g text x AlwaysHolds = true
 
 abbrev pub answer : Setting → Condition → Binding → Bool
-answer g c b = get_or (answers g c (slot c.hole b)) c.row false
+answer g c b = answer_of g c.text (slot c.hole b) c.row
 
 -- A CALLOUT HOLDS; `!` turns the answer round
 abbrev pub holds : Setting → Condition → Binding → Bool

@@ -28,10 +28,13 @@
 //! (`Key`). They need not be `Copy`, and the driver copies none.
 #![tactic(auto)]
 
-mod driver;
+// keys, and members by key
 mod indexes;
 mod keys;
 mod logs;
+
+// the least set, and small instances
+mod driver;
 mod one_premise;
 #[cfg(test)]
 mod tests;

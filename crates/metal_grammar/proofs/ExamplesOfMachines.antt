@@ -14,7 +14,7 @@ use Rattle.c_grammar.specs.DeclaratorSteps.{read_params, read_suffixes}
 use Rattle.c_grammar.specs.ExpressionSteps.{read_path, read_more_arguments, read_postfix_operators, read_chain, read_binary}
 use Rattle.c_grammar.specs.Reading.{read}
 use Rattle.metal_grammar.specs.Steps.{read_row, read_identifiers}
-use Rattle.metal_tree.specs.MetalMachines.Machine.{AnyExpr, AnyPointer, AnyArguments, AnyFnCall, Named, Basic, Tag, Pointer, Bytes, HoleText, FromGlobal, FromObject, ToGlobal, ToObject, ToUnknown, Always, ByTruth, Base, Holds, EndOfPath}
+use Rattle.metal_tree.specs.MetalMachines.Machine.{IsConst, IsLocal, NameIs, InFunction, NeverHolds, AlwaysHolds, AnyExpr, AnyPointer, AnyArguments, AnyFnCall, Named, Basic, Tag, Pointer, Bytes, HoleText, FromGlobal, FromObject, ToGlobal, ToObject, ToUnknown, Always, ByTruth, Base, Holds, EndOfPath}
 use Rattle.metal_grammar.specs.Reading.{Accepted, read_machine}
 use Rattle.metal_grammar.proofs.Vocabulary.{spelling, a, any_arguments, any_expr, any_fn_call, any_pointer, b, bar, begun, both, brace, bracket, c, c_int, c_struct, cli, colon, comma, d, decl, digits_0, digits_1, dollar, dot, either, end_brace, end_bracket, end_of_path, end_paren, equals, err, f, false_word, free_checker, freed, g, irq, kfree, l, lock, lock_checker, locked, m, mc_identifier, mc_in_function, mc_is_const, mc_is_local, mc_name_is, negation, off, paren, s, semicolon, sm, star, start, state, sti, stop, text_10, text_11, text_12, text_13, text_14, text_15, text_2, text_7, text_8, text_9, to, true_word, trylock, unlock, v, x, y}
 
@@ -114,7 +114,7 @@ callouts : read_machine spelling (sm ∷ m ∷ brace ∷ state ∷ decl ∷ any_
   globals = [];
   states = (8 ∷ []) ∷ [];
   rules =
-      (record { number = 1; position = 10; source = FromGlobal 0; alternatives = (Base (Operation (Call (ident f) (more (Primary (Hole 0)) no_more))) ∷ Holds (record { negated = true; row = 0; hole = 0; text = 0 }) ∷ Holds (record { negated = false; row = 4; hole = 0; text = 8 }) ∷ []) ∷ (Holds (record { negated = false; row = 5; hole = 0; text = 9 }) ∷ Base (Primary (Hole 0)) ∷ Holds (record { negated = false; row = 6; hole = 0; text = 0 }) ∷ Holds (record { negated = true; row = 7; hole = 0; text = 0 }) ∷ []) ∷ []; dest = Always (ToObject 0 0); action = None })
+      (record { number = 1; position = 10; source = FromGlobal 0; alternatives = (Base (Operation (Call (ident f) (more (Primary (Hole 0)) no_more))) ∷ Holds (record { negated = true; row = IsConst; hole = 0; text = 0 }) ∷ Holds (record { negated = false; row = NameIs; hole = 0; text = 8 }) ∷ []) ∷ (Holds (record { negated = false; row = InFunction; hole = 0; text = 9 }) ∷ Base (Primary (Hole 0)) ∷ Holds (record { negated = false; row = NeverHolds; hole = 0; text = 0 }) ∷ Holds (record { negated = true; row = AlwaysHolds; hole = 0; text = 0 }) ∷ []) ∷ []; dest = Always (ToObject 0 0); action = None })
       ∷ [];
 })
 unfolding read_row read_identifiers read read_binary read_chain read_postfix_operators read_more_arguments read_path read_items read_suffixes read_params run_of after_run is_type type_words other_types storages inlines occurrences as_often is_among
@@ -129,7 +129,7 @@ excused_at_end : read_machine spelling (begun ++ v ∷ dot ∷ a ∷ colon ∷ b
   globals = [];
   states = (8 ∷ []) ∷ [] ∷ [];
   rules =
-      (record { number = 1; position = 18; source = FromObject 0 0; alternatives = (Base (Operation (Call (ident f) (more (Primary (Hole 0)) no_more))) ∷ Holds (record { negated = false; row = 3; hole = 0; text = 0 }) ∷ []) ∷ (EndOfPath ∷ []) ∷ []; dest = Always (ToUnknown 0); action = None })
+      (record { number = 1; position = 18; source = FromObject 0 0; alternatives = (Base (Operation (Call (ident f) (more (Primary (Hole 0)) no_more))) ∷ Holds (record { negated = false; row = IsLocal; hole = 0; text = 0 }) ∷ []) ∷ (EndOfPath ∷ []) ∷ []; dest = Always (ToUnknown 0); action = None })
       ∷ [];
 })
 unfolding read_row read_identifiers read read_binary read_chain read_postfix_operators read_more_arguments read_path read_items read_suffixes read_params run_of after_run is_type type_words other_types storages inlines occurrences as_often is_among
@@ -144,7 +144,7 @@ without_pattern : read_machine spelling (sm ∷ m ∷ brace ∷ start ∷ colon 
   globals = 22 ∷ 5 ∷ [];
   states = [];
   rules =
-      (record { number = 1; position = 5; source = FromGlobal 0; alternatives = (Holds (record { negated = false; row = 7; hole = 0; text = 0 }) ∷ []) ∷ []; dest = Always (ToGlobal 2); action = None })
+      (record { number = 1; position = 5; source = FromGlobal 0; alternatives = (Holds (record { negated = false; row = AlwaysHolds; hole = 0; text = 0 }) ∷ []) ∷ []; dest = Always (ToGlobal 2); action = None })
       ∷ (record { number = 2; position = 14; source = FromGlobal 2; alternatives = (EndOfPath ∷ EndOfPath ∷ []) ∷ []; dest = Always (ToGlobal 3); action = None })
       ∷ (record { number = 3; position = 26; source = FromGlobal 3; alternatives = (Base (Operation (Call (ident f) no_more)) ∷ []) ∷ []; dest = Always (ToGlobal 1); action = None })
       ∷ [];

@@ -23,7 +23,7 @@ use Rattle.metal_grammar.proofs.HolesNumbered.{both}
 use Rattle.metal_grammar.proofs.Numbered.{equal, same, either, right, stands, in_front, Within, numbers_below, front_numbers, one_number, among_numbers, not_among_numbers}
 use Rattle.metal_grammar.proofs.StatesNumbered.{OneOf, of_rule}
 use Rattle.metal_grammar.proofs.RulesNumbered.{is_sound, source_variables, target_variables, dest_variables, filter-append, held, items_bound, items_asked, neither}
-use Rattle.metal_grammar.proofs.RulesKept.{flipped, flipped_true, left, joined, choice, all-append, all-split, all-weaker, any-append, some_members, each_members, among-left, within_held, among_held, front_held, any_held, some_numbers, numbering_for, machine_for, AreStates, source_in, dest_in, variables_within, alternatives_bound, alternatives_asked, alternatives_rows, maybe_named, same_end, ends, target_global, some_targets, all_targets}
+use Rattle.metal_grammar.proofs.RulesKept.{flipped, flipped_true, left, joined, choice, all-append, all-split, all-weaker, any-append, some_members, each_members, among-left, within_held, among_held, front_held, any_held, some_numbers, numbering_for, machine_for, AreStates, source_in, dest_in, variables_within, alternatives_bound, alternatives_asked, maybe_named, same_end, ends, target_global, some_targets, all_targets}
 use Rattle.metal_grammar.proofs.Limited.{limited, neither_fault}
 
 -- a rule without a fault
@@ -268,10 +268,8 @@ rule_kept spelling vs ws hn states name holes lists rules r hl l w s m f =
     record {
       range =
           joined _ _
-          (joined _ _
           (joined _ _ (source_in spelling vs ws states name holes lists rules l r.source g.0 c.1 (m r.source (inl refl))) (dest_in spelling vs ws states name holes lists rules l d g.1 (λ t o. m t (inr o))))
-          (ap (λ k. all_of (λ hole. nat_lt hole k) (named_by (rule_of n r))) hl ∙ ap (all_of (λ hole. nat_lt hole (length N))) every ∙ numbers_below N (VS ++ outside N r) all_within))
-          (alternatives_rows n (members r.rule.alternatives));
+          (ap (λ k. all_of (λ hole. nat_lt hole k) (named_by (rule_of n r))) hl ∙ ap (all_of (λ hole. nat_lt hole (length N))) every ∙ numbers_below N (VS ++ outside N r) all_within);
       variable =
           ap (λ k. are_one (filter (λ hole. nat_lt hole (length vs)) k)) every
           ∙ ap are_one (front_numbers vs ws (VS ++ outside N r) all_within)

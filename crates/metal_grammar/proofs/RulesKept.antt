@@ -3,7 +3,7 @@ use Rattle.std.proofs.Common.{◌≡◌, ◌⊎◌, inl, inr, ℕ, Bool, true, f
 use Rattle.std.proofs.lemmas.List.{map-append}
 use Rattle.metal_tree.specs.MetalMachines.Machine.{Hole, ToObject, ToUnknown, Rule, Machine}
 use Rattle.metal_tree.specs.MetalMachines.Kept as kept
-use Rattle.metal_tree.specs.MetalMachines.Kept.{all_of, some_of, are_one, targets, bound_in, asked_in, named_in, variable_of_source, variable_of_target, is_condition, is_source_of, is_target_of, is_in_range, is_variable, has_one_variable, is_split_well, goes_from, binds, binds_all, named_by, named_outside_states, IsKeptBy}
+use Rattle.metal_tree.specs.MetalMachines.Kept.{all_of, some_of, are_one, targets, bound_in, asked_in, named_in, variable_of_source, variable_of_target, is_source_of, is_target_of, is_in_range, is_variable, has_one_variable, is_split_well, goes_from, binds, binds_all, named_by, named_outside_states, IsKeptBy}
 use Rattle.metal_grammar.specs.Words.{Spelling}
 use Rattle.metal_grammar.specs.Written.{Row, lone, row, members, StateName, OfMachine, OfVariable, WrittenItem, Pattern, Callout, Dollars, Destination, To, Split, WrittenAction, Alternative}
 use Rattle.metal_grammar.specs.Grammar.{some, each, is_end}
@@ -14,7 +14,7 @@ use Rattle.metal_grammar.specs.Faults.{any_of, is_stop, is_misnamed, is_global, 
 use Rattle.metal_grammar.proofs.HolesNumbered.{both}
 use Rattle.metal_grammar.proofs.Numbered.{equal, either, right, front_below, is_front, Within}
 use Rattle.metal_grammar.proofs.StatesNumbered.{OneOf, lower, global_below, state_below}
-use Rattle.metal_grammar.proofs.RulesNumbered.{is_sound, filter-append, held, items_bound, items_asked, items_rows, neither, action_named}
+use Rattle.metal_grammar.proofs.RulesNumbered.{is_sound, filter-append, held, items_bound, items_asked, neither, action_named}
 
 -- Booleans
 pub flipped : (b : Bool) → not b ≡ false → b ≡ true
@@ -216,10 +216,6 @@ alternatives_asked n (o ∷ os) h u =
     ap (λ l. l ++ flat_map asked_in (map (λ items. map (item_of n) (members items)) os)) (items_asked n (members o) b.0 v.0)
     ∙ ap (λ l. map (number_in n.holes) (callout_names o) ++ l) (alternatives_asked n os b.1 v.1)
     ∙ sym (map-append (number_in n.holes) (callout_names o) (flat_map callout_names os))
-
-pub alternatives_rows : (n : Numbering) (os : List Alternative) → all_of (all_of is_condition) (map (λ items. map (item_of n) (members items)) os) ≡ true
-alternatives_rows n [] = refl
-alternatives_rows n (o ∷ os) = joined _ _ (items_rows n (members o)) (alternatives_rows n os)
 
 pub maybe_named : (n : Numbering) (a : Option WrittenAction) → is_bad_format n.spelling a ≡ false → named_in (action_of n a) ≡ map (number_in n.holes) (action_names_of a)
 maybe_named n None h = refl

@@ -1,9 +1,9 @@
 -- What the rule of a machine names, against what the rule of the text does.
-use Rattle.std.proofs.Common.{◌≡◌, ℕ, Bool, true, false, cond, not, nat_eq, nat_lt, nat_le, ◌&&◌, is_some, is_none, List, [], ◌∷◌, ◌++◌, map, filter, flat_map, option_map, unwrap_or, codes, Option, None, Some, ap, refl, ◌∙◌, sym}
+use Rattle.std.proofs.Common.{◌≡◌, ℕ, Bool, true, false, cond, not, nat_eq, ◌&&◌, is_some, is_none, List, [], ◌∷◌, ◌++◌, map, filter, flat_map, option_map, unwrap_or, codes, Option, None, Some, ap, refl, ◌∙◌, sym}
 use Rattle.std.proofs.lemmas.List.{map-append}
 use Rattle.c_tree.specs.Symbol.{Integer, Word, Reserved, Sign, IntLiteral, FloatLiteral, CharLiteral, StringLiteral}
-use Rattle.metal_tree.specs.MetalMachines.Machine.{Piece, Bytes, HoleText, Holds, ToUnknown, ToObject}
-use Rattle.metal_tree.specs.MetalMachines.Kept.{all_of, targets, holes_of_item, asked_of_item, bound_in, asked_in, hole_of_piece, named_in, variable_of_source, variable_of_target, is_condition}
+use Rattle.metal_tree.specs.MetalMachines.Machine.{CalloutRow, IsConst, IsGlobal, IsParam, IsLocal, NameIs, InFunction, NeverHolds, AlwaysHolds, Piece, Bytes, HoleText, Holds, ToUnknown, ToObject}
+use Rattle.metal_tree.specs.MetalMachines.Kept.{all_of, targets, holes_of_item, asked_of_item, bound_in, asked_in, hole_of_piece, named_in, variable_of_source, variable_of_target, asks_hole}
 use Rattle.metal_grammar.specs.Words.{Spelling, is_spelled, contents_of}
 use Rattle.metal_grammar.specs.Written.{members, StateName, OfMachine, OfVariable, Name, Text, WrittenCallout, Digit, Asked, WrittenItem, Pattern, Callout, Dollars, Destination, To, Split, WrittenAction}
 use Rattle.metal_grammar.specs.Grammar.{is_callout}
@@ -70,36 +70,36 @@ items_bound n (i ∷ is) h =
     ∙ sym (map-append f (held n.holes (pattern_names_of i)) (held n.holes (flat_map pattern_names_of is)))
     ∙ ap (map f) (sym (filter-append (is_among n.holes) (pattern_names_of i) (flat_map pattern_names_of is)))
 
--- the rows of the table
-hole_row : (spelling : Spelling) (name : ℕ) → nat_lt (unwrap_or (row_of_hole spelling name) 0) 5 ≡ true
+-- which of them ask of a hole
+hole_row : (spelling : Spelling) (name : ℕ) → asks_hole (unwrap_or (row_of_hole spelling name) IsConst) ≡ true
 hole_row spelling name =
     by (is_spelled spelling (codes "mc_is_const") name) (is_spelled spelling (codes "mc_is_global") name) (is_spelled spelling (codes "mc_is_param") name) (is_spelled spelling (codes "mc_is_local") name)
   where
-    by : (a b c d : Bool) → nat_lt (unwrap_or (cond a (Some 0) (cond b (Some 1) (cond c (Some 2) (cond d (Some 3) None)))) 0) 5 ≡ true
+    by : (a b c d : Bool) → asks_hole (unwrap_or (cond a (Some IsConst) (cond b (Some IsGlobal) (cond c (Some IsParam) (cond d (Some IsLocal) None)))) IsConst) ≡ true
     by true b c d = refl
     by false true c d = refl
     by false false true d = refl
     by false false false true = refl
     by false false false false = refl
 
-both_row : (spelling : Spelling) (name : ℕ) → nat_lt (unwrap_or (row_of_both spelling name) 0) 5 ≡ true
+both_row : (spelling : Spelling) (name : ℕ) → asks_hole (unwrap_or (row_of_both spelling name) IsConst) ≡ true
 both_row spelling name = by (is_spelled spelling (codes "mc_name_is") name)
   where
-    by : (a : Bool) → nat_lt (unwrap_or (cond a (Some 4) None) 0) 5 ≡ true
+    by : (a : Bool) → asks_hole (unwrap_or (cond a (Some NameIs) None) IsConst) ≡ true
     by true = refl
     by false = refl
 
-text_row : (spelling : Spelling) (name : ℕ) → is_none (row_of_text spelling name) ≡ false → nat_lt (unwrap_or (row_of_text spelling name) 0) 5 ≡ false
+text_row : (spelling : Spelling) (name : ℕ) → is_none (row_of_text spelling name) ≡ false → asks_hole (unwrap_or (row_of_text spelling name) IsConst) ≡ false
 text_row spelling name = by (is_spelled spelling (codes "mc_in_function") name)
   where
-    by : (a : Bool) → is_none {T = ℕ} (cond a (Some 5) None) ≡ false → nat_lt (unwrap_or (cond a (Some 5) None) 0) 5 ≡ false
+    by : (a : Bool) → is_none {T = CalloutRow} (cond a (Some InFunction) None) ≡ false → asks_hole (unwrap_or (cond a (Some InFunction) None) IsConst) ≡ false
     by true h = refl
     by false h = cc
 
-digit_row : (spelling : Spelling) (value : Integer) (name : ℕ) → nat_lt (unwrap_or (row_of_digit spelling (IntLiteral value name)) 0) 5 ≡ false
+digit_row : (spelling : Spelling) (value : Integer) (name : ℕ) → asks_hole (unwrap_or (row_of_digit spelling (IntLiteral value name)) IsConst) ≡ false
 digit_row spelling value name = by (is_spelled spelling (codes "0") name)
   where
-    by : (a : Bool) → nat_lt (unwrap_or (cond a (Some 6) (Some 7)) 0) 5 ≡ false
+    by : (a : Bool) → asks_hole (unwrap_or (cond a (Some NeverHolds) (Some AlwaysHolds)) IsConst) ≡ false
     by true = refl
     by false = refl
 
@@ -139,49 +139,6 @@ items_asked n (i ∷ is) h u =
     ap (λ l. l ++ asked_in (map (item_of n) is)) (item_asked n i b.0 v.0)
     ∙ ap (λ l. map (number_in n.holes) (callout_names_of i) ++ l) (items_asked n is b.1 v.1)
     ∙ sym (map-append (number_in n.holes) (callout_names_of i) (flat_map callout_names_of is))
-
--- every row is one of the table
-row_within : (o : Option ℕ) (negated : Bool) (hole text : ℕ) → nat_le (unwrap_or o 0) 7 ≡ true → is_condition (Holds (record { negated = negated; row = unwrap_or o 0; hole = hole; text = text })) ≡ true
-row_within o negated hole text h = h
-
-callout_row : (spelling : Spelling) (c : WrittenCallout) → nat_le (unwrap_or (row_of spelling c) 0) 7 ≡ true
-callout_row spelling (Digit (IntLiteral value name)) = by (is_spelled spelling (codes "0") name)
-  where
-    by : (a : Bool) → nat_le (unwrap_or (cond a (Some 6) (Some 7)) 0) 7 ≡ true
-    by true = refl
-    by false = refl
-callout_row spelling (Digit (Word name)) = refl
-callout_row spelling (Digit (Reserved k)) = refl
-callout_row spelling (Digit (Sign p)) = refl
-callout_row spelling (Digit (FloatLiteral a b)) = refl
-callout_row spelling (Digit (CharLiteral a b)) = refl
-callout_row spelling (Digit (StringLiteral a b)) = refl
-callout_row spelling (Asked name (Name hole) None) =
-    by (is_spelled spelling (codes "mc_is_const") name) (is_spelled spelling (codes "mc_is_global") name) (is_spelled spelling (codes "mc_is_param") name) (is_spelled spelling (codes "mc_is_local") name)
-  where
-    by : (a b c d : Bool) → nat_le (unwrap_or (cond a (Some 0) (cond b (Some 1) (cond c (Some 2) (cond d (Some 3) None)))) 0) 7 ≡ true
-    by true b c d = refl
-    by false true c d = refl
-    by false false true d = refl
-    by false false false true = refl
-    by false false false false = refl
-callout_row spelling (Asked name (Name hole) (Some text)) = by (is_spelled spelling (codes "mc_name_is") name)
-  where
-    by : (a : Bool) → nat_le (unwrap_or (cond a (Some 4) None) 0) 7 ≡ true
-    by true = refl
-    by false = refl
-callout_row spelling (Asked name (Text text) None) = by (is_spelled spelling (codes "mc_in_function") name)
-  where
-    by : (a : Bool) → nat_le (unwrap_or (cond a (Some 5) None) 0) 7 ≡ true
-    by true = refl
-    by false = refl
-callout_row spelling (Asked name (Text text) (Some other)) = refl
-
-pub items_rows : (n : Numbering) (is : List WrittenItem) → all_of is_condition (map (item_of n) is) ≡ true
-items_rows n [] = refl
-items_rows n (Pattern e semicolon ∷ is) = items_rows n is
-items_rows n (Callout negated callout ∷ is) = ap (λ b. b && all_of is_condition (map (item_of n) is)) (callout_row n.spelling callout) ∙ items_rows n is
-items_rows n (Dollars name ∷ is) = items_rows n is
 
 -- Messages take their arguments in order.
 none_left : (f : ℕ → ℕ) (xs : List ℕ) → are_none_left (map f xs) ≡ are_none_left xs

@@ -1,32 +1,33 @@
 -- The table of callouts: which row a written callout is.
 use Rattle.std.specs.Prelude.{ℕ, cond, codes, Option, None, Some}
 use Rattle.c_tree.specs.Symbol.{Symbol, IntLiteral}
+use Rattle.metal_tree.specs.MetalMachines.Machine.{CalloutRow, IsConst, IsGlobal, IsParam, IsLocal, NameIs, InFunction, NeverHolds, AlwaysHolds}
 use Rattle.metal_grammar.specs.Words.{Spelling, Literal, is_spelled, name_spelled, contents_of}
 use Rattle.metal_grammar.specs.Written.{Name, Text, WrittenCallout, Digit, Asked}
 
 -- the rows that ask of a hole alone
-abbrev pub row_of_hole : Spelling → ℕ → Option ℕ
+abbrev pub row_of_hole : Spelling → ℕ → Option CalloutRow
 row_of_hole spelling name =
-    cond (is_spelled spelling (codes "mc_is_const") name) (Some 0) (
-    cond (is_spelled spelling (codes "mc_is_global") name) (Some 1) (
-    cond (is_spelled spelling (codes "mc_is_param") name) (Some 2) (
-    cond (is_spelled spelling (codes "mc_is_local") name) (Some 3) None)))
+    cond (is_spelled spelling (codes "mc_is_const") name) (Some IsConst) (
+    cond (is_spelled spelling (codes "mc_is_global") name) (Some IsGlobal) (
+    cond (is_spelled spelling (codes "mc_is_param") name) (Some IsParam) (
+    cond (is_spelled spelling (codes "mc_is_local") name) (Some IsLocal) None)))
 
 -- the row that asks of a hole and a text
-abbrev pub row_of_both : Spelling → ℕ → Option ℕ
-row_of_both spelling name = cond (is_spelled spelling (codes "mc_name_is") name) (Some 4) None
+abbrev pub row_of_both : Spelling → ℕ → Option CalloutRow
+row_of_both spelling name = cond (is_spelled spelling (codes "mc_name_is") name) (Some NameIs) None
 
 -- the row that asks of a text alone
-abbrev pub row_of_text : Spelling → ℕ → Option ℕ
-row_of_text spelling name = cond (is_spelled spelling (codes "mc_in_function") name) (Some 5) None
+abbrev pub row_of_text : Spelling → ℕ → Option CalloutRow
+row_of_text spelling name = cond (is_spelled spelling (codes "mc_in_function") name) (Some InFunction) None
 
 -- `0` never holds, and `1` always does
-abbrev pub row_of_digit : Spelling → Symbol → Option ℕ
-row_of_digit spelling (IntLiteral value name) = cond (is_spelled spelling (codes "0") name) (Some 6) (Some 7)
+abbrev pub row_of_digit : Spelling → Symbol → Option CalloutRow
+row_of_digit spelling (IntLiteral value name) = cond (is_spelled spelling (codes "0") name) (Some NeverHolds) (Some AlwaysHolds)
 row_of_digit spelling _ = None
 
 -- the row of a callout, whose arguments are as many as the row's and of its kinds
-abbrev pub row_of : Spelling → WrittenCallout → Option ℕ
+abbrev pub row_of : Spelling → WrittenCallout → Option CalloutRow
 row_of spelling (Digit digit) = row_of_digit spelling digit
 row_of spelling (Asked name (Name hole) None) = row_of_hole spelling name
 row_of spelling (Asked name (Name hole) (Some text)) = row_of_both spelling name

@@ -4,7 +4,7 @@ use Rattle.metal_grammar.specs.Words.{Spelling, is_spelled}
 use Rattle.metal_grammar.specs.Written.{members, StateName, OfMachine, OfVariable, WrittenCallout, WrittenItem, Pattern, Callout, Dollars, Destination, To, Split, WrittenAction, Clause}
 use Rattle.metal_grammar.specs.Holes.{DeclaredHole}
 use Rattle.metal_grammar.specs.Patterns.{with_holes}
-use Rattle.metal_tree.specs.MetalMachines.Machine.{Piece, Hole, Source, FromGlobal, FromObject, Target, ToGlobal, ToObject, ToUnknown, Dest, Always, ByTruth, Condition, Item, Base, Holds, EndOfPath, Rule, Machine}
+use Rattle.metal_tree.specs.MetalMachines.Machine.{start, stop, first_named, IsConst, Piece, Hole, Source, FromGlobal, FromObject, Target, ToGlobal, ToObject, ToUnknown, Dest, Always, ByTruth, Condition, Item, Base, Holds, EndOfPath, Rule, Machine}
 use Rattle.metal_grammar.specs.Message.{message_with}
 use Rattle.metal_grammar.specs.Callouts.{row_of, hole_asked, text_asked}
 use Rattle.metal_grammar.specs.Rules.{holes_of, PlacedRule, rules_of, targets_of}
@@ -63,7 +63,7 @@ pub record Numbering : Type 0 where
   pub states : List StateName
 
 abbrev pub global_number : Numbering → ℕ → ℕ
-global_number n name = cond (is_start n.spelling name) 0 (cond (is_stop n.spelling (OfMachine name)) 1 (number_in (globals_among n.spelling n.states) name + 2))
+global_number n name = cond (is_start n.spelling name) start (cond (is_stop n.spelling (OfMachine name)) stop (number_in (globals_among n.spelling n.states) name + first_named))
 
 abbrev pub state_number : Numbering → ℕ → ℕ → ℕ
 state_number n variable name = number_in (states_among n.spelling n.states variable) name
@@ -85,7 +85,7 @@ number_asked n None = 0
 number_asked n (Some name) = number_in n.holes name
 
 abbrev pub condition_of : Numbering → Bool → WrittenCallout → Condition
-condition_of n negated callout = record { negated = negated; row = unwrap_or (row_of n.spelling callout) 0; hole = number_asked n (hole_asked callout); text = text_asked n.spelling callout }
+condition_of n negated callout = record { negated = negated; row = unwrap_or (row_of n.spelling callout) IsConst; hole = number_asked n (hole_asked callout); text = text_asked n.spelling callout }
 
 abbrev pub item_of : Numbering → WrittenItem → Item
 item_of n (Pattern e semicolon) = Base (with_holes (number_among n.holes) e)

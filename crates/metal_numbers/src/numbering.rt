@@ -19,7 +19,7 @@ use crate::metal_rules::is_stop;
 use crate::numbers::Numbering;
 use bumpalo::collections::into_bump_slice;
 use c_tree::Arena;
-use metal_tree::{Dest, Source, States, Target};
+use metal_tree::{Dest, FIRST_NAMED, START, STOP, Source, States, Target};
 use metal_written::{Destination, PlacedRule, StateName, is_spelled, number_among};
 use mx_base::Names;
 use std::alloc::AllocError;
@@ -280,11 +280,11 @@ impl<'a> Numbering<'a> {
         ensures { result ≡ meaning.global_number (numbering_in names.now self.now) name }
     {
         if is_spelled(names, b"start", name) {
-            0
+            START
         } else if is_spelled(names, b"stop", name) {
-            1
+            STOP
         } else {
-            number_in(self.globals, name) as u16 + 2
+            number_in(self.globals, name) as u16 + FIRST_NAMED
         }
     }
 

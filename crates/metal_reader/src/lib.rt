@@ -1,9 +1,12 @@
 //! Reads checkers, from their bytes to the machine that they are or to the first fault that they have and its place.
 #![tactic(auto)]
 
-mod checker_front_end;
+// faults and places of rules
 mod metal_faults;
 mod metal_positions;
+
+// reading of checkers
+mod checker_front_end;
 mod reading;
 
 pub use checker_front_end::{CheckerFault, Faulty, Refusal, read_checker, read_tokens};

@@ -62,19 +62,18 @@ abbrev pub dest_view : Dest → machines.Dest
 dest_view (dest.To t) = machines.Always (target_view t)
 dest_view (dest.Split on_true on_false) = machines.ByTruth (target_view on_true) (target_view on_false)
 
--- the number of a row of the table of callouts
-abbrev pub row_number : CalloutRow → ℕ
-row_number rows.IsConst = 0
-row_number rows.IsGlobal = 1
-row_number rows.IsParam = 2
-row_number rows.IsLocal = 3
-row_number rows.NameIs = 4
-row_number rows.InFunction = 5
-row_number rows.Never = 6
-row_number rows.Always = 7
+abbrev pub row_view : CalloutRow → machines.CalloutRow
+row_view rows.IsConst = machines.IsConst
+row_view rows.IsGlobal = machines.IsGlobal
+row_view rows.IsParam = machines.IsParam
+row_view rows.IsLocal = machines.IsLocal
+row_view rows.NameIs = machines.NameIs
+row_view rows.InFunction = machines.InFunction
+row_view rows.NeverHolds = machines.NeverHolds
+row_view rows.AlwaysHolds = machines.AlwaysHolds
 
 abbrev pub callout_view : Callout → machines.Condition
-callout_view c = record { negated = c.negated; row = row_number c.row; hole = c.hole; text = c.text }
+callout_view c = record { negated = c.negated; row = row_view c.row; hole = c.hole; text = c.text }
 
 abbrev pub item_view : Item → machines.Item
 item_view (item.Base tree) = machines.Base (view tree.now)

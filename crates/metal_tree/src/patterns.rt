@@ -41,9 +41,9 @@ pub enum CalloutRow {
     /// `mc_in_function("s")`: whether the event stands in a function of this name.
     InFunction,
     /// `0`
-    Never,
+    NeverHolds,
     /// `1`
-    Always,
+    AlwaysHolds,
 }
 
 /// A callout.

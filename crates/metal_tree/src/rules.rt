@@ -4,10 +4,17 @@ use crate::messages::Action;
 use crate::patterns::Pattern;
 use c_tree::Place;
 
+/// The number of the global state `start`, in which paths begin.
+pub const START: u16 = 0;
+/// The number of the global state `stop`, which nothing leaves.
+pub const STOP: u16 = 1;
+/// The number of the first global state with a name of its own.
+pub const FIRST_NAMED: u16 = 2;
+
 /// The state that a rule begins in.
 #[derive(Clone, Copy, Debug, PartialEq, Eq)]
 pub enum Source {
-    /// A state of the machine: 0 is `start`, 1 is `stop`, from 2 on those that have names.
+    /// A state of the machine: `START`, `STOP`, or one with a name of its own, from `FIRST_NAMED` on.
     Global(u16),
     /// A state of the object that a variable takes.
     Object { variable: u8, state: u16 },

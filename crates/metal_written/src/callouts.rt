@@ -5,7 +5,7 @@ ghost use Rattle.std.specs.Option.{option_map};
 ghost use Rattle.c_tree.specs.Symbol.{symbol_of};
 ghost use Rattle.metal_grammar.specs.Callouts.{row_of_hole, row_of_both, row_of_text, row_of_digit, row_of, hole_asked, literal_asked};
 ghost use Rattle.metal_grammar.specs.Grammar.{is_digit, is_callout};
-ghost use Rattle.metal_tree.specs.Views.{row_number};
+ghost use Rattle.metal_tree.specs.Views.{row_view};
 ghost use Rattle.metal_written.specs.Written.{maybe_literal_view, callout_view};
 
 use crate::words::is_spelled;
@@ -37,7 +37,7 @@ pub fn is_callout(names: &Names, callout: WrittenCallout) -> bool
 
 /// The row of a callout that asks of a hole alone.
 fn row_of_hole(names: &Names, name: u32) -> Option<CalloutRow>
-    ensures { option_map row_number result ≡ row_of_hole names.now name }
+    ensures { option_map row_view result ≡ row_of_hole names.now name }
 {
     if is_spelled(names, b"mc_is_const", name) {
         Some(CalloutRow::IsConst)
@@ -54,7 +54,7 @@ fn row_of_hole(names: &Names, name: u32) -> Option<CalloutRow>
 
 /// The row of a callout that asks of a hole and a text.
 fn row_of_both(names: &Names, name: u32) -> Option<CalloutRow>
-    ensures { option_map row_number result ≡ row_of_both names.now name }
+    ensures { option_map row_view result ≡ row_of_both names.now name }
 {
     if is_spelled(names, b"mc_name_is", name) {
         Some(CalloutRow::NameIs)
@@ -65,7 +65,7 @@ fn row_of_both(names: &Names, name: u32) -> Option<CalloutRow>
 
 /// The row of a callout that asks of a text alone.
 fn row_of_text(names: &Names, name: u32) -> Option<CalloutRow>
-    ensures { option_map row_number result ≡ row_of_text names.now name }
+    ensures { option_map row_view result ≡ row_of_text names.now name }
 {
     if is_spelled(names, b"mc_in_function", name) {
         Some(CalloutRow::InFunction)
@@ -76,13 +76,13 @@ fn row_of_text(names: &Names, name: u32) -> Option<CalloutRow>
 
 /// The row of a callout that is a constant.
 fn row_of_digit(names: &Names, token: &Token) -> Option<CalloutRow>
-    ensures { option_map row_number result ≡ row_of_digit names.now (symbol_of token.now) }
+    ensures { option_map row_view result ≡ row_of_digit names.now (symbol_of token.now) }
 {
     match token.kind {
         TokenKind::Int { .. } => if is_spelled(names, b"0", token.name) {
-            Some(CalloutRow::Never)
+            Some(CalloutRow::NeverHolds)
         } else {
-            Some(CalloutRow::Always)
+            Some(CalloutRow::AlwaysHolds)
         },
         _ => None,
     }
@@ -90,7 +90,7 @@ fn row_of_digit(names: &Names, token: &Token) -> Option<CalloutRow>
 
 /// The row of a callout, whose arguments are as many as the row's and of its kinds.
 pub fn row_of(names: &Names, callout: WrittenCallout) -> Option<CalloutRow>
-    ensures { option_map row_number result ≡ row_of names.now (callout_view callout.entry) }
+    ensures { option_map row_view result ≡ row_of names.now (callout_view callout.entry) }
 {
     match callout {
         WrittenCallout::Digit { token } => row_of_digit(names, token),

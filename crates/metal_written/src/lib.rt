@@ -1,15 +1,20 @@
 //! Checkers as they are written: clauses, sections and rules, the words, strings and names of them, and the texts of their messages.
 #![tactic(auto)]
 
-mod callouts;
-mod items;
-mod kinds;
-mod messages;
-mod metal_names;
-mod placed;
-mod texts;
+// clauses and words
 mod words;
 mod written;
+
+// items, holes, names and rules
+mod items;
+mod kinds;
+mod metal_names;
+mod placed;
+
+// callouts and messages
+mod callouts;
+mod messages;
+mod texts;
 
 pub use callouts::{hole_asked, is_callout, literal_asked, row_of};
 pub use items::{has_end, has_pattern};

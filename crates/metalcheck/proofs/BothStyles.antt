@@ -3,6 +3,7 @@ use Rattle.std.proofs.Common.{◌≡◌, ◌⊎◌, inl, inr, ℕ, zero, suc, �
 use Rattle.std.proofs.lemmas.List.Quantifiers.{position-Some}
 use Rattle.std.specs.Str.{bytes_eq}
 use Rattle.command.specs.Commands.{Command, GiveNone, IsCommand, IsPlace}
+use Rattle.command.specs.Due.{IsDue}
 use Rattle.command.specs.Ran.{Answers, Completes, IsEmptied, Leaves, Misses, Misuses, Ran, Refuses, ReporterStep, reporter_step}
 use Rattle.command.specs.Tasks.{IsEmptiedAt}
 use Rattle.command.specs.Written.{SinkStep}
@@ -36,24 +37,24 @@ leaves words ReadFault = refl
 leaves words WriteFault = tt
 leaves words NoMemory = tt
 
-module _ (told : List ℕ → Option (List ℕ)) (words : List (List ℕ)) (before after : List (List Report)) (old new : List (List ℕ)) (out errs : SinkStep) where
+module _ (Holds : List ℕ → List ℕ → Type 0) (words : List (List ℕ)) (before after : List (List Report)) (old new : List (List ℕ)) (out errs : SinkStep) where
   abbrev held : ReporterStep
   held = reporter_step style_names styles before after
 
-  ran-gone : (result : Status) → Ran told words held old new result out errs → Ran told words both_styles old new result out errs
+  ran-gone : (result : Status) → Ran Holds words held old new result out errs → Ran Holds words both_styles old new result out errs
   ran-gone result (inl s) = inl (record { status = s.status; turn = s.turn; out_same = s.out_same; errs_same = s.errs_same })
   ran-gone result (inr c) = inr (record { status = c.status; text = c.text; line = c.line; due = c.due; leaves = leaves words c.status; spares = λ count is. refl; written = c.written })
 
-  answers-gone : (IsAsked : List Report → Type 0) → Answers told words held old new out errs IsAsked → Answers told words both_styles old new out errs IsAsked
+  answers-gone : (IsAsked : List Report → Type 0) → Answers Holds words held old new out errs IsAsked → Answers Holds words both_styles old new out errs IsAsked
   answers-gone IsAsked (inl p) =
       inl (record { command = p.command; given = p.given; text = p.text; cause = p.cause; printed = p.printed; nothing = p.nothing; out_still = p.out_still; errs_still = p.errs_still; empty = emptied words })
   answers-gone IsAsked (inr m) =
       inr (record { count = m.count; is_generation = m.is_generation; text = m.text; cause = m.cause; none_failed = m.none_failed; printed = m.printed; nothing = m.nothing; out_still = m.out_still; errs_still = m.errs_still; kept = refl })
 
-  refuses-gone : Refuses told words held old new out errs → Refuses told words both_styles old new out errs
+  refuses-gone : Refuses Holds words held old new out errs → Refuses Holds words both_styles old new out errs
   refuses-gone r = record { command = r.command; given = r.given; line = r.line; cause = r.cause; nothing = r.nothing; printed = r.printed; out_still = r.out_still; errs_still = r.errs_still; kept = refl }
 
-  misses-gone : Misses told words held old new out errs → Misses told words both_styles old new out errs
+  misses-gone : Misses Holds words held old new out errs → Misses Holds words both_styles old new out errs
   misses-gone m = record { command = m.command; given = m.given; line = m.line; cause = m.cause; nothing = m.nothing; printed = m.printed; out_still = m.out_still; errs_still = m.errs_still; kept = refl }
 
   misuses-gone : Misuses words held old new out errs → Misuses words both_styles old new out errs
@@ -83,6 +84,13 @@ module _ (called : List (List ℕ)) (names : called ≡ style_names) (words : Li
   pub none_in_styles : GiveNone words style_names → GiveNone words called
   none_in_styles h = subst (λ (c : List (List ℕ)). GiveNone words c) (sym names) h
 
+-- reporters with these names, which render so, are due the same
+pub due_in_styles : (called : List (List ℕ)) (rendered : List Report → List (List ℕ)) → called ≡ style_names → ((reports : List Report) → rendered reports ≡ styles reports)
+    → (Holds : List ℕ → List ℕ → Type 0) (words old new : List (List ℕ)) (status : Status) (text line : List ℕ) → IsDue Holds words style_names styles old new status text line → IsDue Holds words called rendered old new status text line
+due_in_styles called rendered names renders Holds words old new status text line due =
+    let same : styles ≡ rendered = λ i reports. sym (renders reports) i in
+    subst (λ (r : List Report → List (List ℕ)). IsDue Holds words called r old new status text line) same (subst (λ (c : List (List ℕ)). IsDue Holds words c styles old new status text line) (sym names) due)
+
 -- reporters that render so
 pub completes_in_styles : (rendered : List Report → List (List ℕ)) → ((reports : List Report) → rendered reports ≡ styles reports) → (command : Command) (contents : List (List ℕ)) (result : Status) (out errs : SinkStep)
     → Completes command contents rendered result out errs → Completes command contents styles result out errs
@@ -92,24 +100,24 @@ completes_in_styles rendered renders command contents result out errs h =
 
 -- reporters with these names, which render so
 module _ (called : List (List ℕ)) (rendered : List Report → List (List ℕ)) (names : called ≡ style_names) (renders : (reports : List Report) → rendered reports ≡ styles reports)
-    (told : List ℕ → Option (List ℕ)) (words : List (List ℕ)) (before after : List (List Report)) (old new : List (List ℕ)) (out errs : SinkStep) where
+    (Holds : List ℕ → List ℕ → Type 0) (words : List (List ℕ)) (before after : List (List Report)) (old new : List (List ℕ)) (out errs : SinkStep) where
   abbrev given : ReporterStep
   given = reporter_step called rendered before after
 
   same : given ≡ reporter_step style_names styles before after
   same = λ i. record { called = names i; rendered = λ reports. renders reports i; before = before; after = after }
 
-  pub ran_in_styles : (result : Status) → Ran told words given old new result out errs → Ran told words both_styles old new result out errs
-  ran_in_styles result h = ran-gone told words before after old new out errs result (subst (λ (r : ReporterStep). Ran told words r old new result out errs) same h)
+  pub ran_in_styles : (result : Status) → Ran Holds words given old new result out errs → Ran Holds words both_styles old new result out errs
+  ran_in_styles result h = ran-gone Holds words before after old new out errs result (subst (λ (r : ReporterStep). Ran Holds words r old new result out errs) same h)
 
-  pub answers_in_styles : (IsAsked : List Report → Type 0) → Answers told words given old new out errs IsAsked → Answers told words both_styles old new out errs IsAsked
-  answers_in_styles IsAsked h = answers-gone told words before after old new out errs IsAsked (subst (λ (r : ReporterStep). Answers told words r old new out errs IsAsked) same h)
+  pub answers_in_styles : (IsAsked : List Report → Type 0) → Answers Holds words given old new out errs IsAsked → Answers Holds words both_styles old new out errs IsAsked
+  answers_in_styles IsAsked h = answers-gone Holds words before after old new out errs IsAsked (subst (λ (r : ReporterStep). Answers Holds words r old new out errs IsAsked) same h)
 
-  pub refuses_in_styles : Refuses told words given old new out errs → Refuses told words both_styles old new out errs
-  refuses_in_styles h = refuses-gone told words before after old new out errs (subst (λ (r : ReporterStep). Refuses told words r old new out errs) same h)
+  pub refuses_in_styles : Refuses Holds words given old new out errs → Refuses Holds words both_styles old new out errs
+  refuses_in_styles h = refuses-gone Holds words before after old new out errs (subst (λ (r : ReporterStep). Refuses Holds words r old new out errs) same h)
 
-  pub misses_in_styles : Misses told words given old new out errs → Misses told words both_styles old new out errs
-  misses_in_styles h = misses-gone told words before after old new out errs (subst (λ (r : ReporterStep). Misses told words r old new out errs) same h)
+  pub misses_in_styles : Misses Holds words given old new out errs → Misses Holds words both_styles old new out errs
+  misses_in_styles h = misses-gone Holds words before after old new out errs (subst (λ (r : ReporterStep). Misses Holds words r old new out errs) same h)
 
   pub misuses_in_styles : Misuses words given old new out errs → Misuses words both_styles old new out errs
-  misuses_in_styles h = misuses-gone told words before after old new out errs (subst (λ (r : ReporterStep). Misuses words r old new out errs) same h)
+  misuses_in_styles h = misuses-gone Holds words before after old new out errs (subst (λ (r : ReporterStep). Misuses words r old new out errs) same h)

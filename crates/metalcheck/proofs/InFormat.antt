@@ -27,9 +27,9 @@ text-in : (format : Option (List ℕ)) (place : Option ℕ) (reports : List Repo
 text-in None place reports text p h = subst (λ (o : Option ℕ). IsText o (styles reports) reports text) p h
 text-in (Some name) place reports text p h = rendered-in name p.0 reports text p.2 (subst (λ (o : Option ℕ). IsText o (styles reports) reports text) p.1 h)
 
-module _ (told : List ℕ → Option (List ℕ)) (words old new : List (List ℕ)) (out errs : SinkStep) (request : Request) (is : IsRequest words request) where
+module _ (Holds : List ℕ → List ℕ → Type 0) (words old new : List (List ℕ)) (out errs : SinkStep) (request : Request) (is : IsRequest words request) where
   printed-as-asked : (IsAsked : List Report → Type 0) (result : Status) → ((reports : List Report) → IsAsked reports → ((result ≡ Clean) × (reports ≡ [])) ⊎ ((result ≡ Reports) × (reports ≢ [])))
-      → Answers told words both_styles old new out errs IsAsked → PrintsAsAsked told request result out errs
+      → Answers Holds words both_styles old new out errs IsAsked → PrintsAsAsked Holds request result out errs
   printed-as-asked IsAsked result status (inr m) = absurd (no_request words m.count m.is_generation request is)
   printed-as-asked IsAsked result status (inl p) =
       let same : p.given.request ≡ request = one_request words p.given.request request p.given.is_request is in
@@ -39,8 +39,8 @@ module _ (told : List ℕ → Option (List ℕ)) (words old new : List (List ℕ
       let reports = p.cause.reports in
       record {
         reports = reports;
-        accepted = subst (λ (d : ℕ). AreAccepted told (filter is_checker_word request.files) (filter is_source_word request.files) d reports) depth
-            (subst (λ (fs : List (List ℕ)). AreAccepted told (filter is_checker_word fs) (filter is_source_word fs) p.command.depth reports) files p.cause.accepted);
+        accepted = subst (λ (d : ℕ). AreAccepted Holds (filter is_checker_word request.files) (filter is_source_word request.files) d reports) depth
+            (subst (λ (fs : List (List ℕ)). AreAccepted Holds (filter is_checker_word fs) (filter is_source_word fs) p.command.depth reports) files p.cause.accepted);
         status = status reports p.cause.asked;
         text = p.text;
         text_is = subst (λ (f : Option (List ℕ)). IsTextIn f reports p.text) format (text-in p.given.request.format p.command.place reports p.text p.given.place p.cause.text_is);
@@ -49,7 +49,7 @@ module _ (told : List ℕ → Option (List ℕ)) (words old new : List (List ℕ
       }
 
   -- of a run that ends in one of the two
-  pub in_format : (result : Status) → (result ≡ Clean → Answers told words both_styles old new out errs (λ reports. reports ≡ []))
-      → (result ≡ Reports → Answers told words both_styles old new out errs (λ reports. reports ≢ [])) → (result ≡ Clean) ⊎ (result ≡ Reports) → PrintsAsAsked told request result out errs
+  pub in_format : (result : Status) → (result ≡ Clean → Answers Holds words both_styles old new out errs (λ reports. reports ≡ []))
+      → (result ≡ Reports → Answers Holds words both_styles old new out errs (λ reports. reports ≢ [])) → (result ≡ Clean) ⊎ (result ≡ Reports) → PrintsAsAsked Holds request result out errs
   in_format result clean some (inl e) = printed-as-asked (λ reports. reports ≡ []) result (λ reports none. inl (e, none)) (clean e)
   in_format result clean some (inr e) = printed-as-asked (λ reports. reports ≢ []) result (λ reports there. inr (e, there)) (some e)

@@ -28,9 +28,9 @@ IsTextIn None reports text = text ≡ text_of reports
 IsTextIn (Some name) reports text = ((name ≡ codes "table") × (text ≡ table_of reports)) ⊎ ((name ≡ codes "json") × (text ≡ json_of reports))
 
 -- the reports of the files of a request were printed in its format, and nothing else, and the status says whether there are any
-pub record PrintsAsAsked (told : List ℕ → Option (List ℕ)) (request : Request) (result : Status) (out errs : SinkStep) : Type 0 where
+pub record PrintsAsAsked (Holds : List ℕ → List ℕ → Type 0) (request : Request) (result : Status) (out errs : SinkStep) : Type 0 where
   pub reports : List Report
-  pub accepted : AreAccepted told (filter is_checker_word request.files) (filter is_source_word request.files) request.depth reports
+  pub accepted : AreAccepted Holds (filter is_checker_word request.files) (filter is_source_word request.files) request.depth reports
   pub status : ((result ≡ Clean) × (reports ≡ [])) ⊎ ((result ≡ Reports) × (reports ≢ []))
   pub text : List ℕ
   pub text_is : IsTextIn request.format reports text

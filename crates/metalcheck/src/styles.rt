@@ -1,9 +1,11 @@
 //! The whole run of the program: the command with the two styles of reporters that it has.
 
-ghost use Rattle.std.specs.Prelude.{◌≡◌, ◌≢◌, ◌⊎◌, ◌∷◌, [], ℕ, List, ◌+◌, codes, map, take, string_bytes, IfOk};
+ghost use Rattle.std.specs.Prelude.{◌≡◌, ◌≢◌, ◌⊎◌, ◌∷◌, [], ℕ, List, codes, map, string_bytes, IfOk};
 ghost use Rattle.command.specs.Commands.{Command, GiveNone, IsCommand, checkers_of, sources_of, turns_of};
-ghost use Rattle.command.specs.Handed.{AreFrom, AreLinked, HaveLinkFault, IsFaultless, Located, UnsoundAt};
-ghost use Rattle.command.specs.Ran.{Answers, Completes, CompletesMeasure, Misses, Misuses, NoRise, Ran, Refuses, Tells, sink_step};
+ghost use Rattle.command.specs.Due.{IsDue};
+ghost use Rattle.command.specs.Handed.{AreLinked, IsFirstFault, Located, Tells, UnsoundAt, at_first, may_hold, refused_line, surely_holds};
+ghost use Rattle.command.specs.Ran.{Answers, Completes, CompletesMeasure, DidAs, Misses, Misuses, NoRise, Ran, Refuses, sink_step};
+ghost use Rattle.command.specs.declared.status.Status.{Status as StatusValue};
 ghost use Rattle.command_words.specs.Generation.{IsGeneration};
 ghost use Rattle.command_words.specs.Words.{Request, IsRequest};
 ghost use Rattle.metalcheck.specs.Styles.{PrintsAsAsked, both_styles, style_names, styles};
@@ -49,23 +51,31 @@ pub(crate) fn run_in_styles<F: Files, O: Sink, E: Sink>(
     errs: &mut E,
 ) -> Status
     // All of it: no memory before the first write, or what the run is due, written as far as the sinks took it.
-    ensures ran { Ran (F.contents files.old) (map string_bytes words.now) both_styles (F.failed files.old) (F.failed files.new) result
+    ensures ran { Ran (may_hold (F.contents files.old)) (map string_bytes words.now) both_styles (F.failed files.old) (F.failed files.new) result
+        (sink_step (O.received out.old) (O.received out.new) (O.faults out.old) (O.faults out.new))
+        (sink_step (E.received errs.old) (E.received errs.new) (E.faults errs.old) (E.faults errs.new)) }
+
+    // And nothing else: what is due by what is told of the files that are read is what the run did. At most one status, one text and one
+    // line is due (`one_answer::due_is_unique`).
+    ensures determined { (status : StatusValue) (text line : List ℕ) →
+        IsDue (surely_holds (F.contents files.old)) (map string_bytes words.now) style_names styles (F.failed files.old) (F.failed files.new) status text line →
+        DidAs status text line result
         (sink_step (O.received out.old) (O.received out.new) (O.faults out.old) (O.faults out.new))
         (sink_step (E.received errs.old) (E.received errs.new) (E.faults errs.old) (E.faults errs.new)) }
 
     // The reports stand on `out` in the format that the words name.
     ensures in_format { (request : Request) → IsRequest (map string_bytes words.now) request → (result ≡ Status.Clean) ⊎ (result ≡ Status.Reports) →
-        PrintsAsAsked (F.contents files.old) request result
+        PrintsAsAsked (may_hold (F.contents files.old)) request result
         (sink_step (O.received out.old) (O.received out.new) (O.faults out.old) (O.faults out.new))
         (sink_step (E.received errs.old) (E.received errs.new) (E.faults errs.old) (E.faults errs.new)) }
 
     // The same by status.
     ensures clean { result ≡ Status.Clean →
-        Answers (F.contents files.old) (map string_bytes words.now) both_styles (F.failed files.old) (F.failed files.new)
+        Answers (may_hold (F.contents files.old)) (map string_bytes words.now) both_styles (F.failed files.old) (F.failed files.new)
         (sink_step (O.received out.old) (O.received out.new) (O.faults out.old) (O.faults out.new))
         (sink_step (E.received errs.old) (E.received errs.new) (E.faults errs.old) (E.faults errs.new)) (λ reports. reports ≡ []) }
     ensures reports { result ≡ Status.Reports →
-        Answers (F.contents files.old) (map string_bytes words.now) both_styles (F.failed files.old) (F.failed files.new)
+        Answers (may_hold (F.contents files.old)) (map string_bytes words.now) both_styles (F.failed files.old) (F.failed files.new)
         (sink_step (O.received out.old) (O.received out.new) (O.faults out.old) (O.faults out.new))
         (sink_step (E.received errs.old) (E.received errs.new) (E.faults errs.old) (E.faults errs.new)) (λ reports. reports ≢ []) }
     ensures usage { result ≡ Status.Usage →
@@ -73,28 +83,33 @@ pub(crate) fn run_in_styles<F: Files, O: Sink, E: Sink>(
         (sink_step (O.received out.old) (O.received out.new) (O.faults out.old) (O.faults out.new))
         (sink_step (E.received errs.old) (E.received errs.new) (E.faults errs.old) (E.faults errs.new)) }
     ensures refused { result ≡ Status.Refused →
-        Refuses (F.contents files.old) (map string_bytes words.now) both_styles (F.failed files.old) (F.failed files.new)
+        Refuses (may_hold (F.contents files.old)) (map string_bytes words.now) both_styles (F.failed files.old) (F.failed files.new)
         (sink_step (O.received out.old) (O.received out.new) (O.faults out.old) (O.faults out.new))
         (sink_step (E.received errs.old) (E.received errs.new) (E.faults errs.old) (E.faults errs.new)) }
     ensures read_fault { result ≡ Status.ReadFault →
-        Misses (F.contents files.old) (map string_bytes words.now) both_styles (F.failed files.old) (F.failed files.new)
+        Misses (may_hold (F.contents files.old)) (map string_bytes words.now) both_styles (F.failed files.old) (F.failed files.new)
         (sink_step (O.received out.old) (O.received out.new) (O.faults out.old) (O.faults out.new))
         (sink_step (E.received errs.old) (E.received errs.new) (E.faults errs.old) (E.faults errs.new)) }
     ensures write_fault { result ≡ Status.WriteFault →
         Rose (O.faults out.old) (O.faults out.new) ⊎ Rose (E.faults errs.old) (E.faults errs.new) }
 
-    // What leads to each status. The contents are told in these three; over files in memory they are.
+    // What leads to each status, where the contents are told. Over files in memory they are.
     ensures complete { (command : Command) (contents : List (List ℕ)) → IsCommand (map string_bytes words.now) style_names command →
-        Tells (F.contents files.old) (turns_of command) contents → AreFrom IsFaultless 33554432 (turns_of command) contents →
-        ((l : Located) → HaveLinkFault (checkers_of command) (sources_of command) contents l → ⊥) →
+        Tells (F.contents files.old) (turns_of command) contents →
+        ((l : Located) → IsFirstFault (surely_holds (F.contents files.old)) (checkers_of command) (sources_of command) l → ⊥) →
         F.failed files.new ≡ F.failed files.old → NoRise (O.faults out.old) (O.faults out.new) →
         NoRise (E.faults errs.old) (E.faults errs.new) → result ≢ Status.NoMemory →
         Completes command contents styles result
         (sink_step (O.received out.old) (O.received out.new) (O.faults out.old) (O.faults out.new))
         (sink_step (E.received errs.old) (E.received errs.new) (E.faults errs.old) (E.faults errs.new)) }
-    ensures faulty { (command : Command) (contents : List (List ℕ)) (position : ℕ) → IsCommand (map string_bytes words.now) style_names command →
-        Tells (F.contents files.old) (take (position + 1) (turns_of command)) contents →
-        UnsoundAt (F.contents files.old) (turns_of command) position →
+    ensures faulty { (command : Command) (l : Located) → IsCommand (map string_bytes words.now) style_names command →
+        IsFirstFault (surely_holds (F.contents files.old)) (checkers_of command) (sources_of command) l →
+        F.failed files.new ≡ F.failed files.old →
+        DidAs Status.Refused [] (refused_line l) result
+        (sink_step (O.received out.old) (O.received out.new) (O.faults out.old) (O.faults out.new))
+        (sink_step (E.received errs.old) (E.received errs.new) (E.faults errs.old) (E.faults errs.new)) }
+    ensures unsound { (command : Command) (position : ℕ) → IsCommand (map string_bytes words.now) style_names command →
+        UnsoundAt (surely_holds (F.contents files.old)) at_first (turns_of command) position →
         F.failed files.new ≡ F.failed files.old →
         (result ≡ Status.Refused) ⊎ ((result ≡ Status.WriteFault) ⊎ (result ≡ Status.NoMemory)) }
     ensures unlinked { (command : Command) (contents : List (List ℕ)) → IsCommand (map string_bytes words.now) style_names command →
@@ -110,6 +125,7 @@ pub(crate) fn run_in_styles<F: Files, O: Sink, E: Sink>(
     ensures generation { (count : ℕ) → IsGeneration (map string_bytes words.now) count →
         (result ≡ Status.Clean) ⊎ ((result ≡ Status.Reports) ⊎ ((result ≡ Status.WriteFault) ⊎ (result ≡ Status.NoMemory))) }
     ensures untouched { (count : ℕ) → IsGeneration (map string_bytes words.now) count → files.new ≡ files.old }
+    ensures unread { GiveNone (map string_bytes words.now) style_names → files.new ≡ files.old }
     ensures no_command { GiveNone (map string_bytes words.now) style_names →
         (result ≡ Status.Usage) ⊎ ((result ≡ Status.WriteFault) ⊎ (result ≡ Status.NoMemory)) }
     ensures failed { F.failed files.new ≢ F.failed files.old →

@@ -2,12 +2,17 @@
 //! in memory and of the system.
 #![tactic(auto)]
 
+// files and sinks
 mod files;
+mod sink;
+
+// those in memory
 mod mem_files;
 mod mem_sink;
+
+// those of the system, and tests
 mod os_files;
 mod os_sink;
-mod sink;
 #[cfg(test)]
 mod tests;
 

@@ -1,16 +1,21 @@
 //! Access paths: the objects that expressions of C name, as values of the program.
 #![tactic(auto)]
 
+// variables and steps
+mod selector;
+mod steps;
+mod variables;
+
+// objects, origins and paths
 mod keys;
 mod object;
 mod origin;
 mod paths;
+
+// text and trees of objects
 mod pieces;
-mod selector;
-mod steps;
 mod text;
 mod trees;
-mod variables;
 
 pub use object::{Object, copy, is_object, is_static, mentions, variable};
 pub use origin::Origin;

@@ -12,7 +12,7 @@ use Rattle.path_model.specs.CheckerModel.Checkers.{model, origins}
 use Rattle.path_model.specs.CheckerModel.Choices.{State}
 use Rattle.path_model.specs.CheckerModel.Happenings.{Function, Site}
 use Rattle.path_model.specs.CheckerModel.Reports.{Checker}
-use Rattle.path_model.specs.CheckerPrograms.Relevant.{Relevant}
+use Rattle.path_model.specs.CheckerPrograms.Relevant.{Followed}
 use Rattle.path_model.specs.CheckerPrograms.Texts.{site}
 use Rattle.typed_unit.specs.Texts.{Text}
 use Rattle.path_edges.specs.declared.edges.Context.{Context}
@@ -77,11 +77,11 @@ module _ (c : Checker) (ts : List Text) (gs : List Graph) where
       ∙ same
 
   waiting : (a : Edge) (k : rules.Context ℕ Object State) (w : rules.Waiter ℕ Object State ℕ Site)
-      → rules.Waits (model c) (origins c) (Relevant c ts) (flow_graphs c ts gs) (function_at ts) (edge_in a) k w → site_at c.depth ts gs w.context.function a.block ≡ w.site
+      → rules.Waits (model c) (origins c) (Followed c ts) (flow_graphs c ts gs) (function_at ts) (edge_in a) k w → site_at c.depth ts gs w.context.function a.block ≡ w.site
   waiting a k w (rules.WaitsForObject t fn h behind call named global flow here kind saved) = site-of a fn h w.site w.behind w behind.named call here refl
   waiting a k w (rules.WaitsWithSaved t fn h o x behind call named entry has kept here kind saved) = site-of a fn h w.site w.behind w behind.named call here refl
 
-  pub sound : AreSound (model c) (origins c) (Relevant c ts) (flow_graphs c ts gs) (function_at ts) edge_in context_in (waiter_in c.depth ts gs)
+  pub sound : AreSound (model c) (origins c) (Followed c ts) (flow_graphs c ts gs) (function_at ts) edge_in context_in (waiter_in c.depth ts gs)
       (Begins c ts gs) (LeadsTo c ts gs) (WaitsAt c ts gs) (IsEndOf c ts gs) (IsWoken c ts gs)
   sound = record {
     base = λ e h. h;
@@ -94,16 +94,16 @@ module _ (c : Checker) (ts : List Text) (gs : List Graph) where
   stands : (P : rules.PathEdge ℕ Object State ℕ → Type 0) (e : rules.PathEdge ℕ Object State ℕ) → P e → StandsFor edge_in (λ d. P (edge_in d)) e
   stands P e h = record { value = edge_of e; is = edge-there e; holds = subst P (sym (edge-there e)) h }
 
-  pub complete : AreComplete (model c) (origins c) (Relevant c ts) (flow_graphs c ts gs) (function_at ts) edge_in context_in (waiter_in c.depth ts gs)
+  pub complete : AreComplete (model c) (origins c) (Followed c ts) (flow_graphs c ts gs) (function_at ts) edge_in context_in (waiter_in c.depth ts gs)
       (Begins c ts gs) (LeadsTo c ts gs) (WaitsAt c ts gs) (IsEndOf c ts gs) (IsWoken c ts gs)
   complete = record {
-    base = λ e h. stands (rules.Base (model c) (origins c) (Relevant c ts) (flow_graphs c ts gs) (function_at ts)) e h;
-    goes = λ a e h. stands (rules.Goes (model c) (origins c) (Relevant c ts) (flow_graphs c ts gs) (function_at ts) (edge_in a)) e h;
+    base = λ e h. stands (rules.Base (model c) (origins c) (Followed c ts) (flow_graphs c ts gs) (function_at ts)) e h;
+    goes = λ a e h. stands (rules.Goes (model c) (origins c) (Followed c ts) (flow_graphs c ts gs) (function_at ts) (edge_in a)) e h;
     waits = λ a k w h.
         let there = waiter-there a.block w (waiting a k w h) in
-        let at = subst (λ z. rules.Waits (model c) (origins c) (Relevant c ts) (flow_graphs c ts gs) (function_at ts) (edge_in a) z w) (sym (context-there k)) h in
-        let by = subst (λ z. rules.Waits (model c) (origins c) (Relevant c ts) (flow_graphs c ts gs) (function_at ts) (edge_in a) (context_in (context_of k)) z) (sym there) at in
+        let at = subst (λ z. rules.Waits (model c) (origins c) (Followed c ts) (flow_graphs c ts gs) (function_at ts) (edge_in a) z w) (sym (context-there k)) h in
+        let by = subst (λ z. rules.Waits (model c) (origins c) (Followed c ts) (flow_graphs c ts gs) (function_at ts) (edge_in a) (context_in (context_of k)) z) (sym there) at in
         record { on = context_of k; who = waiter_of a.block w; is_on = context-there k; is_who = there; holds = record { here = refl; waits = by } };
     ends = λ e k h. h;
-    wakes = λ w e d h. stands (rules.Wakes (model c) (origins c) (Relevant c ts) (flow_graphs c ts gs) (function_at ts) (waiter_in c.depth ts gs w) (edge_in e)) d h;
+    wakes = λ w e d h. stands (rules.Wakes (model c) (origins c) (Followed c ts) (flow_graphs c ts gs) (function_at ts) (waiter_in c.depth ts gs w) (edge_in e)) d h;
   }

@@ -2,8 +2,11 @@
 //! shows exactly what a checker reports of a program.
 #![tactic(auto)]
 
+// path edges and their steps
 mod edge_steps;
 mod edges;
+
+// what least edges report
 mod theorems;
 
 pub use edge_steps::{copy_context, copy_tuple, entered, first_edges, onward, waits_for, woken};

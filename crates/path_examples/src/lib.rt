@@ -1,9 +1,12 @@
 //! A worked instance of the theory of paths: a checker of locks over a program with two roots, one of which calls itself.
 #![tactic(auto)]
 
+// the checker and the program
 mod checker;
-mod log;
 mod program;
+
+// steps and the exact log
+mod log;
 mod steps;
 
 pub use checker::{Event, Interrupts, LockState, Report, Variable};

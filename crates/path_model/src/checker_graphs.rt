@@ -4,6 +4,7 @@
 mod theorems;
 
 pub use theorems::{
-    functions_have_one_number, functions_have_their_graphs, functions_stand_apart,
-    graphs_have_the_traces, graphs_report_the_same, relevant_objects_are_closed_in_graphs,
+    followed_objects_are_closed_in_graphs, functions_have_one_number, functions_have_their_graphs,
+    functions_stand_apart, graphs_have_the_traces, graphs_report_the_same,
+    relevant_objects_are_closed_in_graphs,
 };

@@ -2,4 +2,7 @@
 
 mod theorems;
 
-pub use theorems::{relevant_objects_are_closed, relevant_objects_are_objects};
+pub use theorems::{
+    followed_objects_are_closed, followed_objects_are_relevant, relevant_objects_are_closed,
+    relevant_objects_are_objects,
+};

@@ -2,16 +2,23 @@
 //! these over flow graphs.
 #![tactic(auto)]
 
-mod checker_graphs;
+// checkers and paths of programs
 mod checker_model;
 mod checker_programs;
 
+// the same over flow graphs
+mod checker_graphs;
+
 pub use checker_graphs::{
-    functions_have_one_number, functions_have_their_graphs, functions_stand_apart,
-    graphs_have_the_traces, graphs_report_the_same, relevant_objects_are_closed_in_graphs,
+    followed_objects_are_closed_in_graphs, functions_have_one_number, functions_have_their_graphs,
+    functions_stand_apart, graphs_have_the_traces, graphs_report_the_same,
+    relevant_objects_are_closed_in_graphs,
 };
 pub use checker_model::{
     actuals_reach_what_formals_give, ends_are_quiet, one_object_at_a_time,
     other_events_ignore_frames,
 };
-pub use checker_programs::{relevant_objects_are_closed, relevant_objects_are_objects};
+pub use checker_programs::{
+    followed_objects_are_closed, followed_objects_are_relevant, relevant_objects_are_closed,
+    relevant_objects_are_objects,
+};

@@ -1,3 +1,4 @@
 pub mod Empty
 pub mod Traced
+pub mod Sources
 pub mod Found

@@ -3,4 +3,4 @@
 mod filing;
 mod lists;
 
-pub use lists::followed_objects;
+pub use lists::{all_relevant_objects, followed_objects};

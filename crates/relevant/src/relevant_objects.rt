@@ -9,3 +9,4 @@ mod steps;
 
 pub use rows::{FollowedCall, FunctionRow};
 pub use search::relevant;
+pub use steps::{copies, row_at};

@@ -1,8 +1,11 @@
 //! What a report is, in which order reports stand, lists of them, and what takes reports and renders them, in the styles `table` and `json`.
 #![tactic(auto)]
 
+// reports and their order
 mod order;
 mod report;
+
+// lists, reporters and tests
 mod report_lists;
 mod reporters;
 #[cfg(test)]

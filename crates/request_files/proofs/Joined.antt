@@ -1,49 +1,40 @@
 -- The checkers, and then the C files.
-use Rattle.std.proofs.Common.{◌≡◌, ℕ, zero, suc, ◌+◌, ◌-◌, ◌<◌, ◌≤◌, List, [], ◌∷◌, ◌++◌, length, Option, Some, slice_get, refl, sym, ap, ◌∙◌, subst, arith, length-append}
+use Rattle.std.proofs.Common.{◌≡◌, ℕ, zero, suc, ◌+◌, ◌<◌, List, [], ◌∷◌, ◌++◌, length, Option, Some, slice_get, refl, sym, ap, ◌∙◌, subst, arith, length-append}
 use Rattle.std.specs.Borrow.{Bor}
-use Rattle.mx_io.specs.Reads.{Stands}
 use Rattle.typed_unit.specs.Texts.{Text}
 use Rattle.metal_tree.specs.MetalMachines.Machine.{Machine}
-use Rattle.request_files.specs.Faults.{Located, HasFault, total_limit}
-use Rattle.request_files.specs.InTurn.{AnswersRequest, AnswersUnread, AreRead, AreReadCheckers, AreReadSources, AreReadFiles, IsTurnFrom, FailedFrom, FaultyFrom}
-use Rattle.request_files.specs.Meanings.{AreFirst}
-use Rattle.request_files.specs.Reading.{Agree, AreFrom, AreSound, IsSound, IsTurn, FailedAt, FaultyAt, left_after}
+use Rattle.request_files.specs.Faults.{Before, Located, before_file}
+use Rattle.request_files.specs.InTurn.{AnswersUnread, AreReadCheckers, AreReadSources, AreReadFiles}
+use Rattle.request_files.specs.Reading.{Agree, AreSoundFrom, AreSound, IsTurn, FailedAt, FaultyAt, at_first}
+use Rattle.request_files.specs.Telling.{may_hold}
 use Rattle.request_files.specs.Turns.{CheckerFile, SourceFile, Kind, Turn, numbered, turns}
 use Rattle.request_files.specs.Views.{located_of, words_of}
 use Rattle.request_files.specs.declared.fault.LocatedFault.{LocatedFault}
 use Rattle.request_files.specs.declared.unread.Unread.{Unread}
 use Rattle.request_files.specs.declared.unread.Unread.TheVariants as unread
-use Rattle.request_files.proofs.Turns.{machines-grow}
 
-agree-front : (told : List ℕ → Option (List ℕ)) (ts us : List Turn) (bs : List (List ℕ)) → Agree told ts bs → Agree told (ts ++ us) bs
-agree-front told [] [] [] h = tt
-agree-front told [] (u ∷ us) [] h = tt
-agree-front told (t ∷ ts) us [] h = tt
-agree-front told [] us (b ∷ bs) h = absurd h
-agree-front told (t ∷ ts) us (b ∷ bs) h = (h.0, agree-front told ts us bs h.1)
+module _ (Holds : List ℕ → List ℕ → Type 0) where
+  agree-front : (ts us : List Turn) (bs : List (List ℕ)) → Agree Holds ts bs → Agree Holds (ts ++ us) bs
+  agree-front ts us [] h = tt
+  agree-front [] us (b ∷ bs) h = absurd h
+  agree-front (t ∷ ts) us (b ∷ bs) h = (h.0, agree-front ts us bs h.1)
 
-from-front : (Is : ℕ → Turn → List ℕ → Type 0) (left : ℕ) (ts us : List Turn) (bs : List (List ℕ)) → AreFrom Is left ts bs → AreFrom Is left (ts ++ us) bs
-from-front Is left [] [] [] h = tt
-from-front Is left [] (u ∷ us) [] h = tt
-from-front Is left (t ∷ ts) us [] h = tt
-from-front Is left [] us (b ∷ bs) h = absurd h
-from-front Is left (t ∷ ts) us (b ∷ bs) h = (h.0, from-front Is (left - length b) ts us bs h.1)
+  agree-both : (ts us : List Turn) (bs cs : List (List ℕ)) → length bs ≡ length ts → Agree Holds ts bs → Agree Holds us cs → Agree Holds (ts ++ us) (bs ++ cs)
+  agree-both [] us [] cs e h k = k
+  agree-both [] us (b ∷ bs) cs e h k = absurd h
+  agree-both (t ∷ ts) us [] cs e h k = absurd (omega (arith, e))
+  agree-both (t ∷ ts) us (b ∷ bs) cs e h k = (h.0, agree-both ts us bs cs (omega (arith, e)) h.1 k)
 
-agree-both : (told : List ℕ → Option (List ℕ)) (ts us : List Turn) (bs cs : List (List ℕ)) → length bs ≡ length ts → Agree told ts bs → Agree told us cs → Agree told (ts ++ us) (bs ++ cs)
-agree-both told [] us [] cs e h k = k
-agree-both told [] us (b ∷ bs) cs e h k = absurd h
-agree-both told (t ∷ ts) us [] cs e h k = absurd (omega (arith, e))
-agree-both told (t ∷ ts) us (b ∷ bs) cs e h k = (h.0, agree-both told ts us bs cs (omega (arith, e)) h.1 k)
+sound-front : (b end : Before) (ts us : List Turn) (bs : List (List ℕ)) → AreSoundFrom b ts bs end → AreSoundFrom b (ts ++ us) bs end
+sound-front b end ts us [] h = h
+sound-front b end [] us (x ∷ bs) h = absurd h
+sound-front b end (t ∷ ts) us (x ∷ bs) (next, i, h) = (next, i, sound-front next end ts us bs h)
 
-from-both : (Is : ℕ → Turn → List ℕ → Type 0) (left : ℕ) (ts us : List Turn) (bs cs : List (List ℕ)) → length bs ≡ length ts → AreFrom Is left ts bs → AreFrom Is (left_after left bs) us cs → AreFrom Is left (ts ++ us) (bs ++ cs)
-from-both Is left [] us [] cs e h k = k
-from-both Is left [] us (b ∷ bs) cs e h k = absurd h
-from-both Is left (t ∷ ts) us [] cs e h k = absurd (omega (arith, e))
-from-both Is left (t ∷ ts) us (b ∷ bs) cs e h k = (h.0, from-both Is (left - length b) ts us bs cs (omega (arith, e)) h.1 k)
-
-left-both : (left : ℕ) (bs cs : List (List ℕ)) → left_after left (bs ++ cs) ≡ left_after (left_after left bs) cs
-left-both left [] cs = refl
-left-both left (b ∷ bs) cs = left-both (left - length b) bs cs
+sound-both : (b middle end : Before) (ts us : List Turn) (bs cs : List (List ℕ)) → length bs ≡ length ts → AreSoundFrom b ts bs middle → AreSoundFrom middle us cs end → AreSoundFrom b (ts ++ us) (bs ++ cs) end
+sound-both b middle end [] us [] cs e h k = subst (λ (x : Before). AreSoundFrom x us cs end) h k
+sound-both b middle end [] us (x ∷ bs) cs e h k = absurd h
+sound-both b middle end (t ∷ ts) us [] cs e h k = absurd (omega (arith, e))
+sound-both b middle end (t ∷ ts) us (x ∷ bs) cs e (next, i, h) k = (next, i, sound-both next middle end ts us bs cs (omega (arith, e)) h k)
 
 here-front : (ts us : List Turn) (i : ℕ) (t : Turn) → slice_get ts i ≡ Some t → slice_get (ts ++ us) i ≡ Some t
 here-front [] us i t e = cc
@@ -64,109 +55,111 @@ here-within [] i t e = cc
 here-within (x ∷ ts) zero t e = omega arith
 here-within (x ∷ ts) (suc i) t e = let h = here-within ts i t e in omega (arith, h)
 
-module _ (told : List ℕ → Option (List ℕ)) (checkers sources : List (List ℕ)) where
+module _ (Holds : List ℕ → List ℕ → Type 0) (checkers sources : List (List ℕ)) where
   -- ---- what the reading of checkers came to
 
-  abbrev turn_front : (position : ℕ) → IsTurnFrom told total_limit (numbered CheckerFile 0 checkers) position → IsTurn told (turns checkers sources) position
+  abbrev turn_front : (position : ℕ) → IsTurn Holds at_first (numbered CheckerFile 0 checkers) position → IsTurn Holds at_first (turns checkers sources) position
   turn_front position t = record {
     contents = t.contents;
-    before = record { agree = agree-front told (numbered CheckerFile 0 checkers) (numbered SourceFile 0 sources) t.contents t.before.agree; sound = from-front IsSound total_limit (numbered CheckerFile 0 checkers) (numbered SourceFile 0 sources) t.contents t.before.sound };
+    here = t.here;
+    before = record {
+      agree = agree-front Holds (numbered CheckerFile 0 checkers) (numbered SourceFile 0 sources) t.contents t.before.agree;
+      sound = sound-front at_first t.here (numbered CheckerFile 0 checkers) (numbered SourceFile 0 sources) t.contents t.before.sound;
+    };
     count = t.count;
     turn = t.turn;
-    here = here-front (numbered CheckerFile 0 checkers) (numbered SourceFile 0 sources) position t.turn t.here;
+    is = here-front (numbered CheckerFile 0 checkers) (numbered SourceFile 0 sources) position t.turn t.is;
   }
 
-  pub unread_front : (old new : List (List ℕ)) (e : Unread) → AnswersUnread told total_limit (numbered CheckerFile 0 checkers) old new e → AnswersRequest told (turns checkers sources) old new e
+  pub unread_front : (old new : List (List ℕ)) (e : Unread) → AnswersUnread Holds at_first (numbered CheckerFile 0 checkers) old new e → AnswersUnread Holds at_first (turns checkers sources) old new e
   unread_front old new (unread.NotRead p) a = record { is_turn = turn_front p a.is_turn; grew = a.grew }
-  unread_front old new (unread.Faulty p l) a = (
-    record {
-      is_turn = turn_front p a.0.is_turn;
-      bytes = a.0.bytes;
-      stands = a.0.stands;
-      faulty = subst (λ n. HasFault n a.0.is_turn.turn a.0.bytes (located_of l)) a.0.is_turn.before.rest_is a.0.faulty;
-    },
-    a.1,
-  )
+  unread_front old new (unread.Faulty p l) a = (record { is_turn = turn_front p a.0.is_turn; bytes = a.0.bytes; holds = a.0.holds; faulty = a.0.faulty }, a.1)
   unread_front old new unread.NoMemory a = a
 
   -- ---- what the reading of C files behind them came to
 
-  module _ (names : List (List ℕ)) (machines : List Machine) (left : ℕ) (r : AreReadCheckers told total_limit checkers checkers names machines left) where
+  module _ (machines : List Machine) (middle : Before) (r : AreReadCheckers Holds at_first checkers checkers machines middle) where
     full : length r.contents ≡ length (numbered CheckerFile 0 checkers)
     full = r.count ∙ sym (numbered-length CheckerFile 0 checkers)
 
-    sound_both : (contents : List (List ℕ)) (rest : ℕ) → AreRead told left (numbered SourceFile 0 sources) contents rest → AreSound told (turns checkers sources) (r.contents ++ contents)
-    sound_both contents rest s = record {
-      agree = agree-both told (numbered CheckerFile 0 checkers) (numbered SourceFile 0 sources) r.contents contents full r.read.agree s.agree;
-      sound = from-both IsSound total_limit (numbered CheckerFile 0 checkers) (numbered SourceFile 0 sources) r.contents contents full r.read.sound
-          (subst (λ n. AreFrom IsSound n (numbered SourceFile 0 sources) contents) r.read.rest_is s.sound);
+    sound_both : (contents : List (List ℕ)) (end : Before) → AreSound Holds middle (numbered SourceFile 0 sources) contents end → AreSound Holds at_first (turns checkers sources) (r.contents ++ contents) end
+    sound_both contents end s = record {
+      agree = agree-both Holds (numbered CheckerFile 0 checkers) (numbered SourceFile 0 sources) r.contents contents full r.read.agree s.agree;
+      sound = sound-both at_first middle end (numbered CheckerFile 0 checkers) (numbered SourceFile 0 sources) r.contents contents full r.read.sound s.sound;
     }
 
-    abbrev turn_behind : (position : ℕ) → IsTurnFrom told left (numbered SourceFile 0 sources) position → IsTurn told (turns checkers sources) (length checkers + position)
+    abbrev turn_behind : (position : ℕ) → IsTurn Holds middle (numbered SourceFile 0 sources) position → IsTurn Holds at_first (turns checkers sources) (length checkers + position)
     turn_behind position t = record {
       contents = r.contents ++ t.contents;
-      before = sound_both t.contents t.rest t.before;
+      here = t.here;
+      before = sound_both t.contents t.here t.before;
       count = omega (arith, r.count, t.count, length-append r.contents t.contents);
       turn = t.turn;
-      here = ap (λ n. slice_get (turns checkers sources) (n + position)) (sym (numbered-length CheckerFile 0 checkers)) ∙ here-behind (numbered CheckerFile 0 checkers) (numbered SourceFile 0 sources) position t.turn t.here;
+      is = ap (λ n. slice_get (turns checkers sources) (n + position)) (sym (numbered-length CheckerFile 0 checkers)) ∙ here-behind (numbered CheckerFile 0 checkers) (numbered SourceFile 0 sources) position t.turn t.is;
     }
 
-    pub failed_behind : (position : ℕ) (old mid new : List (List ℕ)) → mid ≡ old → FailedFrom told left (numbered SourceFile 0 sources) mid new position → FailedAt told (turns checkers sources) old new (length checkers + position)
+    pub failed_behind : (position : ℕ) (old mid new : List (List ℕ)) → mid ≡ old → FailedAt Holds middle (numbered SourceFile 0 sources) mid new position
+        → FailedAt Holds at_first (turns checkers sources) old new (length checkers + position)
     failed_behind position old mid new e f = record { is_turn = turn_behind position f.is_turn; grew = f.grew ∙ ap (λ l. l ++ f.is_turn.turn.word ∷ []) e }
 
-    pub faulty_behind : (position : ℕ) (fault : Located) → FaultyFrom told left (numbered SourceFile 0 sources) position fault → FaultyAt told (turns checkers sources) (length checkers + position) fault
-    faulty_behind position fault f =
-        let same : f.is_turn.rest ≡ left_after total_limit (r.contents ++ f.is_turn.contents) =
-        f.is_turn.before.rest_is ∙ ap (λ n. left_after n f.is_turn.contents) r.read.rest_is ∙ sym (left-both total_limit r.contents f.is_turn.contents) in
-        record { is_turn = turn_behind position f.is_turn; bytes = f.bytes; stands = f.stands; faulty = subst (λ n. HasFault n f.is_turn.turn f.bytes fault) same f.faulty }
+    pub faulty_behind : (position : ℕ) (fault : Located) → FaultyAt Holds middle (numbered SourceFile 0 sources) position fault → FaultyAt Holds at_first (turns checkers sources) (length checkers + position) fault
+    faulty_behind position fault f = record { is_turn = turn_behind position f.is_turn; bytes = f.bytes; holds = f.holds; faulty = f.faulty }
 
-    pub all_read : (grown : List (List ℕ)) (texts : List Text) (rest : ℕ) → AreFirst names grown → AreReadSources told left sources sources grown texts rest → AreReadFiles told checkers sources grown machines texts
-    all_read grown texts rest g s = record {
+    pub all_read : (texts : List Text) (end : Before) → AreReadSources Holds middle sources sources texts end → AreReadFiles Holds checkers sources end.names machines texts
+    all_read texts end s = record {
       checker_contents = r.contents;
       source_contents = s.contents;
-      sound = sound_both s.contents rest s.read;
-      machines_are = machines-grow names grown g checkers r.contents machines r.have;
+      end = end;
+      sound = sound_both s.contents end s.read;
+      between = middle.names;
+      machines_are = r.have;
       texts_are = s.have;
     }
 
-  -- the position of a file whose turn it is
-  pub turn_within : (left position : ℕ) → IsTurnFrom told left (numbered SourceFile 0 sources) position → position < length sources
-  turn_within left position t = let h = here-within (numbered SourceFile 0 sources) position t.turn t.here in omega (arith, h, numbered-length SourceFile 0 sources)
+-- the position of a file whose turn it is
+turn_within : (Holds : List ℕ → List ℕ → Type 0) (b : Before) (sources : List (List ℕ)) (position : ℕ) → IsTurn Holds b (numbered SourceFile 0 sources) position → position < length sources
+turn_within Holds b sources position t = let h = here-within (numbered SourceFile 0 sources) position t.turn t.is in omega (arith, h, numbered-length SourceFile 0 sources)
 
 sources_length : (ws : List (Bor (List ℕ))) → length (words_of ws) ≡ length ws
 sources_length [] = refl
 sources_length (w ∷ ws) = ap suc (sources_length ws)
 
-module _ (told : List ℕ → Option (List ℕ)) (sources : List (Bor (List ℕ))) (left : ℕ) (old new : List (List ℕ)) (e : Unread) (position : ℕ) where
+module _ (Holds : List ℕ → List ℕ → Type 0) (b : Before) (sources : List (Bor (List ℕ))) (old new : List (List ℕ)) (e : Unread) (position : ℕ) where
   -- the position of a C file that wasn't read
-  pub position_failed : e ≡ unread.NotRead position → AnswersUnread told left (numbered SourceFile 0 (words_of sources)) old new e → position < length sources
+  pub position_failed : e ≡ unread.NotRead position → AnswersUnread Holds b (numbered SourceFile 0 (words_of sources)) old new e → position < length sources
   position_failed is a =
-      let f : FailedFrom told left (numbered SourceFile 0 (words_of sources)) old new position = subst (AnswersUnread told left (numbered SourceFile 0 (words_of sources)) old new) is a in
-      let h = turn_within told [] (words_of sources) left position f.is_turn in
+      let f : FailedAt Holds b (numbered SourceFile 0 (words_of sources)) old new position = subst (AnswersUnread Holds b (numbered SourceFile 0 (words_of sources)) old new) is a in
+      let h = turn_within Holds b (words_of sources) position f.is_turn in
       omega (arith, h, sources_length sources)
 
   -- and of one with a fault
-  pub position_faulty : (l : LocatedFault) → e ≡ unread.Faulty position l → AnswersUnread told left (numbered SourceFile 0 (words_of sources)) old new e → position < length sources
+  pub position_faulty : (l : LocatedFault) → e ≡ unread.Faulty position l → AnswersUnread Holds b (numbered SourceFile 0 (words_of sources)) old new e → position < length sources
   position_faulty l is a =
-      let f : FaultyFrom told left (numbered SourceFile 0 (words_of sources)) position (located_of l) × (new ≡ old) = subst (AnswersUnread told left (numbered SourceFile 0 (words_of sources)) old new) is a in
-      let h = turn_within told [] (words_of sources) left position f.0.is_turn in
+      let f : FaultyAt Holds b (numbered SourceFile 0 (words_of sources)) position (located_of l) × (new ≡ old) = subst (AnswersUnread Holds b (numbered SourceFile 0 (words_of sources)) old new) is a in
+      let h = turn_within Holds b (words_of sources) position f.0.is_turn in
       omega (arith, h, sources_length sources)
 
-module _ (told at : List ℕ → Option (List ℕ)) (checkers sources : List (Bor (List ℕ))) (names : List (List ℕ)) (machines : List Machine) (left : ℕ)
-    (r : AreReadCheckers told total_limit (words_of checkers) (words_of checkers) names machines left) (same : at ≡ told)
-    (old mid new : List (List ℕ)) (none : mid ≡ old) (e : Unread) (a : AnswersUnread at left (numbered SourceFile 0 (words_of sources)) mid new e) (position : ℕ) where
-  answers : (u : Unread) → e ≡ u → AnswersUnread told left (numbered SourceFile 0 (words_of sources)) mid new u
-  answers u is = subst (AnswersUnread told left (numbered SourceFile 0 (words_of sources)) mid new) is (subst (λ t. AnswersUnread t left (numbered SourceFile 0 (words_of sources)) mid new e) same a)
+-- names that stand before no file
+pub at_the_first : (P : Before → Type 0) (left : ℕ) (names : List (List ℕ)) → names ≡ [] → P (before_file left names) → P (before_file left [])
+at_the_first P left names fresh h = subst (λ ns. P (before_file left ns)) fresh h
 
-  pub failed_at_behind : e ≡ unread.NotRead position → FailedAt told (turns (words_of checkers) (words_of sources)) old new (length checkers + position)
+module _ (told at : List ℕ → Option (List ℕ)) (checkers sources : List (Bor (List ℕ))) (machines : List Machine) (middle : Before)
+    (r : AreReadCheckers (may_hold told) at_first (words_of checkers) (words_of checkers) machines middle) (same : at ≡ told)
+    (old mid new : List (List ℕ)) (none : mid ≡ old) (e : Unread) (a : AnswersUnread (may_hold at) middle (numbered SourceFile 0 (words_of sources)) mid new e) (position : ℕ) where
+  answers : (u : Unread) → e ≡ u → AnswersUnread (may_hold told) middle (numbered SourceFile 0 (words_of sources)) mid new u
+  answers u is =
+      subst (AnswersUnread (may_hold told) middle (numbered SourceFile 0 (words_of sources)) mid new) is
+      (subst (λ (t : List ℕ → Option (List ℕ)). AnswersUnread (may_hold t) middle (numbered SourceFile 0 (words_of sources)) mid new e) same a)
+
+  pub failed_at_behind : e ≡ unread.NotRead position → FailedAt (may_hold told) at_first (turns (words_of checkers) (words_of sources)) old new (length checkers + position)
   failed_at_behind is =
-      subst (λ n. FailedAt told (turns (words_of checkers) (words_of sources)) old new (n + position)) (sources_length checkers)
-      (failed_behind told (words_of checkers) (words_of sources) names machines left r position old mid new none (answers (unread.NotRead position) is))
+      subst (λ n. FailedAt (may_hold told) at_first (turns (words_of checkers) (words_of sources)) old new (n + position)) (sources_length checkers)
+      (failed_behind (may_hold told) (words_of checkers) (words_of sources) machines middle r position old mid new none (answers (unread.NotRead position) is))
 
-  pub faulty_at_behind : (l : LocatedFault) → e ≡ unread.Faulty position l → FaultyAt told (turns (words_of checkers) (words_of sources)) (length checkers + position) (located_of l) × (new ≡ old)
+  pub faulty_at_behind : (l : LocatedFault) → e ≡ unread.Faulty position l → FaultyAt (may_hold told) at_first (turns (words_of checkers) (words_of sources)) (length checkers + position) (located_of l) × (new ≡ old)
   faulty_at_behind l is =
-      let b = answers (unread.Faulty position l) is in (
-        subst (λ n. FaultyAt told (turns (words_of checkers) (words_of sources)) (n + position) (located_of l)) (sources_length checkers)
-            (faulty_behind told (words_of checkers) (words_of sources) names machines left r position (located_of l) b.0),
-        b.1 ∙ none,
+      let x = answers (unread.Faulty position l) is in (
+        subst (λ n. FaultyAt (may_hold told) at_first (turns (words_of checkers) (words_of sources)) (n + position) (located_of l)) (sources_length checkers)
+            (faulty_behind (may_hold told) (words_of checkers) (words_of sources) machines middle r position (located_of l) x.0),
+        x.1 ∙ none,
       )

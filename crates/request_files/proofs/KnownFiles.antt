@@ -14,7 +14,7 @@ use Rattle.request_files.specs.declared.front_end.fault.Fault.{Fault}
 use Rattle.request_files.specs.declared.front_end.fault.Fault.TheVariants.{Syntax}
 use Rattle.request_files.specs.declared.front_end.fault.Faulty.{Faulty}
 use Rattle.request_files.specs.FrontEnd.Faults.{of_typing, place_of}
-use Rattle.request_files.specs.FrontEnd.Sources.{AreTokensOf, HasNoTrees, HasNoTypes, stands_at}
+use Rattle.request_files.specs.FrontEnd.Sources.{HasNoTrees, HasNoTypes, stands_at}
 use Rattle.request_files.specs.Faults.{without_dropped, HasNoUnitAt}
 use Rattle.request_files.specs.Stages.{IsNamed, AreNamed, AreKnown}
 

@@ -1,7 +1,9 @@
 pub mod Turns
+pub mod Lexed
 pub mod Meanings
 pub mod Faults
 pub mod Reading
+pub mod Telling
 pub mod Views
 pub mod Stages
 pub mod InTurn

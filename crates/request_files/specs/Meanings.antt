@@ -1,63 +1,52 @@
--- WHAT FILES MEAN: a checker's is a machine, a C file's a text, under a table of names.
-use Rattle.std.specs.Prelude.{◌≡◌, ◌+◌, ℕ, List, [], ◌∷◌, ◌++◌}
-use Rattle.mx_base.specs.Names.{HasNoRepeats}
+-- WHAT FILES MEAN: a checker's is a machine, a C file's a text. The names before a file are given, and those behind it follow.
+use Rattle.std.specs.Prelude.{◌≡◌, ◌+◌, ℕ, List, [], ◌∷◌}
+use Rattle.c_lexer.specs.declared.c_reading.mode.Mode.TheVariants.{C, Metal}
 use Rattle.c_lexer.specs.CReading.Strip.{stripped}
 use Rattle.c_lexer.specs.Tokens.{TokenList}
-use Rattle.type_rules.specs.Unit.{IsTyping}
-use Rattle.metal_reader.specs.CheckerFrontEnd.Checkers.{IsChecker}
+use Rattle.c_tree.specs.Symbol.{symbols_of}
+use Rattle.type_rules.specs.Unit.{table_by}
 use Rattle.typed_unit.specs.Texts.{Text}
-use Rattle.request_files.specs.FrontEnd.Sources.{AreTokensOf, AreTypedTrees}
+use Rattle.request_files.specs.FrontEnd.Sources.{AreTypedTrees}
+use Rattle.metal_grammar.specs.Words.{Spelling}
+use Rattle.metal_grammar.specs.Definition.{IsMachine}
 use Rattle.metal_tree.specs.MetalMachines.Machine.{Machine}
 use Rattle.request_files.specs.Turns.{Kind, CheckerFile, SourceFile}
+use Rattle.request_files.specs.Lexed.{AreTokensOf}
+use Rattle.metal_written.specs.Strings.{with_strings}
 
 -- the bytes of the C file with this number are the text
-pub record IsSource (number : ℕ) (word : List ℕ) (names : List (List ℕ)) (bytes : List ℕ) (t : Text) : Type 0 where
+pub record IsSource (number : ℕ) (word : List ℕ) (before names : List (List ℕ)) (bytes : List ℕ) (t : Text) : Type 0 where
   pub list : TokenList
-  pub tokens : AreTokensOf number word names bytes list
+  pub tokens : AreTokensOf C number word before names bytes list
   pub kept : t.tokens ≡ stripped list.all
   pub typed : AreTypedTrees (stripped list.all) t.trees
-  pub typing : IsTyping t.trees t.table
+  pub table : t.table ≡ table_by t.trees
 
--- the names that a file was read with are the first of all names
-pub record AreFirst (front names : List (List ℕ)) : Type 0 where
-  pub more : List (List ℕ)
-  pub whole : names ≡ front ++ more
+-- the bytes of the checker with this number have these tokens; behind their names come the contents of their strings
+pub record AreCheckerTokens (number : ℕ) (word : List ℕ) (before names : Spelling) (bytes : List ℕ) (list : TokenList) : Type 0 where
+  pub read : Spelling
+  pub tokens : AreTokensOf Metal number word before read bytes list
+  pub named : names ≡ with_strings read (symbols_of list.all)
 
--- the files of these words have these machines
-pub record HasMachine (names : List (List ℕ)) (word bytes : List ℕ) (machine : Machine) : Type 0 where
-  pub front : List (List ℕ)
-  pub first : AreFirst front names
-  pub checker : IsChecker word front bytes machine
+-- and are this machine
+pub record IsChecker (number : ℕ) (word : List ℕ) (before names : Spelling) (bytes : List ℕ) (machine : Machine) : Type 0 where
+  pub list : TokenList
+  pub tokens : AreCheckerTokens number word before names bytes list
+  pub is_machine : IsMachine names (symbols_of list.all) machine
 
-abbrev pub HaveMachines : List (List ℕ) → List (List ℕ) → List (List ℕ) → List Machine → Type 0
-HaveMachines names [] [] [] = Unit {0}
-HaveMachines names (word ∷ words) (b ∷ bs) (m ∷ ms) = HasMachine names word b m × HaveMachines names words bs ms
-HaveMachines names _ _ _ = ⊥
+-- these checkers, of which the first has this number, have these machines; the names behind each are those before the next
+abbrev pub HaveMachines : ℕ → Spelling → Spelling → List (List ℕ) → List (List ℕ) → List Machine → Type 0
+HaveMachines number before names [] [] [] = names ≡ before
+HaveMachines number before names (word ∷ words) (b ∷ bs) (m ∷ ms) = (middle : Spelling) × IsChecker number word before middle b m × HaveMachines (number + 1) middle names words bs ms
+HaveMachines number before names _ _ _ = ⊥
 
--- the files of these words have these texts
-pub record HasText (names : List (List ℕ)) (number : ℕ) (word bytes : List ℕ) (t : Text) : Type 0 where
-  pub front : List (List ℕ)
-  pub first : AreFirst front names
-  pub source : IsSource number word front bytes t
+-- these C files have these texts
+abbrev pub HaveTexts : ℕ → List (List ℕ) → List (List ℕ) → List (List ℕ) → List (List ℕ) → List Text → Type 0
+HaveTexts number before names [] [] [] = names ≡ before
+HaveTexts number before names (word ∷ words) (b ∷ bs) (t ∷ ts) = (middle : List (List ℕ)) × IsSource number word before middle b t × HaveTexts (number + 1) middle names words bs ts
+HaveTexts number before names _ _ _ = ⊥
 
-abbrev pub HaveTexts : List (List ℕ) → ℕ → List (List ℕ) → List (List ℕ) → List Text → Type 0
-HaveTexts names number [] [] [] = Unit {0}
-HaveTexts names number (word ∷ words) (b ∷ bs) (t ∷ ts) = HasText names number word b t × HaveTexts names (number + 1) words bs ts
-HaveTexts names number _ _ _ = ⊥
-
--- A FILE WITHOUT FAULT: under some table of names it has a machine, or a text
-pub record IsFineChecker (word bytes : List ℕ) : Type 0 where
-  pub names : List (List ℕ)
-  pub distinct : HasNoRepeats names
-  pub machine : Machine
-  pub is : IsChecker word names bytes machine
-
-pub record IsFineSource (number : ℕ) (word bytes : List ℕ) : Type 0 where
-  pub names : List (List ℕ)
-  pub distinct : HasNoRepeats names
-  pub text : Text
-  pub is : IsSource number word names bytes text
-
-abbrev pub IsFine : Kind → ℕ → List ℕ → List ℕ → Type 0
-IsFine CheckerFile number word bytes = IsFineChecker word bytes
-IsFine SourceFile number word bytes = IsFineSource number word bytes
+-- A FILE WITHOUT FAULT has a machine, or a text
+abbrev pub IsFine : Kind → ℕ → List ℕ → List (List ℕ) → List (List ℕ) → List ℕ → Type 0
+IsFine CheckerFile number word before names bytes = (m : Machine) × IsChecker number word before names bytes m
+IsFine SourceFile number word before names bytes = (t : Text) × IsSource number word before names bytes t

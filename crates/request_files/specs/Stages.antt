@@ -2,7 +2,6 @@
 use Rattle.std.specs.Prelude.{◌≡◌, ℕ, ◌≤◌, ◌<◌, min, List, [], ◌∷◌, ◌++◌, length, slice_get, Option, Some, Result, Ok, Err, Vec}
 use Rattle.c_lexer.specs.Tokens.{TokenList}
 use Rattle.c_tree.specs.declared.token.Token.{Token}
-use Rattle.metal_reader.specs.CheckerFrontEnd.Checkers.{IsChecker}
 use Rattle.metal_reader.specs.declared.checker_front_end.fault.Faulty as found_in_checker
 use Rattle.metal_reader.specs.declared.checker_front_end.fault.Refusal as checker_refusal
 use Rattle.metal_reader.specs.declared.checker_front_end.fault.Refusal.TheVariants as checker_refusals
@@ -12,8 +11,8 @@ use Rattle.request_files.specs.declared.front_end.fault.Refusal as text_refusal
 use Rattle.request_files.specs.declared.front_end.fault.Refusal.TheVariants as text_refusals
 use Rattle.metal_tree.specs.MetalMachines.Machine.{Machine}
 use Rattle.mx_io.specs.Reads.{Stands}
-use Rattle.request_files.specs.Faults.{HasFault, HasNoUnitAt, at_start, file_limit}
-use Rattle.request_files.specs.Meanings.{IsSource}
+use Rattle.request_files.specs.Faults.{Before, HasFault, HasNoUnitAt, at_start, file_limit}
+use Rattle.request_files.specs.Meanings.{IsChecker, IsSource}
 use Rattle.request_files.specs.Turns.{Turn}
 use Rattle.request_files.specs.Views.{located_of}
 use Rattle.request_files.specs.declared.fault.Fault.{Fault}
@@ -94,16 +93,16 @@ HasNoUnit names list (stops.Faulty l) = (found : found_in_text.Faulty) × IsLoca
 HasNoUnit names list stops.NoMemory = Unit {0}
 
 -- why the bytes of a file gave nothing
-abbrev pub IsUnread : Turn → List ℕ → Stopped → Type 0
-IsUnread t bytes stops.NotRead = ⊥
-IsUnread t bytes (stops.Faulty l) = HasFault (length bytes) t bytes (located_of l)
-IsUnread t bytes stops.NoMemory = Unit {0}
+abbrev pub IsUnread : Before → Turn → List ℕ → Stopped → Type 0
+IsUnread b t bytes stops.NotRead = ⊥
+IsUnread b t bytes (stops.Faulty l) = HasFault b t bytes (located_of l)
+IsUnread b t bytes stops.NoMemory = Unit {0}
 
--- why a file gave nothing, of which so many bytes may come
-abbrev pub AnswersStopped : Option (List ℕ) → ℕ → Turn → Stopped → Type 0
-AnswersStopped told left t stops.NotRead = Unit {0}
-AnswersStopped told left t (stops.Faulty l) = (bytes : List ℕ) × Stands told bytes × HasFault left t bytes (located_of l)
-AnswersStopped told left t stops.NoMemory = Unit {0}
+-- why a file gave nothing
+abbrev pub AnswersStopped : Option (List ℕ) → Before → Turn → Stopped → Type 0
+AnswersStopped told b t stops.NotRead = Unit {0}
+AnswersStopped told b t (stops.Faulty l) = (bytes : List ℕ) × Stands told bytes × HasFault b t bytes (located_of l)
+AnswersStopped told b t stops.NoMemory = Unit {0}
 
 -- the names whose reads failed, after a file that gave nothing
 abbrev pub failed_after_stop : List (List ℕ) → List ℕ → Stopped → List (List ℕ)
@@ -111,18 +110,18 @@ failed_after_stop failed name stops.NotRead = failed ++ name ∷ []
 failed_after_stop failed name (stops.Faulty l) = failed
 failed_after_stop failed name stops.NoMemory = failed
 
--- bytes that a checker's file can hold, and their machine
-pub record HasLoadedChecker (told : Option (List ℕ)) (left : ℕ) (names : List (List ℕ)) (word : List ℕ) (size : ℕ) (machine : Machine) : Type 0 where
+-- bytes that a checker's file can hold, their machine, and the names behind it
+pub record HasLoadedChecker (told : Option (List ℕ)) (b : Before) (number : ℕ) (names : List (List ℕ)) (word : List ℕ) (size : ℕ) (machine : Machine) : Type 0 where
   pub bytes : List ℕ
   pub stands : Stands told bytes
   pub sized : length bytes ≡ size
-  pub fits : length bytes ≤ min file_limit left
-  pub checker : IsChecker word names bytes machine
+  pub fits : length bytes ≤ min file_limit b.left
+  pub checker : IsChecker number word b.names names bytes machine
 
--- bytes that a C file can hold, and their text
-pub record HasLoadedSource (told : Option (List ℕ)) (left number : ℕ) (names : List (List ℕ)) (word : List ℕ) (size : ℕ) (text : Text) : Type 0 where
+-- bytes that a C file can hold, their text, and the names behind it
+pub record HasLoadedSource (told : Option (List ℕ)) (b : Before) (number : ℕ) (names : List (List ℕ)) (word : List ℕ) (size : ℕ) (text : Text) : Type 0 where
   pub bytes : List ℕ
   pub stands : Stands told bytes
   pub sized : length bytes ≡ size
-  pub fits : length bytes ≤ min file_limit left
-  pub source : IsSource number word names bytes text
+  pub fits : length bytes ≤ min file_limit b.left
+  pub source : IsSource number word b.names names bytes text

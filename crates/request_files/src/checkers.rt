@@ -2,13 +2,14 @@
 
 ghost use Rattle.std.specs.Prelude.{◌≡◌, ◌≤◌, ◌^◌, ◌+◌, ◌*◌, ℕ, Some, length, slice_get, IfOk, IfErr, OnOk};
 ghost use Rattle.mx_base.specs.Names.{AddsAtMost, HasNoRepeats};
-ghost use Rattle.metal_reader.specs.CheckerFrontEnd.Checkers.{IsChecker};
 ghost use Rattle.metal_numbers.specs.MetalBuilding.Places.{HasPlaces};
 ghost use Rattle.metal_tree.specs.Whole.{machine_view};
 ghost use Rattle.metal_tree.specs.declared.machine.Machine.{Machine as MachineValue};
 ghost use Rattle.request_files.specs.InTurn.{AnswersUnread, AreReadCheckers};
-ghost use Rattle.request_files.specs.Meanings.{AreFirst};
+ghost use Rattle.request_files.specs.Faults.{before_file};
+ghost use Rattle.request_files.specs.Meanings.{IsChecker};
 ghost use Rattle.request_files.specs.Stages.{AnswersStopped, HasLoadedChecker, IsUnread, failed_after_stop};
+ghost use Rattle.request_files.specs.Telling.{may_hold};
 ghost use Rattle.request_files.specs.Turns.{CheckerFile, checker_turn, numbered};
 ghost use Rattle.request_files.specs.Views.{machines_of, words_of};
 
@@ -43,9 +44,9 @@ fn read_machine<'a>(
 ) -> Result<Machine<'a>, Stopped>
     requires size { length bytes.now ≤ 16777216 }
     requires room { length names.old ≤ 2 ^ 30 }
-    ensures ok { IfOk result (λ m. IsChecker word.now names.new bytes.now (machine_view m)) }
+    ensures ok { IfOk result (λ m. IsChecker number word.now names.old names.new bytes.now (machine_view m)) }
     ensures places { IfOk result (λ m. HasPlaces number m.rules.now) }
-    ensures stopped { IfErr result (λ e. IsUnread (checker_turn number word.now) bytes.now e) }
+    ensures stopped { IfErr result (λ e. IsUnread (before_file (length bytes.now) names.old) (checker_turn number word.now) bytes.now e) }
     ensures adds { AddsAtMost names.old names.new (2 * length bytes.now + 1) }
     ensures distinct { HasNoRepeats names.new }
 {
@@ -73,9 +74,9 @@ pub(crate) fn load_checker<'a, F: Files>(
 ) -> Result<LoadedChecker<'a>, Stopped>
     requires left { left ≤ 33554432 }
     requires room { length names.old ≤ 2 ^ 30 }
-    ensures ok { IfOk result (λ l. HasLoadedChecker (F.contents files.old word.now) left names.new word.now l.size (machine_view l.machine)) }
+    ensures ok { IfOk result (λ l. HasLoadedChecker (F.contents files.old word.now) (before_file left names.old) number names.new word.now l.size (machine_view l.machine)) }
     ensures places { IfOk result (λ l. HasPlaces number l.machine.rules.now) }
-    ensures stopped { IfErr result (λ e. AnswersStopped (F.contents files.old word.now) left (checker_turn number word.now) e) }
+    ensures stopped { IfErr result (λ e. AnswersStopped (F.contents files.old word.now) (before_file left names.old) (checker_turn number word.now) e) }
     ensures adds { IfOk result (λ l. AddsAtMost names.old names.new (2 * l.size + 1)) }
     ensures distinct { OnOk result (HasNoRepeats names.new) }
     ensures none_failed { IfOk result (λ l. F.failed files.new ≡ F.failed files.old) }
@@ -105,7 +106,7 @@ pub struct CheckersRead<'a> {
 /// Reads the checkers of these words, of which at most `left` bytes may come, and judges each before the next is read.
 ///
 /// Trees stand in the arena, and the tokens of each checker in a place of its own. Each byte of a file adds at most two names, and
-/// its word one.
+/// its word one: which names stand behind them follows from the bytes.
 pub fn read_checkers<'a, F: Files>(
     arena: &'a Bump,
     alloc: Global,
@@ -119,14 +120,13 @@ pub fn read_checkers<'a, F: Files>(
     requires few { length words.now ≤ 65535 }
     requires enough { length words.now ≤ length places.old }
     requires room { length names.old ≤ 2 ^ 28 }
-    ensures read { IfOk result (λ r. AreReadCheckers (F.contents files.old) left (words_of words.now) (words_of words.now) names.new (machines_of r.machines.items) r.left) }
+    ensures read { IfOk result (λ r. AreReadCheckers (may_hold (F.contents files.old)) (before_file left names.old) (words_of words.now) (words_of words.now) (machines_of r.machines.items) (before_file r.left names.new)) }
     ensures places { IfOk result (λ r. (i : ℕ) (m : MachineValue) → slice_get r.machines.items i ≡ Some m → HasPlaces i m.rules.now) }
-    ensures unread { IfErr result (λ e. AnswersUnread (F.contents files.old) left (numbered CheckerFile 0 (words_of words.now)) (F.failed files.old) (F.failed files.new) e) }
+    ensures unread { IfErr result (λ e. AnswersUnread (may_hold (F.contents files.old)) (before_file left names.old) (numbered CheckerFile 0 (words_of words.now)) (F.failed files.old) (F.failed files.new) e) }
     ensures none_failed { IfOk result (λ r. F.failed files.new ≡ F.failed files.old) }
     ensures same { F.contents files.new ≡ F.contents files.old }
     ensures left { IfOk result (λ r. r.left ≤ left) }
     ensures room { IfOk result (λ r. length names.new + 2 * r.left ≤ length names.old + 2 * left + length words.now) }
-    ensures first { IfOk result (λ r. AreFirst names.old names.new) }
     ensures distinct { OnOk result (HasNoRepeats names.new) }
 {
     let mut machines = Vec::new(alloc);

@@ -1,14 +1,19 @@
 //! The files of a request: read, and judged by themselves, each before the next is read.
 #![tactic(auto)]
 
-mod checkers;
-mod fault;
+// one file, read and judged
 mod file;
 pub mod front_end;
-mod request;
-mod sources;
+
+// why files are refused
+mod fault;
 mod stopped;
 mod unread;
+
+// all files of a request
+mod checkers;
+mod request;
+mod sources;
 
 pub use checkers::{CheckersRead, read_checkers};
 pub use fault::{Fault, LocatedFault};

@@ -4,11 +4,13 @@ ghost use Rattle.std.specs.Prelude.{◌≡◌, ◌≤◌, ◌^◌, ◌+◌, ◌*
 ghost use Rattle.mx_base.specs.Names.{AddsAtMost, HasNoRepeats};
 ghost use Rattle.c_lexer.specs.CReading.Strip.{stripped};
 ghost use Rattle.c_tree.specs.Views.{nodes_of};
-ghost use Rattle.type_rules.specs.Unit.{IsTyping};
+ghost use Rattle.type_rules.specs.Unit.{table_by};
+ghost use Rattle.request_files.specs.Faults.{before_file};
 ghost use Rattle.request_files.specs.FrontEnd.Sources.{AreTypedTrees};
 ghost use Rattle.request_files.specs.InTurn.{AnswersUnread, AreReadSources};
-ghost use Rattle.request_files.specs.Meanings.{AreFirst, IsSource};
+ghost use Rattle.request_files.specs.Meanings.{IsSource};
 ghost use Rattle.request_files.specs.Stages.{AnswersStopped, AreKnown, HasLoadedSource, HasNoUnit, IsUnread, failed_after_stop};
+ghost use Rattle.request_files.specs.Telling.{may_hold};
 ghost use Rattle.request_files.specs.Turns.{SourceFile, numbered, source_turn};
 ghost use Rattle.request_files.specs.Views.{text_of, texts_of, words_of};
 ghost use Rattle.typed_unit.specs.Tables.{table_of};
@@ -45,7 +47,7 @@ fn type_tokens<'a>(
     requires known { AreKnown names.now tokens.now }
     ensures tokens { IfOk result (λ u. u.unit.tokens.now ≡ stripped tokens.now.all) }
     ensures trees { IfOk result (λ u. AreTypedTrees (stripped tokens.now.all) (nodes_of u.unit.chunks)) }
-    ensures typing { IfOk result (λ u. IsTyping (nodes_of u.unit.chunks) (table_of u.table)) }
+    ensures table { IfOk result (λ u. table_of u.table ≡ table_by (nodes_of u.unit.chunks)) }
     ensures file { IfOk result (λ u. u.unit.file ≡ tokens.now.end.place.file) }
     ensures stopped { IfErr result (λ e. HasNoUnit names.now tokens.now e) }
 {
@@ -71,9 +73,9 @@ fn read_unit<'a>(
 ) -> Result<TypedUnit<'a>, Stopped>
     requires size { length bytes.now ≤ 16777216 }
     requires room { length names.old ≤ 2 ^ 30 }
-    ensures ok { IfOk result (λ u. IsSource number word.now names.new bytes.now (text_of u)) }
+    ensures ok { IfOk result (λ u. IsSource number word.now names.old names.new bytes.now (text_of u)) }
     ensures file { IfOk result (λ u. u.unit.file ≡ number) }
-    ensures stopped { IfErr result (λ e. IsUnread (source_turn number word.now) bytes.now e) }
+    ensures stopped { IfErr result (λ e. IsUnread (before_file (length bytes.now) names.old) (source_turn number word.now) bytes.now e) }
     ensures adds { AddsAtMost names.old names.new (length bytes.now + 1) }
     ensures distinct { HasNoRepeats names.new }
 {
@@ -100,9 +102,9 @@ pub(crate) fn load_source<'a, F: Files>(
 ) -> Result<LoadedSource<'a>, Stopped>
     requires left { left ≤ 33554432 }
     requires room { length names.old ≤ 2 ^ 30 }
-    ensures ok { IfOk result (λ l. HasLoadedSource (F.contents files.old word.now) left number names.new word.now l.size (text_of l.unit)) }
+    ensures ok { IfOk result (λ l. HasLoadedSource (F.contents files.old word.now) (before_file left names.old) number names.new word.now l.size (text_of l.unit)) }
     ensures file { IfOk result (λ l. l.unit.unit.file ≡ number) }
-    ensures stopped { IfErr result (λ e. AnswersStopped (F.contents files.old word.now) left (source_turn number word.now) e) }
+    ensures stopped { IfErr result (λ e. AnswersStopped (F.contents files.old word.now) (before_file left names.old) (source_turn number word.now) e) }
     ensures adds { IfOk result (λ l. AddsAtMost names.old names.new (l.size + 1)) }
     ensures distinct { OnOk result (HasNoRepeats names.new) }
     ensures none_failed { IfOk result (λ l. F.failed files.new ≡ F.failed files.old) }
@@ -132,7 +134,7 @@ pub struct SourcesRead<'a> {
 /// Reads the C files of these words, of which at most `left` bytes may come, and judges each before the next is read.
 ///
 /// Trees stand in the arena, and the tokens that are kept of each file in a place of its own. Each byte of a file adds at most one
-/// name, and its word one.
+/// name, and its word one: which names stand behind them follows from the bytes.
 pub fn read_sources<'a, F: Files>(
     arena: &'a Bump,
     alloc: Global,
@@ -146,12 +148,11 @@ pub fn read_sources<'a, F: Files>(
     requires few { length words.now ≤ 65535 }
     requires enough { length words.now ≤ length places.old }
     requires room { length names.old ≤ 2 ^ 28 }
-    ensures read { IfOk result (λ r. AreReadSources (F.contents files.old) left (words_of words.now) (words_of words.now) names.new (texts_of r.units.items) r.left) }
+    ensures read { IfOk result (λ r. AreReadSources (may_hold (F.contents files.old)) (before_file left names.old) (words_of words.now) (words_of words.now) (texts_of r.units.items) (before_file r.left names.new)) }
     ensures numbered { IfOk result (λ r. (i : ℕ) (u : UnitValue) → slice_get r.units.items i ≡ Some u → u.unit.file ≡ i) }
-    ensures unread { IfErr result (λ e. AnswersUnread (F.contents files.old) left (numbered SourceFile 0 (words_of words.now)) (F.failed files.old) (F.failed files.new) e) }
+    ensures unread { IfErr result (λ e. AnswersUnread (may_hold (F.contents files.old)) (before_file left names.old) (numbered SourceFile 0 (words_of words.now)) (F.failed files.old) (F.failed files.new) e) }
     ensures none_failed { IfOk result (λ r. F.failed files.new ≡ F.failed files.old) }
     ensures same { F.contents files.new ≡ F.contents files.old }
-    ensures first { IfOk result (λ r. AreFirst names.old names.new) }
     ensures distinct { OnOk result (HasNoRepeats names.new) }
 {
     let mut units = Vec::new(alloc);

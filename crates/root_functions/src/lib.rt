@@ -1,9 +1,12 @@
 //! The roots of a program under a checker: the calls that bodies evaluate, what leads where, and where paths begin.
 #![tactic(auto)]
 
+// calls, and roots of graphs
 mod call_sites;
-mod callees;
 mod graph_roots;
+
+// callees and roots of programs
+mod callees;
 mod root_list;
 
 pub use root_list::roots;

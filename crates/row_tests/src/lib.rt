@@ -1,12 +1,15 @@
 //! Tests of calls that no run shows: trees that are compared, copied and spelled, how operators bind, and the names in force.
 #![tactic(auto)]
 
-#[cfg(test)]
-mod binding;
+// texts and what is expected
 #[cfg(test)]
 mod expected;
 #[cfg(test)]
 mod texts;
+
+// tests of trees and names
+#[cfg(test)]
+mod binding;
 #[cfg(test)]
 mod trees;
 #[cfg(test)]

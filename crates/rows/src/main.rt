@@ -1,18 +1,30 @@
 //! Says what the front end makes of rows: each line of the input is a question about a text of C, and is written with its answer.
 #![tactic(auto)]
 
+// texts and words
+mod texts;
+mod words;
+
+// tokens
+mod lexed;
+mod signs;
+mod tokens;
+
+// events and traces of bodies
 mod bodies;
 mod events;
-mod expressions;
 mod facts;
+mod walks;
+
+// phrases and typed trees
+mod expressions;
 mod found;
 mod phrases;
-mod questions;
 mod related;
-mod texts;
 mod typed;
-mod walks;
-mod words;
+
+// questions of rows
+mod questions;
 
 use crate::questions::answer;
 use std::alloc::{AllocError, Global};

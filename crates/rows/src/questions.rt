@@ -2,11 +2,12 @@
 
 use crate::bodies::traces_of_text;
 use crate::expressions::said_of;
+use crate::lexed::{Listed, said_of_blanks, said_of_tokens};
 use crate::phrases::{Phrase, is_read};
 use crate::related::{Relation, related};
 use crate::typed::{Question, said_in};
 use c_expr::Form;
-use c_lexer::LexFault;
+use c_lexer::{LexFault, Mode};
 use std::alloc::Global;
 use std::str::from_utf8;
 
@@ -66,6 +67,19 @@ fn limit_of(asked: &str) -> Option<usize> {
     }
 }
 
+/// What a question asks of tokens: in which mode they are read, whether only those that a parser takes, and what is listed.
+fn asked_of_tokens(asked: &str) -> Option<(Mode, bool, Listed)> {
+    match asked {
+        "tokens" => Some((Mode::C, false, Listed::Kinds)),
+        "tokens of a checker" => Some((Mode::Metal, false, Listed::Kinds)),
+        "places" => Some((Mode::C, false, Listed::Places)),
+        "kept tokens" => Some((Mode::C, true, Listed::Kinds)),
+        "kept places" => Some((Mode::C, true, Listed::Places)),
+        "chunks" => Some((Mode::C, true, Listed::Chunks)),
+        _ => None,
+    }
+}
+
 /// A truth in words.
 fn say_truth(alloc: Global, holds: bool) -> Result<String, LexFault> {
     Ok(String::from_str(alloc, if holds { "yes" } else { "no" })?)
@@ -90,8 +104,16 @@ fn say_of_unit(alloc: Global, asked: &str, text: &str) -> Result<String, LexFaul
     }
 }
 
-/// The answer to a question about a text.
-fn answer_to(alloc: Global, asked: &str, text: &str) -> Result<String, LexFault> {
+/// What is said of blanks, whose number is written.
+fn say_of_blanks(alloc: Global, number: &str) -> Result<String, LexFault> {
+    match number.parse::<usize>() {
+        Ok(count) => said_of_blanks(alloc, count),
+        Err(_) => Ok(String::from_str(alloc, "no number")?),
+    }
+}
+
+/// The answer to a question about a text behind its tokens.
+fn answer_behind_tokens(alloc: Global, asked: &str, text: &str) -> Result<String, LexFault> {
     if let Some(phrase) = phrase_of(asked) {
         return say_truth(alloc, is_read(alloc, phrase, text.as_bytes())?);
     }
@@ -104,6 +126,17 @@ fn answer_to(alloc: Global, asked: &str, text: &str) -> Result<String, LexFault>
     match limit_of(asked) {
         Some(limit) => say_traces(alloc, text, limit),
         None => say_of_unit(alloc, asked, text),
+    }
+}
+
+/// The answer to a question about a text.
+fn answer_to(alloc: Global, asked: &str, text: &str) -> Result<String, LexFault> {
+    if asked == "blanks" {
+        return say_of_blanks(alloc, text);
+    }
+    match asked_of_tokens(asked) {
+        Some((mode, is_kept, listed)) => said_of_tokens(alloc, mode, is_kept, text, listed),
+        None => answer_behind_tokens(alloc, asked, text),
     }
 }
 

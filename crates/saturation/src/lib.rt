@@ -2,10 +2,13 @@
 //! reports of one checker.
 #![tactic(auto)]
 
-mod analysis;
-mod checked_programs;
+// path edges and their reports
 mod edge_reports;
 mod tabulation_engine;
+
+// reports of a checker
+mod analysis;
+mod checked_programs;
 
 pub use analysis::analyse;
 pub use edge_reports::shown;

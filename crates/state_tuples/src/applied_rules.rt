@@ -6,5 +6,7 @@ mod bound;
 mod choices;
 mod matching;
 mod rules;
+mod sources;
 
 pub use rules::EventRules;
+pub use sources::RuleSources;

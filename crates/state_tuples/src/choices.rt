@@ -17,13 +17,10 @@ use crate::rule_choices::{Asked, Fired, first_rule};
 use crate::targets::is_exit;
 use flow_graph::Event;
 use hole_matcher::Setting;
-use metal_tree::Machine;
+use metal_tree::{Machine, STOP};
 use objects::Object;
 use type_values::Var;
 use typed_unit::TypedUnit;
-
-/// The number of the global state `stop`, which nothing leaves.
-pub const STOP: u16 = 1;
 
 // Whether an object's path goes from a variable of a block with automatic storage (ISO 9899:1990, 6.1.2.4).
 fn is_local(object: &Object) -> bool

@@ -2,18 +2,25 @@
 //! the states behind the rule; the same of all rules that apply at an event, matched once; and the report of a rule that is taken.
 #![tactic(auto)]
 
-mod alternatives;
-mod applied_rules;
-mod bound;
-mod choices;
+// tuples and frames
 mod frame;
-mod rule_choices;
-mod steps;
-mod targets;
-mod transition_reports;
 mod tuple;
 
-pub use applied_rules::EventRules;
+// alternatives, bindings and targets
+mod alternatives;
+mod bound;
+mod targets;
+
+// choices of rules
+mod applied_rules;
+mod choices;
+mod rule_choices;
+
+// steps and reports
+mod steps;
+mod transition_reports;
+
+pub use applied_rules::{EventRules, RuleSources};
 pub use choices::{fired, fired_global};
 pub use frame::Frame;
 pub use rule_choices::Fired;

@@ -1,10 +1,13 @@
 //! Trees and types of a unit as matching sees them: level by level, and whether two are equal.
 #![tactic(auto, using(c_tree::proofs::Rows::nodes_out, c_tree::proofs::Rows::nodes_roll, crate::proofs::TreeLevels::Apart::heads_apart))]
 
-mod comparison;
+// levels of trees, and types
 mod matched_types;
-mod same_heads;
 mod tree_levels;
+
+// equal heads and trees
+mod comparison;
+mod same_heads;
 
 pub use comparison::{same_arguments, same_subject};
 pub use matched_types::{is_named_type, is_written_type};

@@ -2,10 +2,13 @@
 //! their parts stand.
 #![tactic(auto)]
 
+// functions and typed nodes
 mod functions;
 mod table;
-mod token_search;
 mod typed_unit;
+
+// places in a unit
+mod token_search;
 mod unit_places;
 
 pub use functions::TypedFunction;

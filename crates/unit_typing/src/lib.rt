@@ -1,28 +1,39 @@
 //! Types the trees of a C unit.
 #![tactic(auto)]
 
-mod checks;
-mod declarators;
-mod declared;
+// lists and entries
 mod entries;
-mod faults;
-mod functions;
 mod items;
-mod members;
-mod mentions;
-mod names;
 mod number_stack;
-mod operands;
 mod positions;
-mod roles;
+
+// names, tags and structures in force
+mod members;
+mod names;
 mod scopes;
-mod specified;
-mod statics;
-mod storage;
 mod structs;
 mod tags;
-mod units;
+
+// storage and faults
+mod faults;
+mod statics;
+mod storage;
+
+// what declarations say
+mod declarators;
+mod declared;
+mod mentions;
+mod specified;
+
+// nodes and their checks
+mod checks;
+mod operands;
+mod roles;
 mod visit;
+
+// functions and units
+mod functions;
+mod units;
 
 pub use faults::TypeFault;
 pub use units::type_unit;

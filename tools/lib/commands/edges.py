@@ -98,8 +98,8 @@ def collect(run_path):
     silenced = Silenced(telling.distinct(read_bytes(path) for path in asked["found"]), asked["checkers"], sources, asked["json"])
     reports = silenced.reports
     repeating = kept.read_json("programs/repeating") if asked["programs"] else []
-    said = telling.file_lines(sources, known) + telling.repeating_lines(repeating) + silenced.silencer.told()
-    said += telling.count_lines(sources, reports, known, silenced.silencer.counted())
+    said = telling.file_lines(sources, known) + telling.repeating_lines(repeating) + silenced.told()
+    said += telling.count_lines(sources, reports, known, silenced.counted())
     kept.write("unchecked.txt", "".join(line + "\n" for line in said).encode("utf-8", "replace"))
     kept.write("reports.txt", b"".join(silenced.written))
     kept.write("status", f"{telling.status(sources, reports, known)}\n".encode())

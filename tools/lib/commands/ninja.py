@@ -6,6 +6,8 @@ import shlex
 import shutil
 import sys
 
+from metalcheck import PROGRAM, TOOLS
+
 from . import kept, program, unread
 from .entries import base_name, entries
 from .words import program_options, readable_options
@@ -75,14 +77,15 @@ def whole(name):
 
 def program_files():
     """The files of metalcheck: the program that is named, and the built one where that is this repository's command."""
-    built = os.path.join(os.path.dirname(program.TOOLS), "crates", "metalcheck", "out", "metalcheck")
+    built = os.path.join(os.path.dirname(TOOLS), "crates", "metalcheck", "out", "metalcheck")
     own = not os.environ.get("METALCHECK") and os.path.exists(built)
-    return [whole(program.PROGRAM)] + ([built] if own else [])
+    return [whole(PROGRAM)] + ([built] if own else [])
 
 
 def readable_files():
     """The files of tools/readable."""
-    return [program.READABLE] + sorted(glob.glob(os.path.join(program.TOOLS, "lib", "readable", "**", "*.py"), recursive=True))
+    return [program.READABLE, os.path.join(TOOLS, "lib", "metalcheck.py"),
+            *sorted(glob.glob(os.path.join(TOOLS, "lib", "readable", "**", "*.py"), recursive=True))]
 
 
 def build(outputs, rule, inputs, implicit=(), order_only=(), **variables):
@@ -96,11 +99,11 @@ def build(outputs, rule, inputs, implicit=(), order_only=(), **variables):
 
 def rules(words, given):
     """The rules of the build file, with what they are to hand on."""
-    edge = ["env", "PYTHONPATH=" + os.path.join(program.TOOLS, "lib"), "METALCHECK=" + whole(program.PROGRAM), *program.PYTHON,
+    edge = ["env", "PYTHONPATH=" + os.path.join(TOOLS, "lib"), "METALCHECK=" + whole(PROGRAM), *program.PYTHON,
             "-m", "commands.edges"]
     checkers = [os.path.abspath(checker) for checker in words.checkers]
-    own = [os.path.join(program.TOOLS, "check_commands"), *given]
-    again = command(["cd", os.getcwd()]) + " && " + command(["env", "METALCHECK=" + whole(program.PROGRAM), *own])
+    own = [os.path.join(TOOLS, "check_commands"), *given]
+    again = command(["cd", os.getcwd()]) + " && " + command(["env", "METALCHECK=" + whole(PROGRAM), *own])
     return RULES.format(edge=command(edge), readable=command(readable_options(words)),
                         check=command([*program_options(words), *checkers]), write=again)
 

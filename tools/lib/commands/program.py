@@ -4,19 +4,20 @@ import subprocess
 import sys
 import tempfile
 
-TOOLS = os.path.dirname(os.path.dirname(os.path.dirname(os.path.realpath(__file__))))
-PROGRAM = os.environ.get("METALCHECK") or os.path.join(os.path.dirname(TOOLS), "metalcheck")
+from metalcheck import ANSWERS, PROGRAM, REFUSED, TOOLS, NoProgram, run_proved
+
 READABLE = os.path.join(TOOLS, "readable")
-REFUSED = 3
 # without what is installed beside the standard library, which takes longer to look for than all the rest of a start
 PYTHON = [sys.executable or "python3", "-S"]
 
 
 def run(words):
     """A run of metalcheck that answered: with reports, without, or with a refusal. Else this program ends with status 5."""
-    # many runs want the proved program: an unproved answer is compiled anew for each
-    done = subprocess.run([PROGRAM, *words], capture_output=True, env={**os.environ, "METALCHECK_UNPROVED": "no"})
-    if done.returncode not in (0, 1, REFUSED):
+    try:
+        done = run_proved(words)
+    except NoProgram as fault:
+        failed(str(fault), b"")
+    if done.returncode not in (*ANSWERS, REFUSED):
         failed(f"metalcheck ended with status {done.returncode}", done.stderr)
     return done
 
@@ -33,7 +34,7 @@ def run_readable(options, path, out):
     """What tools/readable says of a file, in lines, and whether it gave a text. If it does neither, this program ends with status 5."""
     words = [*PYTHON, READABLE, *options, path, "-o", out]
     done = subprocess.run(words, capture_output=True, env={**os.environ, "METALCHECK": PROGRAM})
-    if done.returncode not in (0, 1, REFUSED):
+    if done.returncode not in (*ANSWERS, REFUSED):
         failed(f"tools/readable ended with status {done.returncode}", done.stderr)
     return text(done.stderr).splitlines(), done.returncode != REFUSED
 

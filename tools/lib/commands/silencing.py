@@ -1,4 +1,5 @@
 """Takes out of the reports of a run those that comments in the sources silence."""
+from explain.names import path_of
 from silenced.silencer import Silencer, checker_names, with_reason
 
 
@@ -15,3 +16,11 @@ class Silenced:
                 self.written.append(line)
             elif as_json:
                 self.written.append((with_reason(line.decode("latin-1"), reason) + "\n").encode("ascii"))
+
+    def told(self):
+        """The lines that tell of comments, with the names of files as the system has them."""
+        return [path_of(line) for line in self.silencer.told()]
+
+    def counted(self):
+        """What the last line says of silenced reports."""
+        return self.silencer.counted()

@@ -71,7 +71,7 @@ def tell_reports(run):
     else:
         sys.stdout.buffer.writelines(run.silenced.written)
         sys.stdout.flush()
-    say(run.silenced.silencer.told() + telling.count_lines(run.sources, run.silenced.reports, run.known, run.silenced.silencer.counted()))
+    say(run.silenced.told() + telling.count_lines(run.sources, run.silenced.reports, run.known, run.silenced.counted()))
 
 
 def say(lines):

@@ -29,8 +29,13 @@ def read_words(given):
     """The words as they are asked for, or the end of the program with status 2."""
     made = parser()
     words = made.parse_args(given)
-    if any(not checker.endswith(".metal") for checker in words.checkers):
-        made.error("the names of checkers end in .metal")
+    for checker in words.checkers:
+        if not checker.endswith(".metal"):
+            made.error(f"{checker}: the names of checkers end in .metal, and the last word is the list of commands")
+        if not os.access(checker, os.R_OK) or os.path.isdir(checker):
+            made.error(f"{checker}: there is no such checker that can be read: mind the folder you are in")
+    if words.depth and not re.fullmatch("[0-8]", words.depth):
+        made.error(f"--depth {words.depth}: a depth is one digit from 0 to 8")
     if words.prune and not words.readable:
         made.error("--prune goes with --readable")
     if words.known_unread and not words.readable:

@@ -1,8 +1,9 @@
 """Runs metalcheck, hands on what it writes and its status, and says more on standard error."""
 import os
 import re
-import subprocess
 import sys
+
+from metalcheck import ANSWERS, NoProgram, run_awaited
 
 from . import c_files, checkers, words as command_words
 from .graphs import graph_of, rules_of
@@ -18,10 +19,14 @@ ENDS = {5: "not all could be written: is standard output closed, or the disk ful
         6: "there was no memory: run fewer files or checkers at a time, or with a smaller --depth (docs/COMMAND.md, Which depth)"}
 
 
+def as_bytes(lines):
+    """Lines as they are written: each character is a byte."""
+    return b"".join(line.encode("latin-1", "replace") + b"\n" for line in lines)
+
+
 def write(lines, out):
-    """Writes lines to a stream of bytes, each character a byte."""
-    for line in lines:
-        out.write(line.encode("latin-1", "replace") + b"\n")
+    """Writes lines to a stream of bytes."""
+    out.write(as_bytes(lines))
     out.flush()
 
 
@@ -102,29 +107,29 @@ def plain(line):
     return line.decode("latin-1").rstrip("\n")
 
 
-def explanation(run, words, kept=True):
+def explanation(done, words, kept=True):
     """The lines that explain how a run of these words ended: hints on its checkers, or why there is no answer."""
-    if run.returncode in (0, 1):
+    if done.returncode in ANSWERS:
         return hints(*files_among(words))
-    return why(run.returncode, run.stderr.decode("latin-1").rstrip("\n"), words, kept)
+    return why(done.returncode, done.stderr.decode("latin-1").rstrip("\n"), words, kept)
 
 
-def run_program(program, words):
+def run_program(words):
     """A run of metalcheck; where there is none, the end of this program with status 5."""
     try:
-        return subprocess.run([program, *words], capture_output=True, check=False)
-    except OSError as fault:
-        print(f"{program}: {fault.strerror}: METALCHECK names the program, or ./metalcheck builds it", file=sys.stderr)
+        return run_awaited(words)
+    except NoProgram as fault:
+        print(fault, file=sys.stderr)
         raise SystemExit(5) from fault
 
 
-def explain(program, words):
-    """Runs the program with these words, and gives its status."""
-    run = run_program(program, words)
-    show_reports(run.stdout.splitlines(keepends=True), files_among(words)[1])
-    sys.stderr.buffer.write(run.stderr)
-    write(explanation(run, words), sys.stderr.buffer)
-    return run.returncode
+def explain(words):
+    """Runs metalcheck with these words, and gives its status."""
+    done = run_program(words)
+    show_reports(done.stdout.splitlines(keepends=True), files_among(words)[1])
+    sys.stderr.buffer.write(done.stderr)
+    write(explanation(done, words), sys.stderr.buffer)
+    return done.returncode
 
 
 def drawn(path, draw):
@@ -143,10 +148,10 @@ def drawn(path, draw):
     return 0
 
 
-def main(program, usage):
+def main(usage):
     """The command: `--rules` and `--dot` with a checker, else words of metalcheck."""
     words = sys.argv[1:]
-    if not words or words[0] in ("-h", "--help"):
+    if not words or words in (["-h"], ["--help"]):
         print(usage.strip(), file=sys.stdout if words else sys.stderr)
         return 0 if words else 2
     if words[0] in ("--rules", "--dot"):
@@ -154,4 +159,4 @@ def main(program, usage):
             print(f"explain: {words[0]} wants one checker behind it, and nothing else", file=sys.stderr)
             return 2
         return drawn(words[1], rules_of if words[0] == "--rules" else graph_of)
-    return explain(program, words)
+    return explain(words)

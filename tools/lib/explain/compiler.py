@@ -1,9 +1,10 @@
 """What a C compiler says of the rows of a file: `cc`, or what CC names. Where there is none, nothing."""
 import os
 import re
-import shlex
 import subprocess
 from typing import NamedTuple
+
+import c_compiler
 
 WORDS = ["-fsyntax-only", "-std=gnu89", "-pedantic", "-Wdeclaration-after-statement", "-Wimplicit-int", "-Wold-style-definition",
          "-ftabstop=1", "-fno-diagnostics-show-option", "-x", "cpp-output", "-"]
@@ -53,9 +54,8 @@ class Said(NamedTuple):
 
 def complaints(plain):
     """What the compiler says of a text without marker lines, in its order."""
-    words = shlex.split(os.environ.get("CC") or "cc") + WORDS
     try:
-        run = subprocess.run(words, input=plain.encode("ascii", "replace"), capture_output=True, timeout=60, check=False,
+        run = subprocess.run(c_compiler.words() + WORDS, input=plain.encode("ascii", "replace"), capture_output=True, timeout=60, check=False,
                              env={**os.environ, "LC_ALL": "C"})
     except (OSError, subprocess.TimeoutExpired):
         return []
@@ -72,4 +72,4 @@ def of_syntax(said):
 def of_fault(said, name):
     """Of complaints those about this fault of names and types."""
     errors = [one for one in said if one.error]
-    return [one for one in errors if re.search(OF_TYPES[name], one.text)] or errors
+    return [one for one in errors if re.search(OF_TYPES.get(name, ""), one.text)] or errors

@@ -11,6 +11,8 @@ MACROS = {"NULL": "a test of a null pointer is the pattern { v }, and the consta
           "true": "write what it stands for in the preprocessed file, as 1",
           "false": "write what it stands for in the preprocessed file, as 0"}
 SHORTEST = 5
+WORD = re.compile(r"[A-Za-z_]\w*", re.A)
+OF_THE_SYSTEM = re.compile(r'(?m)^# \d+ "[^\n]*" (?:\d )*3\b[^\n]*\n(?:(?!# \d)[^\n]*(?:\n|\Z))*')
 
 
 def hints_of(machine, texts, alone=True):
@@ -18,14 +20,13 @@ def hints_of(machine, texts, alone=True):
 
     Of a checker that isn't alone in its run it isn't asked whether it begins anywhere, since of many some have nothing to do in a file.
     """
-    words = set()
-    for text in texts:
-        words.update(re.findall(r"[A-Za-z_]\w*", text, re.A))
+    words = {word for text in texts for word in WORD.findall(text)}
     if machine.fault or machine.bad_token:
         return []
     found = [*unreached(machine), *unleft(machine), *unused(machine), *no_branch(machine), *macros(machine, words)]
     if texts:
-        found += misspelt(machine, words)
+        own = {word for text in texts for word in WORD.findall(OF_THE_SYSTEM.sub("", text))}
+        found += [*misspelt(machine, words, own), *undeclared(machine, words)]
     if texts and alone:
         found += nothing_begins(machine, words)
     return sorted(found)
@@ -113,31 +114,61 @@ def macros(machine, words):
             yield places[0], f"{name} is a macro, and patterns see preprocessed code: {MACROS[name]}"
 
 
+def lacking(machine, rule, words):
+    """For each alternative of a rule the names that it calls and that aren't among the words, with the numbers of their tokens."""
+    return [[(at, name) for tree in patterns(alternative) for name, at in callees_of(machine, tree) if name not in words]
+            for alternative in rule.alternatives]
+
+
+def reached(machine, words):
+    """The states to which rules lead that can be taken over files with these words."""
+    steps = [(rule.source.name, {target.name for target in rule.targets}) for rule in machine.rules
+             if not all(lacking(machine, rule, words))]
+    found, more = set(), {("start",)}
+    while more - found:
+        found |= more
+        more = {target for source, targets in steps if source in found for target in targets}
+    return found
+
+
 def nothing_begins(machine, words):
     """A checker none of whose rules in start can be taken over these files."""
     missing = []
-    for alternative in (alternative for rule in machine.rules if rule.source.name == ("start",) for alternative in rule.alternatives):
-        lacking = [(at, name) for tree in patterns(alternative) for name, at in callees_of(machine, tree) if name not in words]
-        if not lacking:
+    for names in (names for rule in machine.rules if rule.source.name == ("start",) for names in lacking(machine, rule, words)):
+        if not names:
             return
-        missing += lacking
+        missing += names
     if missing:
         names = sorted({name for _, name in missing})
         yield missing[0][0], ("nothing can come of this checker here: of each rule in start a function stands in none of the C files "
                               f"({', '.join(names)})")
 
 
-def misspelt(machine, words):
-    """Names that are called in patterns, stand in none of the files, and are nearly a name that does."""
-    named, told = names_of(machine), set()
-    for tree in (tree for rule in machine.rules for alternative in rule.alternatives for tree in patterns(alternative)):
-        for name, at in callees_of(machine, tree):
-            if name in words or name in told or len(name) < SHORTEST:
+def misspelt(machine, words, own):
+    """Names that stand in none of the files, without which a rule can't be taken in a state that is reached, and that are nearly a name of
+    the program's own files."""
+    named, told, states = names_of(machine), set(), reached(machine, words)
+    for rule in (rule for rule in machine.rules if rule.source.name in states):
+        missing = lacking(machine, rule, words)
+        for at, name in (one for names in missing for one in names) if all(missing) else ():
+            if name in told or len(name) < SHORTEST:
                 continue
             told.add(name)
-            close = sorted(word for word in filter(partial(is_near, name), words) if word not in named)
+            close = sorted(word for word in filter(partial(is_near, name), own) if word not in named)
             if close:
                 yield at, f"{name} stands in none of the C files, and {' and '.join(close[:3])} does: is it misspelt?"
+
+
+def undeclared(machine, words):
+    """Names in patterns that are no holes and stand in none of the files, where all that the pattern calls does."""
+    told = set(MACROS)
+    for tree in (tree for rule in machine.rules for alternative in rule.alternatives for tree in patterns(alternative)):
+        called = dict(callees_of(machine, tree))
+        for it in names_in(tree) if words.issuperset(called) else ():
+            name = machine.spelled(it.at)
+            if not (name in machine.holes or name in called or name in words or name in told):
+                told.add(name)
+                yield it.at, f"{name} is no hole and stands in none of the C files: declare it, as by `decl any_expr {name};`"
 
 
 def is_near(one, other):

@@ -38,6 +38,8 @@ def files_of(words):
             return f"{name} stands twice", False
         seen.add(name)
         pattern, wanted = VALUES[name]
+        if not value:
+            return f"{name}: a value is wanted behind it, {wanted}", False
         if not re.fullmatch(pattern, value):
             return f"{name} {value}: the value is {wanted}", False
         at += 1

@@ -1,29 +1,27 @@
 """A run of `tools/check`: the files are preprocessed, metalcheck runs over all of them, and what it says is explained."""
 import os
-import shlex
 import subprocess
 import sys
 
+import c_compiler
 from commands.entries import preprocessing
-from commands.program import PROGRAM
-from explain.command import explanation, plain, run_program, show_reports, write
+from explain.command import as_bytes, explanation, plain, run_program, show_reports, write
+from metalcheck import ANSWERS
 from silenced.comments import commented_files
 from silenced.silencer import Silencer, checker_names
-
-COMPILER = os.environ.get("CC") or "cc"
 
 
 def preprocess(file, options, to):
     """Preprocesses a file; where that fails, the end of the program with what the compiler says."""
-    command = preprocessing({"arguments": [*shlex.split(COMPILER), *options, file]})
+    compiler = c_compiler.named()
     try:
-        done = subprocess.run(command, capture_output=True, check=False)
+        done = subprocess.run(preprocessing({"arguments": [*c_compiler.words(), *options, file]}), capture_output=True, check=False)
     except OSError as fault:
-        failed(f"{file} isn't preprocessed: {COMPILER}: {fault.strerror}: name a C compiler in CC")
+        failed(f"{file} isn't preprocessed: {compiler}: {fault.strerror}: name a C compiler in CC")
     if done.returncode != 0:
         sys.stderr.buffer.write(done.stderr)
-        failed(f"{file} isn't preprocessed ({COMPILER} ended with status {done.returncode}): give the options with which it is compiled, "
-               "as -I and -D, behind the files")
+        failed(f"{file} isn't preprocessed ({compiler} ended with status {done.returncode}): give the options with which it is compiled, as "
+               "-I and -D, behind the files")
     with open(to, "wb") as it:
         it.write(done.stdout)
 
@@ -50,13 +48,13 @@ def check(words, folder):
     """Takes all steps with this folder for the preprocessed files, and gives the status."""
     paths = preprocessed(words, folder)
     command = [*words.options, *words.checkers, *paths]
-    run = run_program(PROGRAM, command)
+    run = run_program(command)
     silencer = Silencer(checker_names(words.checkers), [one for path in paths for one in commented_files(path)])
     left = [line for line in run.stdout.splitlines(keepends=True) if silencer.keeps(plain(line))]
     show_reports(left, paths)
     sys.stderr.buffer.write(named(run.stderr, words.files, paths))
-    write(explanation(run, command, kept=False), sys.stderr.buffer)
-    if run.returncode not in (0, 1):
+    sys.stderr.buffer.write(named(as_bytes(explanation(run, command, kept=False)), words.files, paths))
+    if run.returncode not in ANSWERS:
         return run.returncode
     write([*silencer.told(), f"check: {len(left)} reports{silencer.counted()}"], sys.stderr.buffer)
     return 1 if left else 0

@@ -44,6 +44,8 @@ def front(given):
         options += given[at:at + taken]
         at += taken
     for checker in given[at:]:
+        if checker.startswith("-"):
+            wrong(f"{checker}: options stand before the checkers, and those of the compiler behind the C files")
         if not checker.endswith(".metal"):
             wrong(f"{checker}: before `--` stand checkers, whose names end in .metal; C files stand behind it")
         there(checker)
@@ -60,8 +62,20 @@ def back(given):
         if word.endswith(".c") and before not in WITH_VALUE:
             wrong(f"{word}: C files stand before the options of the compiler")
     for file in files:
+        is_source(file)
         there(file)
     return files, compiler
+
+
+def is_source(file):
+    """Ends the program where a name isn't that of a C file: a compiler would leave it out without a word, or read another language."""
+    end = os.path.splitext(file)[1]
+    if end == ".metal":
+        wrong(f"{file}: checkers stand before `--`")
+    if end.lower() in (".cc", ".cpp", ".cxx", ".c++") or end == ".C":
+        wrong(f"{file}: C++ isn't read")
+    if end not in (".c", ".h", ".i") and not os.path.isdir(file):
+        wrong(f"{file}: behind `--` stand C files, whose names end in .c, .h or .i, and then options of the compiler")
 
 
 def there(path):
@@ -70,3 +84,5 @@ def there(path):
         wrong(f"{path}: it is a folder: name the files in it")
     if not os.path.isfile(path):
         wrong(f"{path}: there is no such file: mind the folder you are in")
+    if not os.access(path, os.R_OK):
+        wrong(f"{path}: it can't be read: look at its rights")

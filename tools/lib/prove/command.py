@@ -1,5 +1,6 @@
 """The command ./prove: reads its words, proves, and leaves the program with its version beside it."""
 import argparse
+import hashlib
 import os
 import shutil
 import signal
@@ -30,14 +31,16 @@ def git(root, *words):
     return ran.stdout.strip() if ran.returncode == 0 else None
 
 
-def version(root, toolchain):
-    """The lines of VERSION: which commit was proved, when, and by which toolchain."""
+def version(root, toolchain, made):
+    """The lines of VERSION: which commit was proved, when, and by which toolchain; and the sum of the program, by which it is known again."""
     try:
         commit, changed = git(root, "rev-parse", "HEAD"), git(root, "status", "--porcelain", "--", "crates", "crates.txt")
     except OSError:
         commit, changed = None, None
     what = f"{commit or 'unknown'}{' and changes that are not committed' if commit and changed else ''}"
-    return f"commit {what}\ndate {time.strftime('%Y-%m-%d %H:%M UTC', time.gmtime())}\ntoolchain {toolchain.version()}\n"
+    with open(made, "rb") as file:
+        own = hashlib.sha256(file.read()).hexdigest()
+    return f"commit {what}\ndate {time.strftime('%Y-%m-%d %H:%M UTC', time.gmtime())}\ntoolchain {toolchain.version()}\nsha256 {own}\n"
 
 
 def leave(made, to, text):
@@ -65,7 +68,8 @@ def prove(root, lanes, to):
         say("the program is not made")
         return 1
     to = to or os.path.join(root, "crates", graph.top, "out", graph.top)
-    leave(kept.made(graph.top), to, version(root, toolchain))
+    made = kept.made(graph.top)
+    leave(made, to, version(root, toolchain, made))
     kept.forget_old()
     say(f"{to} is proved, with all {len(graph.order) - 1} crates below it")
     return 0

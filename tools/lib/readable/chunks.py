@@ -11,7 +11,8 @@ WHOLE, PROTOTYPE, TRIMMED, GONE = "whole", "prototype", "trimmed", "gone"
 CLEANUP = {"cleanup", "__cleanup__"}
 MOST_OLD_PARAMETERS = 40
 PARTNER = {")": "(", "]": "[", "}": "{"}
-BREAKING = OPENING | CLOSING | {";"}
+BRACKETS = OPENING | CLOSING
+BREAKING = BRACKETS | {";"}
 # what may need a look, in spellings with one blank between; it is found too often rather than not
 HINT = re.compile(
     r"\b(?:" + "|".join(sorted(FOREIGN)) + r")\b|\( \{|[,{] [.[]|\? :|[^,(] \.\.\.|[^\w)\]\"'] && \w|\b0[xX][0-9a-fA-F.]*[pP]|\b0[bB][01]"
@@ -62,12 +63,12 @@ class Source:
     def _unbalanced(self):
         """The first bracket without a partner of its kind, in words, or nothing."""
         waiting = []
-        for i, text in enumerate(self.texts):
+        for i in [k for k, text in enumerate(self.texts) if text in BRACKETS]:
+            text = self.texts[i]
             if text in OPENING:
                 waiting.append(i)
-            elif text in CLOSING:
-                if not waiting or self.texts[waiting.pop()] != PARTNER[text]:
-                    return self._without_partner(i)
+            elif not waiting or self.texts[waiting.pop()] != PARTNER[text]:
+                return self._without_partner(i)
         return self._without_partner(waiting[-1]) if waiting else None
 
     def _without_partner(self, i):
@@ -95,9 +96,10 @@ class Source:
             return chunk.tokens
         return self.own_tokens(chunk)
 
-    def own_tokens(self, chunk):
-        """The tokens of a chunk as it came."""
-        return [Token(text, at) for text, at in zip(self.own_texts(chunk), self.starts[chunk.first:chunk.behind])]
+    def own_tokens(self, chunk, behind=None):
+        """The tokens of a chunk as it came, up to an index of the text where one is given."""
+        within = slice(chunk.first, chunk.behind if behind is None else behind)
+        return list(map(Token, self.texts[within], self.starts[within]))
 
     def own_texts(self, chunk):
         """The spellings of a chunk as it came."""

@@ -1,5 +1,5 @@
 """Cutting: a function becomes its prototype, a declaration loses its initial values, and what still isn't read goes."""
-from .chunks import DECLARATION, GONE, OLD_STYLE, PROTOTYPE, TRIMMED, WHOLE
+from .chunks import DECLARATION, FUNCTION, GONE, OLD_STYLE, PROTOTYPE, TRIMMED, WHOLE
 from .foreign import forms
 from .rewriting.initials import without_values
 from .tokens import Token, partners
@@ -19,6 +19,8 @@ def head(tokens):
 
 def prototype(source, chunk):
     """The tokens of a function's prototype, or None where it has no head."""
+    if chunk.kind == FUNCTION and chunk.tokens is None:
+        return source.own_tokens(chunk, chunk.body) + [Token(";", source.starts[chunk.body])]
     tokens = source.tokens(chunk)
     if chunk.kind == OLD_STYLE and chunk.tokens is None:
         return old_prototype(tokens)

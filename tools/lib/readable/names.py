@@ -1,5 +1,6 @@
 """What a text declares at file scope, read from the shape of its declarations: names of types, and the types of plain variables."""
 from .chunks import DECLARATION
+from .members import Members
 from .words import CLOSING, OPENING, QUALIFIERS, STORAGE, TAGGED, TYPE_WORDS, WORD, is_name
 
 BUILT_IN = {"__builtin_va_list", "__int128_t", "__uint128_t"}
@@ -7,11 +8,31 @@ LONGEST_VARIABLE = 60
 
 
 class Names:
-    """The names that are types, and for plain variables of the file the words and stars of their types, and whether they are arrays."""
+    """The names that are types, those that are numbers among them, and for plain variables of the file the words and stars of their types,
+    and whether they are arrays."""
 
-    def __init__(self, types=(), variables=None):
-        self.types = set(types) | BUILT_IN
-        self.variables = variables or {}
+    def __init__(self, source):
+        self.source = source
+        self.types, self.numbers, self.variables = set(BUILT_IN), set(), {}
+        self._members = self._chunks = None
+
+    def member(self, words, name):
+        """The same of a member of the struct or union with these words, or None."""
+        if self._members is None:
+            self._members = Members(self.source, self)
+        return self._members.of(words, name)
+
+    def returned(self, name):
+        """The same of what a function gives back, or None."""
+        if self._chunks is None:
+            self._chunks = {chunk.name: chunk for chunk in self.source.chunks}
+        texts = self.source.own_texts(self._chunks[name]) if name in self._chunks else ["", ""]
+        k, words = 0, []
+        while texts[k] in STORAGE or self.is_specifier(texts, k):
+            words += [texts[k]] if texts[k] not in STORAGE and texts[k] not in QUALIFIERS else []
+            k += 1
+        named = behind_stars(texts, k)
+        return (words, texts[k:named].count("*"), False) if words and texts[named:named + 2] == [name, "("] else None
 
     def is_type(self, text):
         """Whether a word begins or continues a type name, `typeof` and the like apart."""
@@ -24,16 +45,26 @@ class Names:
 
 def names_of(source):
     """What the chunks of a text declare."""
-    found = Names()
+    found = Names(source)
     for chunk in source.chunks:
         if source.texts[chunk.first] == "typedef":
-            found.types |= typedef_names(source.own_texts(chunk))
+            texts = source.own_texts(chunk)
+            found.types |= typedef_names(texts)
+            if is_of_number(texts[1:-2], found.numbers):
+                found.numbers.add(texts[-2])
     for chunk in source.chunks:
         if chunk.kind == DECLARATION and chunk.behind - chunk.first <= LONGEST_VARIABLE:
             variable = plain_variable(source.own_texts(chunk), found)
             if variable is not None:
                 found.variables[variable[0]] = variable[1:]
     return found
+
+
+def is_of_number(texts, numbers):
+    """Whether the words between `typedef` and its one name are those of a number."""
+    if not texts or texts == ["void"]:
+        return False
+    return all(text in TYPE_WORDS and text not in TAGGED or text in QUALIFIERS or text in numbers for text in texts)
 
 
 def typedef_names(texts):

@@ -2,13 +2,10 @@
 
 Such a line stands between two marker lines, so that the places of what follows stay. What was moved keeps its line and column too."""
 import bisect
-import re
 
 from .chunks import GONE, WHOLE
 from .places import marker
 from .tokens import NOWHERE, spellings
-
-NOT_A_FEED = re.compile(r"[^\n]")
 
 
 def written(source):
@@ -26,28 +23,33 @@ def written(source):
 
 def chunk_text(source, chunk):
     """What stands in place of a chunk that was changed or cut."""
-    canvas = blanked(source, chunk.begin, chunk.end)
+    blank = blanked(source, chunk.begin, chunk.end)
     if chunk.state == GONE:
-        return "".join(canvas)
+        return blank
     standing, last = in_order(source, chunk)
-    breaks = painted(canvas, standing, chunk.begin)
-    if last:
-        breaks.append((len(canvas), last))
+    used = standing[-1][0].at + len(standing[-1][0].text) - chunk.begin if standing else 0
+    canvas = list(blank[:used])
     pieces, done = [], 0
-    for at, tokens in breaks:
+    for at, tokens in painted(canvas, standing, chunk.begin):
         pieces += ["".join(canvas[done:at]), own_lines(source, chunk.begin + at, tokens)]
         done = at
-    return "".join(pieces + canvas[done:])
+    pieces += ["".join(canvas[done:]), blank[used:]]
+    return "".join(pieces + ([own_lines(source, chunk.end, last)] if last else []))
 
 
 def blanked(source, begin, end):
-    """The characters between two positions as blanks, but for line feeds and marker lines."""
-    canvas = list(NOT_A_FEED.sub(" ", source.text[begin:end]))
-    for start, stop, line in source.lines[bisect.bisect_left(source.line_starts, begin):]:
-        if start >= end:
-            break
-        canvas[start - begin:stop - begin] = list(line)
-    return canvas
+    """What stands between two positions as blanks, but for line feeds and marker lines."""
+    pieces, done = [], begin
+    for k in range(bisect.bisect_left(source.line_starts, begin), bisect.bisect_left(source.line_starts, end)):
+        start, stop, line = source.lines[k]
+        pieces += [blanks(source.text[done:start]), line]
+        done = stop
+    return "".join(pieces) + blanks(source.text[done:end])
+
+
+def blanks(text):
+    """Blanks in place of a text, but for its line feeds."""
+    return "\n".join(" " * len(line) for line in text.split("\n"))
 
 
 def in_order(source, chunk):

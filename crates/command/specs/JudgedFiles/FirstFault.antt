@@ -1,30 +1,30 @@
 -- THE FIRST FAULT of a request, and why its files gave no reports.
-use Rattle.std.specs.Prelude.{◌≡◌, ◌⊎◌, ℕ, List, Option}
+use Rattle.std.specs.Prelude.{◌≡◌, ◌⊎◌, ℕ, List}
 use Rattle.typed_unit.specs.Texts.{Text}
 use Rattle.command.specs.JudgedFiles.Judged.{AreAllSound}
 use Rattle.command.specs.JudgedFiles.Linking.{AreUnlinked, HaveLinkFault}
 use Rattle.command.specs.declared.judged_files.unjudged.Unjudged.{Unjudged}
 use Rattle.command.specs.declared.judged_files.unjudged.Unjudged.TheVariants.{NotRead, Faulty, NoMemory}
 use Rattle.request_files.specs.Faults.{Located}
-use Rattle.request_files.specs.Reading.{FailedAt, FaultyAt}
+use Rattle.request_files.specs.Reading.{FailedAt, FaultyAt, at_first}
 use Rattle.request_files.specs.Turns.{turns}
 use Rattle.request_files.specs.Views.{located_of}
 
 -- all files were read and none has a fault of its own, and linking has this one
-pub record HaveLinkFaultAt (told : List ℕ → Option (List ℕ)) (checkers sources : List (List ℕ)) (l : Located) : Type 0 where
+pub record HaveLinkFaultAt (Holds : List ℕ → List ℕ → Type 0) (checkers sources : List (List ℕ)) (l : Located) : Type 0 where
   pub contents : List (List ℕ)
-  pub sound : AreAllSound told checkers sources contents
+  pub sound : AreAllSound Holds checkers sources contents
   pub fault : HaveLinkFault checkers sources contents l
 
 -- the fault is that of a file, where those before it were read and have none; else that of linking
-abbrev pub IsFirstFault : (List ℕ → Option (List ℕ)) → List (List ℕ) → List (List ℕ) → Located → Type 0
-IsFirstFault told checkers sources l = ((position : ℕ) × FaultyAt told (turns checkers sources) position l) ⊎ HaveLinkFaultAt told checkers sources l
+abbrev pub IsFirstFault : (List ℕ → List ℕ → Type 0) → List (List ℕ) → List (List ℕ) → Located → Type 0
+IsFirstFault Holds checkers sources l = ((position : ℕ) × FaultyAt Holds at_first (turns checkers sources) position l) ⊎ HaveLinkFaultAt Holds checkers sources l
 
 -- why the files of a request gave no reports, and which reads failed
-abbrev pub AnswersUnjudged : (List ℕ → Option (List ℕ)) → List (List ℕ) → List (List ℕ) → List (List ℕ) → List (List ℕ) → Unjudged → Type 0
-AnswersUnjudged told checkers sources old new (NotRead position) = FailedAt told (turns checkers sources) old new position
-AnswersUnjudged told checkers sources old new (Faulty l) = IsFirstFault told checkers sources (located_of l) × (new ≡ old)
-AnswersUnjudged told checkers sources old new NoMemory = new ≡ old
+abbrev pub AnswersUnjudged : (List ℕ → List ℕ → Type 0) → List (List ℕ) → List (List ℕ) → List (List ℕ) → List (List ℕ) → Unjudged → Type 0
+AnswersUnjudged Holds checkers sources old new (NotRead position) = FailedAt Holds at_first (turns checkers sources) old new position
+AnswersUnjudged Holds checkers sources old new (Faulty l) = IsFirstFault Holds checkers sources (located_of l) × (new ≡ old)
+AnswersUnjudged Holds checkers sources old new NoMemory = new ≡ old
 
 -- why typed units gave no reports
 abbrev pub AnswersUnlinked : List (List ℕ) → List Text → Unjudged → Type 0

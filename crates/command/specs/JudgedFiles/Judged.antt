@@ -1,7 +1,6 @@
 -- WHAT THE FILES OF A REQUEST MEAN: the reports of its checkers over its C files. The contents of all files stand in one list, those of
 -- the checkers first.
-use Rattle.std.specs.Prelude.{◌≡◌, ℕ, ◌+◌, List, ◌++◌, length, Option, None}
-use Rattle.mx_base.specs.Names.{HasNoRepeats}
+use Rattle.std.specs.Prelude.{◌≡◌, ℕ, ◌+◌, List, [], ◌++◌, length, None}
 use Rattle.path_model.specs.CheckerPrograms.Reported.{AreReports}
 use Rattle.path_model.specs.CheckerPrograms.Texts.{functions_in}
 use Rattle.typed_unit.specs.Texts.{Text}
@@ -9,20 +8,21 @@ use Rattle.command.specs.CheckerReports.Checkers.{checkers_in}
 use Rattle.metal_tree.specs.MetalMachines.Machine.{Machine}
 use Rattle.call_graph.specs.OfPrograms.Repeats.{link_fault}
 use Rattle.report_model.specs.declared.report.Report.{Report}
+use Rattle.request_files.specs.Faults.{Before}
 use Rattle.request_files.specs.Meanings.{HaveMachines, HaveTexts}
-use Rattle.request_files.specs.Reading.{AreSound}
+use Rattle.request_files.specs.Reading.{AreSound, at_first}
 use Rattle.request_files.specs.Turns.{turns}
 
--- under this table of names the checkers with these words and contents have these machines, and the C files these texts
+-- the checkers with these words and contents have these machines, the C files these texts, and these are the names behind all
 pub record HaveMeanings (checkers sources contents names : List (List ℕ)) (machines : List Machine) (texts : List Text) : Type 0 where
   pub checker_contents : List (List ℕ)
   pub source_contents : List (List ℕ)
   pub whole : contents ≡ checker_contents ++ source_contents
-  pub distinct : HasNoRepeats names
-  pub machines_are : HaveMachines names checkers checker_contents machines
-  pub texts_are : HaveTexts names 0 sources source_contents texts
+  pub between : List (List ℕ)
+  pub machines_are : HaveMachines 0 [] between checkers checker_contents machines
+  pub texts_are : HaveTexts 0 between names sources source_contents texts
 
--- under some table of names the C files have texts that can be linked, since no two bodies clash
+-- the C files have texts that can be linked, since no two bodies clash
 pub record AreLinked (checkers sources contents : List (List ℕ)) : Type 0 where
   pub names : List (List ℕ)
   pub machines : List Machine
@@ -40,12 +40,13 @@ pub record AreJudged (checkers sources contents : List (List ℕ)) (depth : ℕ)
   pub reports_are : ∥ AreReports (checkers_in machines depth names) texts reports ∥₁
 
 -- all files of a request were read, hold these bytes, and have no fault of their own
-pub record AreAllSound (told : List ℕ → Option (List ℕ)) (checkers sources contents : List (List ℕ)) : Type 0 where
-  pub sound : AreSound told (turns checkers sources) contents
+pub record AreAllSound (Holds : List ℕ → List ℕ → Type 0) (checkers sources contents : List (List ℕ)) : Type 0 where
+  pub end : Before
+  pub sound : AreSound Holds at_first (turns checkers sources) contents end
   pub count : length contents ≡ length checkers + length sources
 
 -- all files of a request were read, none has a fault, they can be linked, and these are their reports
-pub record AreAccepted (told : List ℕ → Option (List ℕ)) (checkers sources : List (List ℕ)) (depth : ℕ) (reports : List Report) : Type 0 where
+pub record AreAccepted (Holds : List ℕ → List ℕ → Type 0) (checkers sources : List (List ℕ)) (depth : ℕ) (reports : List Report) : Type 0 where
   pub contents : List (List ℕ)
-  pub sound : AreAllSound told checkers sources contents
+  pub sound : AreAllSound Holds checkers sources contents
   pub judged : AreJudged checkers sources contents depth reports

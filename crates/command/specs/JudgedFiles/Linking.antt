@@ -29,7 +29,7 @@ pub record AreUnlinked (names : List (List ℕ)) (texts : List Text) (l : Locate
   pub fault_is : l.fault ≡ DuplicateFunction
   pub there : IsWhere names texts place l.file l.line
 
--- under some table of names the C files have such texts
+-- the C files have such texts
 pub record HaveLinkFault (checkers sources contents : List (List ℕ)) (l : Located) : Type 0 where
   pub names : List (List ℕ)
   pub machines : List Machine

@@ -1,6 +1,6 @@
 //! The reports of the files of a request.
 
-ghost use Rattle.std.specs.Prelude.{◌≡◌, ◌≤◌, ◌<◌, ◌^◌, ℕ, Contains, IfOk, IfErr, OnOk, None, Some, length, map, slice_get};
+ghost use Rattle.std.specs.Prelude.{◌≡◌, ◌≤◌, ◌<◌, ◌^◌, [], ℕ, Contains, IfOk, IfErr, OnOk, None, Some, length, map, slice_get};
 ghost use Rattle.type_rules.specs.Functions.{Defined};
 ghost use Rattle.path_model.specs.CheckerPrograms.Reported.{AreReports};
 ghost use Rattle.path_model.specs.CheckerPrograms.Texts.{functions_in};
@@ -10,6 +10,7 @@ ghost use Rattle.command.specs.JudgedFiles.Judged.{AreAccepted};
 ghost use Rattle.command.specs.JudgedFiles.Linking.{HaveToken};
 ghost use Rattle.metal_tree.specs.Whole.{machine_view};
 ghost use Rattle.call_graph.specs.OfPrograms.Repeats.{link_fault};
+ghost use Rattle.request_files.specs.Telling.{may_hold};
 ghost use Rattle.request_files.specs.Views.{machines_of, texts_of, words_of};
 ghost use Rattle.typed_unit.specs.declared.typed_unit.TypedUnit.{TypedUnit as UnitValue};
 
@@ -67,7 +68,8 @@ fn judge_units<'u, 'a>(
 /// Reads and judges the files of a request, links its C files, and finds the reports of its checkers over them. Objects have at most
 /// `depth` steps.
 ///
-/// Trees stand in the arena. The tokens of each checker, and those that are kept of each C file, stand in a place of its own.
+/// Trees stand in the arena. The tokens of each checker, and those that are kept of each C file, stand in a place of its own. No name stands
+/// before the first file, so that the numbers of names are given by the files.
 pub fn judge_files<'a, F: Files>(
     arena: &'a Bump,
     alloc: Global,
@@ -84,9 +86,9 @@ pub fn judge_files<'a, F: Files>(
     requires enough_for_checkers { length checkers.now ≤ length checker_places.old }
     requires enough_for_sources { length sources.now ≤ length source_places.old }
     requires deep { depth ≤ 8 }
-    requires room { length names.old ≤ 2 ^ 20 }
-    ensures accepted { IfOk result (λ reports. AreAccepted (F.contents files.old) (words_of checkers.now) (words_of sources.now) depth reports.items) }
-    ensures unjudged { IfErr result (λ e. AnswersUnjudged (F.contents files.old) (words_of checkers.now) (words_of sources.now) (F.failed files.old) (F.failed files.new) e) }
+    requires fresh { names.old ≡ [] }
+    ensures accepted { IfOk result (λ reports. AreAccepted (may_hold (F.contents files.old)) (words_of checkers.now) (words_of sources.now) depth reports.items) }
+    ensures unjudged { IfErr result (λ e. AnswersUnjudged (may_hold (F.contents files.old)) (words_of checkers.now) (words_of sources.now) (F.failed files.old) (F.failed files.new) e) }
     ensures none_failed { OnOk result (F.failed files.new ≡ F.failed files.old) }
 {
     let read = match read_files(

@@ -13,7 +13,7 @@ use Rattle.path_model.specs.CheckerModel.Checkers.{model, origins}
 use Rattle.path_model.specs.CheckerModel.Choices.{State}
 use Rattle.path_model.specs.CheckerModel.Happenings.{Function, Site}
 use Rattle.path_model.specs.CheckerModel.Reports.{Checker}
-use Rattle.path_model.specs.CheckerPrograms.Relevant.{Relevant}
+use Rattle.path_model.specs.CheckerPrograms.Relevant.{Followed}
 use Rattle.path_model.specs.CheckerPrograms.Roots.{followed_into}
 use Rattle.path_model.specs.CheckerPrograms.Texts.{site}
 use Rattle.typed_unit.specs.Texts.{Text}
@@ -69,7 +69,7 @@ module _ (c : Checker) (ts : List Text) (gs : List Graph) where
 
   -- a tuple of the theory at the end of a block has a value there
   abbrev pub StandsFor : Edge → rules.Tuple ℕ Object State → Function → Type 0
-  StandsFor e t f = rules.Behind (model c) (origins c) (Relevant c ts) (flow_graphs c ts gs) (function_at ts) (edge_in e) t f
+  StandsFor e t f = rules.Behind (model c) (origins c) (Followed c ts) (flow_graphs c ts gs) (function_at ts) (edge_in e) t f
 
   pub stands : (e : Edge) (t : rules.Tuple ℕ Object State) (f : Function) → StandsFor e t f → StandsBehind c ts gs e (tuple_with t.global t.fact)
   stands e t f h = record { fn = f; behind = subst (λ z. StandsFor e z f) (sym (tuple-there t)) h }

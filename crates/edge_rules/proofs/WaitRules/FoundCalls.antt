@@ -16,7 +16,7 @@ use Rattle.path_model.proofs.CheckerGraphs.Calls.{followed-number}
 use Rattle.path_model.proofs.CheckerGraphs.Units.{functions-are, place-filed}
 use Rattle.path_model.specs.CheckerModel.Happenings.{Function, Site}
 use Rattle.path_model.specs.CheckerModel.Reports.{Checker}
-use Rattle.path_model.specs.CheckerPrograms.Relevant.{Relevant}
+use Rattle.path_model.specs.CheckerPrograms.Relevant.{Followed}
 use Rattle.path_model.specs.CheckerPrograms.Roots.{followed_into}
 use Rattle.path_model.specs.CheckerPrograms.Texts.{functions_in, function_of, site, table_of}
 use Rattle.typed_unit.specs.Texts.{Text}
@@ -153,7 +153,7 @@ module _ (t : Tables) (n b : ℕ) (f : Frame) (p : IsPlace t n f) where
             numbered = named t k.callee q.defined q.is;
             ends = (has.0, call, subst (λ (m : ℕ). Has (graph_at ts (graphs_in t) fn).blocks b has.0 (Calls call m)) behind block, refl, callees);
           };
-          objects = subst (λ os. IsExactly os (Relevant c ts (function_of q.defined))) objects q.followed;
+          objects = subst (λ os. IsExactly os (Followed c ts (function_of q.defined))) objects q.followed;
         }
 
 -- the site of a waiter at the block, by the call in which it ends

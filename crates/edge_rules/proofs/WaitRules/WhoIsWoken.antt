@@ -8,7 +8,7 @@ use Rattle.path_model.specs.CheckerModel.Checkers.{model, origins}
 use Rattle.path_model.specs.CheckerModel.Choices.{State}
 use Rattle.path_model.specs.CheckerModel.Happenings.{Function, Site}
 use Rattle.path_model.specs.CheckerModel.Reports.{Checker}
-use Rattle.path_model.specs.CheckerPrograms.Relevant.{Relevant}
+use Rattle.path_model.specs.CheckerPrograms.Relevant.{Followed}
 use Rattle.typed_unit.specs.Texts.{Text}
 use Rattle.path_edges.specs.EdgeSteps.Steps.{StandsBehind, woken_edge}
 use Rattle.path_edges.proofs.EdgeSteps.FollowedObjects.{return-over}
@@ -44,7 +44,7 @@ module _ (c : Checker) (ts : List Text) (gs : List Graph) where
 
   -- the site of the call hands back as the waiter's does
   module _ (w : Waiter) (e : Edge) (caller : Function) (named : function_at ts w.context.function ≡ Some caller) (objects : List Object)
-      (followed : IsExactly objects (Relevant c ts caller)) (s : Site) (hands : (o : Object) → out c.depth s o ≡ out c.depth (site_at c.depth ts gs w.context.function w.block) o) where
+      (followed : IsExactly objects (Followed c ts caller)) (s : Site) (hands : (o : Object) → out c.depth s o ≡ out c.depth (site_at c.depth ts gs w.context.function w.block) o) where
     abbrev r : Site
     r = site_at c.depth ts gs w.context.function w.block
 
@@ -52,7 +52,7 @@ module _ (c : Checker) (ts : List Text) (gs : List Graph) where
     Of u d = GoesOn c s caller objects w u d
 
     abbrev Handed : Function → rules.Tuple ℕ Object State → Edge → Type 0
-    Handed f t d = rules.Hands (model c) (origins c) (Relevant c ts) (flow_graphs c ts gs) (function_at ts) (waiter_in c.depth ts gs w) f t (tuple_in d.tuple)
+    Handed f t d = rules.Hands (model c) (origins c) (Followed c ts) (flow_graphs c ts gs) (function_at ts) (waiter_in c.depth ts gs w) f t (tuple_in d.tuple)
 
     -- behind the call, with this tuple
     goes-on : (u : Tuple) (d : Edge) → IsWoken c ts gs w e d → tuple_in u ≡ tuple_in d.tuple → woken_edge w u ≡ d
@@ -65,8 +65,8 @@ module _ (c : Checker) (ts : List Text) (gs : List Graph) where
         by (rules.HandsBack saved global flow) =
             let u = tuple_with h.end.global h.end.fact in
             let there = sym (tuple-there h.end) in
-            let at = subst (λ x. ReturnFlow (model c) (origins c) (Relevant c ts) r caller x (fact_in d.tuple)) (ap (λ x. x.fact) there) flow in
-            let over = return-over (model c) (origins c) (Relevant c ts) (listed c objects) r caller (fact_in u) (fact_in d.tuple) (λ o i. followed.1 o i) at in
+            let at = subst (λ x. ReturnFlow (model c) (origins c) (Followed c ts) r caller x (fact_in d.tuple)) (ap (λ x. x.fact) there) flow in
+            let over = return-over (model c) (origins c) (Followed c ts) (listed c objects) r caller (fact_in u) (fact_in d.tuple) (λ o i. followed.1 o i) at in
             let back = returned-by c (listed c objects) r s caller (fact_in u) (fact_in d.tuple) (λ o. sym (hands o)) over in (
               u,
               stands c ts gs e h.end h.fn h.behind,
@@ -82,8 +82,8 @@ module _ (c : Checker) (ts : List Text) (gs : List Graph) where
 
     given : (u : Tuple) (d : Edge) → StandsBehind c ts gs e u → Of u d → IsWoken c ts gs w e d
     given u d st (WithHanded v saved back is) =
-        let over = return-over (model c) (origins c) (listed c objects) (Relevant c ts) s caller (fact_in u) (fact_in v) (λ o i. followed.0 o i) back.fact in
-        let flow = returned-by c (Relevant c ts) s r caller (fact_in u) (fact_in v) hands over in
+        let over = return-over (model c) (origins c) (listed c objects) (Followed c ts) s caller (fact_in u) (fact_in v) (λ o i. followed.0 o i) back.fact in
+        let flow = returned-by c (Followed c ts) s r caller (fact_in u) (fact_in v) hands over in
         subst (IsWoken c ts gs w e) is
         (record { caller = caller; named = named; fn = st.fn; end = tuple_in u; behind = st.behind; hands = rules.HandsBack saved back.global flow; context = refl; kind = refl; block = refl })
     given u d st (WithPutBack o x saved none is) =

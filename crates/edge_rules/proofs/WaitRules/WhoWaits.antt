@@ -9,7 +9,7 @@ use Rattle.path_model.specs.CheckerModel.Checkers.{model, origins}
 use Rattle.path_model.specs.CheckerModel.Choices.{State}
 use Rattle.path_model.specs.CheckerModel.Happenings.{Function, Site}
 use Rattle.path_model.specs.CheckerModel.Reports.{Checker}
-use Rattle.path_model.specs.CheckerPrograms.Relevant.{Relevant}
+use Rattle.path_model.specs.CheckerPrograms.Relevant.{Followed}
 use Rattle.path_model.specs.CheckerPrograms.Texts.{functions_in}
 use Rattle.typed_unit.specs.Texts.{Text}
 use Rattle.path_edges.specs.EdgeSteps.Steps.{StandsBehind, wait_for}
@@ -42,7 +42,7 @@ wait-seen x y f t k r b n o = λ i. record {
 
 module _ (c : Checker) (ts : List Text) (gs : List Graph) where
   abbrev Waits : Edge → Context → Waiter → Type 0
-  Waits e k w = rules.Waits (model c) (origins c) (Relevant c ts) (flow_graphs c ts gs) (function_at ts) (edge_in e) (context_in k) (waiter_in c.depth ts gs w)
+  Waits e k w = rules.Waits (model c) (origins c) (Followed c ts) (flow_graphs c ts gs) (function_at ts) (edge_in e) (context_in k) (waiter_in c.depth ts gs w)
 
   abbrev Here : Edge → Wait Context Waiter → Type 0
   Here e w = WaitsAt c ts gs e w.on w.waiter
@@ -56,7 +56,7 @@ module _ (c : Checker) (ts : List Text) (gs : List Graph) where
       by w (rules.WaitsWithSaved t f h o x behind call named entry has kept here kind saved) = none f h (site_at c.depth ts gs w.waiter.context.function w.waiter.block) w.waiter.behind behind.named call
 
   module _ (apart : AreApartPlaces (functions_in ts)) (e : Edge) (number next : ℕ) (s : Site) (k : IsCall c ts gs e.context.function e.block number next s) (objects : List Object)
-      (followed : IsExactly objects (Relevant c ts k.called)) where
+      (followed : IsExactly objects (Followed c ts k.called)) where
     abbrev Of : Tuple → Wait Context Waiter → Type 0
     Of u w = IsWaiting c s k.called objects number next e u w
 
@@ -73,14 +73,14 @@ module _ (c : Checker) (ts : List Text) (gs : List Graph) where
     same-number : (n : ℕ) (h : Function) → function_at ts n ≡ Some h → h ≡ k.called → number ≡ n
     same-number n h named is = one-number ts apart number n k.called k.numbered (named ∙ ap (λ (z : Function). Some z) is)
 
-    -- the flow of facts into the callee, of the waiter's site and by all relevant objects
-    entering : (r : Site) (h : Function) (x y z : FactOf Object State) → r ≡ s → h ≡ k.called → x ≡ z → CallFlow (model c) (origins c) (Relevant c ts) r h x y
+    -- the flow of facts into the callee, of the waiter's site and by all objects that are followed
+    entering : (r : Site) (h : Function) (x y z : FactOf Object State) → r ≡ s → h ≡ k.called → x ≡ z → CallFlow (model c) (origins c) (Followed c ts) r h x y
         → CallFlow (model c) (origins c) (listed c objects) s k.called z y
     entering r h x y z site callee fact flow =
-        let one = subst (λ (q : Site). CallFlow (model c) (origins c) (Relevant c ts) q h x y) site flow in
-        let two = subst (λ (q : Function). CallFlow (model c) (origins c) (Relevant c ts) s q x y) callee one in
-        let three = subst (λ q. CallFlow (model c) (origins c) (Relevant c ts) s k.called q y) fact two in
-        call-over (model c) (origins c) (Relevant c ts) (listed c objects) s k.called z y (λ o i. followed.1 o i) three
+        let one = subst (λ (q : Site). CallFlow (model c) (origins c) (Followed c ts) q h x y) site flow in
+        let two = subst (λ (q : Function). CallFlow (model c) (origins c) (Followed c ts) s q x y) callee one in
+        let three = subst (λ q. CallFlow (model c) (origins c) (Followed c ts) s k.called q y) fact two in
+        call-over (model c) (origins c) (Followed c ts) (listed c objects) s k.called z y (λ o i. followed.1 o i) three
 
     taken : (w : Wait Context Waiter) → w.waiter.block ≡ e.block → Waits e w.on w.waiter → Taken w
     taken w block (rules.WaitsForObject t f h behind call named global flow here kind saved) =
@@ -97,7 +97,7 @@ module _ (c : Checker) (ts : List Text) (gs : List Graph) where
     taken w block (rules.WaitsWithSaved t f h o x behind call named entry has kept here kind saved) =
         let same = same-call w.waiter f h behind.named call in
         let u = tuple_with t.global (HasObject o x) in
-        let there = subst (λ z. rules.Behind (model c) (origins c) (Relevant c ts) (flow_graphs c ts gs) (function_at ts) (edge_in e) z f) (ap (λ z. record { global = t.global; fact = z }) has) behind in (
+        let there = subst (λ z. rules.Behind (model c) (origins c) (Followed c ts) (flow_graphs c ts gs) (function_at ts) (edge_in e) z f) (ap (λ z. record { global = t.global; fact = z }) has) behind in (
           u,
           record { fn = f; behind = there },
           WithSaved o (record { has = refl; kept = subst (λ (q : Site). out c.depth q o ≡ None) same.site kept })
@@ -117,8 +117,8 @@ module _ (c : Checker) (ts : List Text) (gs : List Graph) where
 
     given : (u : Tuple) (w : Wait Context Waiter) → StandsBehind c ts gs e u → Of u w → Here e w
     given u w st (ForEntered v enters is) =
-        let over = call-over (model c) (origins c) (listed c objects) (Relevant c ts) s k.called (fact_in u) (fact_in v) (λ o i. followed.0 o i) enters.fact in
-        let flow = subst (λ (q : Site). CallFlow (model c) (origins c) (Relevant c ts) q k.called (fact_in u) (fact_in v)) site-here over in
+        let over = call-over (model c) (origins c) (listed c objects) (Followed c ts) s k.called (fact_in u) (fact_in v) (λ o i. followed.0 o i) enters.fact in
+        let flow = subst (λ (q : Site). CallFlow (model c) (origins c) (Followed c ts) q k.called (fact_in u) (fact_in v)) site-here over in
         subst (Here e) is
         (record { here = refl; waits = rules.WaitsForObject (tuple_in u) k.caller k.called (stands-in c ts gs e u k.caller k.named st) call-here k.numbered enters.global flow refl refl refl })
     given u w st (WithSaved o saved is) =

@@ -1,7 +1,7 @@
 -- WHAT IS KNOWN of a followed call that was found at the end of a block of a function.
 use Rattle.std.specs.Prelude.{ℕ}
 use Rattle.path_model.specs.CheckerModel.Happenings.{Site}
-use Rattle.path_model.specs.CheckerPrograms.Relevant.{Relevant}
+use Rattle.path_model.specs.CheckerPrograms.Relevant.{Followed}
 use Rattle.function_tables.specs.declared.engine_tables.tables.Tables.{Tables}
 use Rattle.function_tables.specs.EngineTables.Known.{checker_in, texts_in, graphs_in}
 use Rattle.least_set.specs.Logs.{IsExactly}
@@ -13,4 +13,4 @@ pub record IsFound (t : Tables) (function block : ℕ) (k : FollowedCall) : Type
   pub site : Site
   pub passes : IsSite t.depth k.site site
   pub call : IsCall (checker_in t) (texts_in t) (graphs_in t) function block k.callee k.behind site
-  pub objects : IsExactly k.objects.now (Relevant (checker_in t) (texts_in t) call.called)
+  pub objects : IsExactly k.objects.now (Followed (checker_in t) (texts_in t) call.called)

@@ -18,7 +18,7 @@ use Rattle.path_model.proofs.CheckerGraphs.Calls.{followed-number}
 use Rattle.path_model.proofs.CheckerGraphs.Units.{apart-texts, place-filed}
 use Rattle.call_graph.specs.Followed.{followed}
 use Rattle.path_model.specs.CheckerModel.Happenings.{Function, Happening}
-use Rattle.path_model.specs.CheckerPrograms.Relevant.{Relevant}
+use Rattle.path_model.specs.CheckerPrograms.Relevant.{Followed}
 use Rattle.path_model.specs.CheckerPrograms.Roots.{followed_into}
 use Rattle.path_model.specs.CheckerPrograms.Texts.{functions_in, function_of, happening, site, table_of}
 use Rattle.typed_unit.specs.Texts.{Text}
@@ -65,7 +65,7 @@ pub record IsPlace (t : Tables) (n : ℕ) (f : Frame) : Type 0 where
   pub is : slice_get (functions_in (texts_in t)) n ≡ Some defined
   pub graph : graph_at (texts_in t) (graphs_in t) (function_of defined) ≡ graph_in f.table.now.graph
   pub blocks : AreBlockTables (checker_in t).machine t.depth (texts_in t) defined (graph_in f.table.now.graph).blocks f.table.now.blocks.items
-  pub followed : IsExactly f.objects.now (Relevant (checker_in t) (texts_in t) (function_of defined))
+  pub followed : IsExactly f.objects.now (Followed (checker_in t) (texts_in t) (function_of defined))
   pub plain : AreObjects t.depth f.objects.now
 
 pub named : (t : Tables) (n : ℕ) (d : Defined) → slice_get (functions_in (texts_in t)) n ≡ Some d → function_at (texts_in t) n ≡ Some (function_of d)

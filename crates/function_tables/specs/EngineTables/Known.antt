@@ -5,7 +5,7 @@ use Rattle.flow_graph.specs.CPaths.Building.{Graph}
 use Rattle.flow_graph.specs.CPaths.Graphs.{Ending, ToAny, Calls, Stops}
 use Rattle.type_rules.specs.Functions.{Defined}
 use Rattle.path_model.specs.CheckerModel.Reports.{Checker}
-use Rattle.path_model.specs.CheckerPrograms.Relevant.{Relevant}
+use Rattle.path_model.specs.CheckerPrograms.Relevant.{Followed}
 use Rattle.path_model.specs.CheckerPrograms.Roots.{IsRoot}
 use Rattle.path_model.specs.CheckerPrograms.Texts.{functions_in, function_of}
 use Rattle.typed_unit.specs.Texts.{Text, texts_of}
@@ -38,12 +38,13 @@ graphs_in t = map (λ f. graph_in f.graph) t.functions.now
 abbrev pub objects_in : Tables → List (List Object)
 objects_in t = map (λ os. os.items) t.objects.now
 
--- THE TABLES are those of the program; what is followed are the relevant objects, and the roots are the roots
+-- THE TABLES are those of the program; what is followed are the objects that rules from global states bind, with all that is linked to
+-- them, and the roots are the roots
 pub record AreKnown (t : Tables) : Type 0 where
   pub tables : AreTables (machine_view t.machine.now) t.depth (texts_in t) t.functions.now
   pub count : length (objects_in t) ≡ length (functions_in (texts_in t))
   pub followed : (n : ℕ) (d : Defined) (os : List Object) → slice_get (functions_in (texts_in t)) n ≡ Some d → slice_get (objects_in t) n ≡ Some os
-      → IsExactly os (Relevant (checker_in t) (texts_in t) (function_of d))
+      → IsExactly os (Followed (checker_in t) (texts_in t) (function_of d))
   pub plain : (n : ℕ) (os : List Object) → slice_get (objects_in t) n ≡ Some os → AreObjects t.depth os
   pub roots : (n : ℕ) → Contains (map (λ f. f.number) t.roots.now) n ↔ (IsRoot (machine_view t.machine.now) (texts_in t) n × (n < length (functions_in (texts_in t))))
 

@@ -177,8 +177,8 @@ fn answer(setting: &Setting, call: &Callout, binding: &Binding) -> bool
         CalloutRow::IsLocal => took_base(setting.unit, Sort::Local, binding, call.hole),
         CalloutRow::NameIs => took_name(call.text, binding, call.hole),
         CalloutRow::InFunction => setting.function == call.text,
-        CalloutRow::Never => false,
-        CalloutRow::Always => true,
+        CalloutRow::NeverHolds => false,
+        CalloutRow::AlwaysHolds => true,
     }
 }
 

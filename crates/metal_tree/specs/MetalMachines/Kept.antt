@@ -1,6 +1,6 @@
 -- What every machine keeps to.
 use Rattle.std.specs.Prelude.{◌≡◌, ℕ, ◌+◌, Bool, true, false, cond, not, nat_eq, nat_lt, nat_le, ◌&&◌, ◌||◌, is_some, List, [], ◌∷◌, ◌++◌, length, flat_map, filter, get_or, Option, None, Some}
-use Rattle.metal_tree.specs.MetalMachines.Machine.{Piece, Bytes, HoleText, Source, FromGlobal, FromObject, Target, ToGlobal, ToObject, ToUnknown, Dest, Always, ByTruth, Condition, Item, Base, Holds, EndOfPath, Rule, Machine}
+use Rattle.metal_tree.specs.MetalMachines.Machine.{first_named, Piece, Bytes, HoleText, Source, FromGlobal, FromObject, Target, ToGlobal, ToObject, ToUnknown, Dest, Always, ByTruth, CalloutRow, InFunction, NeverHolds, AlwaysHolds, Item, Base, Holds, EndOfPath, Rule, Machine}
 use Rattle.metal_tree.specs.MetalMachines.Limits.{IsLimited}
 use Rattle.metal_tree.specs.MetalMachines.Numbers.{holes_in}
 
@@ -16,23 +16,19 @@ abbrev pub targets : Dest → List Target
 targets (Always t) = t ∷ []
 targets (ByTruth on_true on_false) = on_true ∷ on_false ∷ []
 
--- Callouts are numbered as `Condition` has them. Those before this number ask of a hole: the four `mc_is_..` and `mc_name_is`.
-abbrev pub callouts_of_holes : ℕ
-callouts_of_holes = 5
-
--- the last one, `${ 1 }`
-abbrev pub last_callout : ℕ
-last_callout = 7
-
-abbrev pub asks_hole : Condition → Bool
-asks_hole c = nat_lt c.row callouts_of_holes
+-- whether a callout asks of a hole
+abbrev pub asks_hole : CalloutRow → Bool
+asks_hole InFunction = false
+asks_hole NeverHolds = false
+asks_hole AlwaysHolds = false
+asks_hole _ = true
 
 abbrev pub holes_of_item : Item → List ℕ
 holes_of_item (Base e) = holes_in e
 holes_of_item _ = []
 
 abbrev pub asked_of_item : Item → List ℕ
-asked_of_item (Holds c) = cond (asks_hole c) (c.hole ∷ []) []
+asked_of_item (Holds c) = cond (asks_hole c.row) (c.hole ∷ []) []
 asked_of_item _ = []
 
 abbrev pub bound_in : List Item → List ℕ
@@ -74,23 +70,17 @@ abbrev pub is_state_of : Machine → ℕ → ℕ → Bool
 is_state_of m variable state = nat_lt variable m.variables && nat_lt state (length (get_or m.states variable []))
 
 abbrev pub is_source_of : Machine → Source → Bool
-is_source_of m (FromGlobal state) = nat_lt state (length m.globals + 2)
+is_source_of m (FromGlobal state) = nat_lt state (length m.globals + first_named)
 is_source_of m (FromObject variable state) = is_state_of m variable state
 
 abbrev pub is_target_of : Machine → Target → Bool
-is_target_of m (ToGlobal state) = nat_lt state (length m.globals + 2)
+is_target_of m (ToGlobal state) = nat_lt state (length m.globals + first_named)
 is_target_of m (ToObject variable state) = is_state_of m variable state
 is_target_of m (ToUnknown variable) = nat_lt variable m.variables
-
--- a callout is one of those that there are
-abbrev pub is_condition : Item → Bool
-is_condition (Holds c) = nat_le c.row last_callout
-is_condition _ = true
 
 abbrev pub is_in_range : Machine → Rule → Bool
 is_in_range m r =
     is_source_of m r.source && all_of (is_target_of m) (targets r.dest) && all_of (λ hole. nat_lt hole (length m.holes)) (named_by r)
-    && all_of (all_of is_condition) r.alternatives
 
 -- no two of these differ
 abbrev pub are_one : List ℕ → Bool

@@ -23,6 +23,16 @@ pub record Hole : Type 0 where
   pub name : ℕ
   pub of : HoleType
 
+-- the numbers of the first two global states; those with names of their own follow
+abbrev pub start : ℕ
+start = 0
+
+abbrev pub stop : ℕ
+stop = 1
+
+abbrev pub first_named : ℕ
+first_named = 2
+
 -- a state by its number: of the whole machine, or of a variable
 pub data Source : Type 0 where
   FromGlobal : ℕ → Source
@@ -38,11 +48,22 @@ pub data Dest : Type 0 where
   Always : Target → Dest
   ByTruth : Target → Target → Dest
 
--- A callout. The rows are `mc_is_const`, `mc_is_global`, `mc_is_param`, `mc_is_local`, `mc_name_is`, `mc_in_function`, `0` and
--- `1`, from 0 on. The hole is 0 where the row has none. The text is the number of a name, 0 where the row has none.
+-- THE CALLOUTS that there are: `mc_is_const`, `mc_is_global`, `mc_is_param`, `mc_is_local`, `mc_name_is`, `mc_in_function`, `0`
+-- and `1`.
+pub data CalloutRow : Type 0 where
+  IsConst : CalloutRow
+  IsGlobal : CalloutRow
+  IsParam : CalloutRow
+  IsLocal : CalloutRow
+  NameIs : CalloutRow
+  InFunction : CalloutRow
+  NeverHolds : CalloutRow
+  AlwaysHolds : CalloutRow
+
+-- A callout of a rule. The hole is 0 where it asks of none. The text is the number of a name, 0 where it has none.
 pub record Condition : Type 0 where
   pub negated : Bool
-  pub row : ℕ
+  pub row : CalloutRow
   pub hole : ℕ
   pub text : ℕ
 
@@ -66,7 +87,7 @@ pub record Rule : Type 0 where
   pub dest : Dest
   pub action : Option (List Piece)
 
--- `globals` are the names of the global states from number 2 on, behind `start` and `stop`; `states` has the names of the
+-- `globals` are the names of the global states behind `start` and `stop`, from `first_named` on; `states` has the names of the
 -- states of each variable.
 pub record Machine : Type 0 where
   pub name : ℕ

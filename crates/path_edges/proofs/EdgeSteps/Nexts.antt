@@ -13,7 +13,7 @@ use Rattle.path_model.specs.CheckerModel.Checkers.{model, origins}
 use Rattle.path_model.specs.CheckerModel.Choices.{State}
 use Rattle.path_model.specs.CheckerModel.Happenings.{Function, Site}
 use Rattle.path_model.specs.CheckerModel.Reports.{Checker}
-use Rattle.path_model.specs.CheckerPrograms.Relevant.{Relevant}
+use Rattle.path_model.specs.CheckerPrograms.Relevant.{Followed}
 use Rattle.path_model.specs.CheckerPrograms.Roots.{followed_into}
 use Rattle.path_model.specs.CheckerPrograms.Texts.{site}
 use Rattle.typed_unit.specs.Texts.{Text}
@@ -37,7 +37,7 @@ one-block a b e = cc
 
 module _ (c : Checker) (ts : List Text) (gs : List Graph) (a : Edge) where
   abbrev Ba : rules.Tuple ℕ Object State → Function → Type 0
-  Ba t f = rules.Behind (model c) (origins c) (Relevant c ts) (flow_graphs c ts gs) (function_at ts) (edge_in a) t f
+  Ba t f = rules.Behind (model c) (origins c) (Followed c ts) (flow_graphs c ts gs) (function_at ts) (edge_in a) t f
 
   -- a tuple of the theory at the end of the block has a value there
   stands : (t : rules.Tuple ℕ Object State) (f : Function) → Ba t f → StandsBehind c ts gs a (tuple_with t.global t.fact)
@@ -55,7 +55,7 @@ module _ (c : Checker) (ts : List Text) (gs : List Graph) (a : Edge) where
     abbrev Unfollowed : Function → Node → Type 0
     Unfollowed f n = followed_into c.machine (site c.depth ts f n) ≡ None
 
-    next-of : (d : Edge) (z : rules.PathEdge ℕ Object State ℕ) → rules.Goes (model c) (origins c) (Relevant c ts) (flow_graphs c ts gs) (function_at ts) (edge_in a) z → z ≡ edge_in d → IsNext c ts gs fn end a d
+    next-of : (d : Edge) (z : rules.PathEdge ℕ Object State ℕ) → rules.Goes (model c) (origins c) (Followed c ts) (flow_graphs c ts gs) (function_at ts) (edge_in a) z → z ≡ edge_in d → IsNext c ts gs fn end a d
     next-of d z (rules.GoesOn t f b h n) e =
         let s = same-function f h.named in
         let u = tuple_with t.global t.fact in
@@ -67,9 +67,9 @@ module _ (c : Checker) (ts : List Text) (gs : List Graph) (a : Edge) where
         let v = tuple_with k.entry.global k.entry.fact in
         let there : s ≡ site c.depth ts fn call.1 = call.3 ∙ ap (λ (g : Function). site c.depth ts g call.1) same in
         let followed = subst (λ (x : Site). followed_into c.machine x ≡ Some h) there call.4 in
-        let one = subst (λ (x : Site). CallFlow (model c) (origins c) (Relevant c ts) x h t.fact k.entry.fact) there flow in
-        let two = subst (λ x. CallFlow (model c) (origins c) (Relevant c ts) (site c.depth ts fn call.1) h x k.entry.fact) (sym (ap (λ x. x.fact) (tuple-there t))) one in
-        let three = subst (λ x. CallFlow (model c) (origins c) (Relevant c ts) (site c.depth ts fn call.1) h (fact_in u) x) (sym (ap (λ x. x.fact) (tuple-there k.entry))) two in
+        let one = subst (λ (x : Site). CallFlow (model c) (origins c) (Followed c ts) x h t.fact k.entry.fact) there flow in
+        let two = subst (λ x. CallFlow (model c) (origins c) (Followed c ts) (site c.depth ts fn call.1) h x k.entry.fact) (sym (ap (λ x. x.fact) (tuple-there t))) one in
+        let three = subst (λ x. CallFlow (model c) (origins c) (Followed c ts) (site c.depth ts fn call.1) h (fact_in u) x) (sym (ap (λ x. x.fact) (tuple-there k.entry))) two in
         let globals = ap (λ x. x.global) (tuple-there k.entry) ∙ global ∙ sym (ap (λ x. x.global) (tuple-there t)) in
         let first = (graph_at ts gs h).entry in
         let seen = ap (λ x. record { context = record { function = k.function; entry = x }; is_root = false; block = first; tuple = x }) (tuple-there k.entry) ∙ e in

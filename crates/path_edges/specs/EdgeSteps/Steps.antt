@@ -12,7 +12,7 @@ use Rattle.path_model.specs.CheckerGraphs.Graphs.{flow_graphs, function_at, grap
 use Rattle.path_model.specs.CheckerModel.Checkers.{model, origins}
 use Rattle.path_model.specs.CheckerModel.Happenings.{Function}
 use Rattle.path_model.specs.CheckerModel.Reports.{Checker}
-use Rattle.path_model.specs.CheckerPrograms.Relevant.{Relevant}
+use Rattle.path_model.specs.CheckerPrograms.Relevant.{Followed}
 use Rattle.path_model.specs.CheckerPrograms.Roots.{followed_into}
 use Rattle.path_model.specs.CheckerPrograms.Texts.{site}
 use Rattle.typed_unit.specs.Texts.{Text}
@@ -66,7 +66,7 @@ module _ (c : Checker) (ts : List Text) (gs : List Graph) where
   -- A TUPLE AT THE END of an edge's block
   pub record StandsBehind (e : Edge) (u : Tuple) : Type 0 where
     pub fn : Function
-    pub behind : Behind (model c) (origins c) (Relevant c ts) (flow_graphs c ts gs) (function_at ts) (edge_in e) (tuple_in u) fn
+    pub behind : Behind (model c) (origins c) (Followed c ts) (flow_graphs c ts gs) (function_at ts) (edge_in e) (tuple_in u) fn
 
   -- AN EDGE with which the function of this number begins as a root's own frame
   pub record BeginsIn (n : ℕ) (e : Edge) : Type 0 where
@@ -74,7 +74,7 @@ module _ (c : Checker) (ts : List Text) (gs : List Graph) where
     pub named : function_at ts n ≡ Some fn
     pub number : e.context.function ≡ n
     pub start : e.context.entry.global ≡ (model c).start
-    pub starts : Starts (model c) (origins c) (Relevant c ts) fn (fact_in e.context.entry)
+    pub starts : Starts (model c) (origins c) (Followed c ts) fn (fact_in e.context.entry)
     pub kind : e.is_root ≡ true
     pub first : e.block ≡ (graph_at ts gs fn).entry
     pub same : e.tuple ≡ e.context.entry
@@ -85,5 +85,5 @@ module _ (c : Checker) (ts : List Text) (gs : List Graph) where
         → IsNext fn end a d
     Inward : (n : Node) (next k : ℕ) (h : Function) (u v : Tuple) → StandsBehind a u → end ≡ Calls n next
         → followed_into c.machine (site c.depth ts fn n) ≡ Some h → function_at ts k ≡ Some h → v.global ≡ u.global
-        → CallFlow (model c) (origins c) (Relevant c ts) (site c.depth ts fn n) h (fact_in u) (fact_in v)
+        → CallFlow (model c) (origins c) (Followed c ts) (site c.depth ts fn n) h (fact_in u) (fact_in v)
         → frame_edge false k (graph_at ts gs h).entry v ≡ d → IsNext fn end a d

@@ -5,6 +5,7 @@ ghost use Rattle.path_edges.specs.EdgeSteps.Steps.{first_edge, first_edges, star
 
 use crate::edge_steps::copies::copy_tuple;
 use crate::edges::{Context, Edge};
+use metal_tree::START;
 use objects::{Object, copy};
 use state_tuples::Tuple;
 use std::alloc::{AllocError, Global};
@@ -27,7 +28,7 @@ fn start() -> Tuple
     ensures { result ≡ start_tuple }
 {
     Tuple {
-        global: 0,
+        global: START,
         object: None,
         state: None,
     }
@@ -38,7 +39,7 @@ fn unknown(object: &Object) -> Tuple
     ensures { result ≡ unknown_at object.now }
 {
     Tuple {
-        global: 0,
+        global: START,
         object: Some(copy(object)),
         state: None,
     }

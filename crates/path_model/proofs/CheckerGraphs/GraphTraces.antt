@@ -14,11 +14,11 @@ use Rattle.path_model.specs.CheckerModel.Checkers.{model, origins}
 use Rattle.path_model.specs.CheckerModel.Happenings.{Function}
 use Rattle.path_model.specs.CheckerModel.Reports.{Checker}
 use Rattle.path_model.specs.CheckerPrograms.Paths.{program}
-use Rattle.path_model.specs.CheckerPrograms.Relevant.{Relevant}
+use Rattle.path_model.specs.CheckerPrograms.Relevant.{Relevant, Followed}
 use Rattle.path_model.specs.CheckerPrograms.Roots.{followed_into, IsRootFunction}
 use Rattle.path_model.specs.CheckerPrograms.Texts.{functions_in, function_of, table_of, empty, with_close, definition_of, flow_facts, happening, site}
 use Rattle.typed_unit.specs.Texts.{Text}
-use Rattle.path_model.proofs.CheckerPrograms.Closed.{closed}
+use Rattle.path_model.proofs.CheckerPrograms.Closed.{closed, followed-closed}
 use Rattle.call_graph.specs.FunctionGraphs.Known.{facts_of}
 use Rattle.report_model.specs.declared.report.Report.{Report}
 use Rattle.path_theory.specs.FlatPaths.{InErrors}
@@ -80,3 +80,6 @@ module _ (ts : List Text) (gs : List Graph) (A : AreGraphs ts gs) where
     -- the relevant objects may be followed alone
     pub closed_in_graphs : IsClosed (model c) in_blocks (origins c) (Relevant c ts)
     closed_in_graphs = closed_on (model c) in_blocks (program c ts) graphs_have_traces.1 (origins c) (Relevant c ts) (closed c ts)
+
+    pub followed_in_graphs : IsClosed (model c) in_blocks (origins c) (Followed c ts)
+    followed_in_graphs = closed_on (model c) in_blocks (program c ts) graphs_have_traces.1 (origins c) (Followed c ts) (followed-closed c ts)

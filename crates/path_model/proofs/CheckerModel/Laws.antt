@@ -8,7 +8,8 @@ use Rattle.path_theory.specs.FrameEnds.{IgnoresKind, EndsQuietly}
 use Rattle.path_theory.specs.Origins.{IsLocal, handed}
 use Rattle.path_model.specs.CheckerModel.Calls.{returned, into, out}
 use Rattle.path_model.specs.CheckerModel.Checkers.{model, origins, source_at}
-use Rattle.path_model.specs.CheckerModel.Choices.{State, Taken, stop, is_exit, is_asked, is_global_asked, first_some, global_rule, object_rule, scene, taken, taken_global, next_global, chosen, global_behind, object_behind, target_at}
+use Rattle.metal_tree.specs.MetalMachines.Machine.{stop}
+use Rattle.path_model.specs.CheckerModel.Choices.{State, Taken, is_exit, is_asked, is_global_asked, first_some, global_rule, object_rule, scene, taken, taken_global, next_global, chosen, global_behind, object_behind, target_at}
 use Rattle.path_model.specs.CheckerModel.Happenings.{Function, Happening}
 use Rattle.path_model.specs.CheckerModel.Reports.{Checker, Fires, FiresGlobal, report_of}
 

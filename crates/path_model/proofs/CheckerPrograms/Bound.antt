@@ -1,4 +1,4 @@
--- An object that takes a rule while it is unknown is bound by an alternative of that rule.
+-- An object that takes a rule while it is unknown is bound by an alternative of that rule, which begins in a global state.
 use Rattle.std.proofs.Common.{◌≡◌, inl, inr, ℕ, List, [], ◌∷◌, Bool, true, false, Option, None, Some, refl, ◌∙◌, sym, ap, subst, cond, not, ◌||◌, nat_eq}
 use Rattle.std.specs.Option.{option_to_list}
 use Rattle.c_objects.specs.Objects.{Object}
@@ -7,13 +7,13 @@ use Rattle.flow_graph.specs.CPaths.Events.{Event, Evaluated, Declared, Branched,
 use Rattle.objects.specs.Equality.{same_object, same_object-true}
 use Rattle.flow_graph.specs.CPaths.Membership.{Among}
 use Rattle.type_rules.specs.Options.{◌>?◌, if_there, or_else}
-use Rattle.path_model.specs.CheckerModel.Choices.{Binds, State, Taken, stop, first_some, applied, target_at, by_alternative, from_global, variable_of, led_variables, rule_variables, binds, is_asked, object_rule, scene, taken, chosen, object_behind}
+use Rattle.path_model.specs.CheckerModel.Choices.{Gives, State, Taken, first_some, applied, target_at, by_alternative, from_global, begins_globally, variable_of, led_variables, rule_variables, binds, is_asked, object_rule, scene, taken, chosen, object_behind}
 use Rattle.path_model.specs.CheckerModel.Happenings.{Function, Happening}
 use Rattle.path_model.specs.CheckerModel.Reports.{Checker, Fires, report_of}
 use Rattle.path_model.proofs.CheckerModel.Sources.{given, tested, untested}
 use Rattle.hole_matching.specs.Alternatives.{bound_object}
 use Rattle.hole_matching.specs.Matching.{Binding}
-use Rattle.metal_tree.specs.MetalMachines.Machine.{Source, FromGlobal, FromObject, Target, Dest, Always, ByTruth, Rule}
+use Rattle.metal_tree.specs.MetalMachines.Machine.{stop, Source, FromGlobal, FromObject, Target, Dest, Always, ByTruth, Rule}
 use Rattle.report_model.specs.declared.report.Report.{Report}
 
 -- the first that gives something is among them
@@ -47,6 +47,10 @@ variable-among : (e : Event) (state : ℕ) (s : Source) (d : Dest) (v : ℕ) →
 variable-among e state (FromGlobal q) d v g k = led-among e d v k
 variable-among e state (FromObject x q) d v g k = cc
 
+begins : (state : ℕ) (s : Source) → from_global state s ≡ true → begins_globally s ≡ true
+begins state (FromGlobal q) e = refl
+begins state (FromObject v q) e = cc
+
 module _ (c : Checker) (f : Function) (h : Happening) (o : Object) where
   -- a binding that has the object
   has-object : (v : ℕ) (b : Binding) → binds (scene c.machine c.depth h f) v o b ≡ true → bound_object (scene c.machine c.depth h f) v b ≡ Some o
@@ -57,28 +61,31 @@ module _ (c : Checker) (f : Function) (h : Happening) (o : Object) where
       by (Some q) e k = e ∙ ap Some (sym (same_object-true o q k))
 
   -- the alternative by which a rule binds it
-  by-items : (r : Rule) (v : ℕ) (t : Taken) → Among r c.machine.rules → Among v (rule_variables r.source r.dest) → by_alternative (scene c.machine c.depth h f) h.event r (binds (scene c.machine c.depth h f) v o) ≡ Some t → Binds c.machine c.depth f h o
-  by-items r v t among of e =
+  by-items : (r : Rule) (v : ℕ) (t : Taken) → Among r c.machine.rules → begins_globally r.source ≡ true → Among v (rule_variables r.source r.dest) → by_alternative (scene c.machine c.depth h f) h.event r (binds (scene c.machine c.depth h f) v o) ≡ Some t → Gives c.machine c.depth f h o
+  by-items r v t among from of e =
       let found = first-found (λ items. applied (scene c.machine c.depth h f) h.event r.dest items >? λ b. cond (binds (scene c.machine c.depth h f) v o b) (Some (record { rule = r; binding = b })) None) r.alternatives t e in
       let applies = given (applied (scene c.machine c.depth h f) h.event r.dest found.0) (λ b. cond (binds (scene c.machine c.depth h f) v o b) (Some (record { rule = r; binding = b })) None) t found.2 in
       let bound = tested (binds (scene c.machine c.depth h f) v o applies.0) (Some (record { rule = r; binding = applies.0 })) t applies.2 in
-      record { rule = r; among = among; items = found.0; alternative = found.1; binding = applies.0; applies = applies.1; variable = v; of_rule = of; bound = has-object v applies.0 bound.0 }
+      record {
+        binds = record { rule = r; among = among; items = found.0; alternative = found.1; binding = applies.0; applies = applies.1; variable = v; of_rule = of; bound = has-object v applies.0 bound.0 };
+        begins = from;
+      }
 
-  pub taken-binds : (k : Bool) (state : ℕ) (t : Taken) → taken c.machine c.depth h f k state o None ≡ Some t → Binds c.machine c.depth f h o
-  taken-binds k state t e =
+  pub taken-gives : (k : Bool) (state : ℕ) (t : Taken) → taken c.machine c.depth h f k state o None ≡ Some t → Gives c.machine c.depth f h o
+  taken-gives k state t e =
       let some = untested (nat_eq state stop || not (is_asked h.event k o)) (first_some (object_rule (scene c.machine c.depth h f) h.event state o None) c.machine.rules) t e in
       let found = first-found (object_rule (scene c.machine c.depth h f) h.event state o None) c.machine.rules t some.1 in
       let rule : Rule = found.0 in
       let from = tested (from_global state rule.source) (variable_of (target_at h.event rule.dest) >? λ v. by_alternative (scene c.machine c.depth h f) h.event rule (binds (scene c.machine c.depth h f) v o)) t found.2 in
       let v = given (variable_of (target_at h.event rule.dest)) (λ v. by_alternative (scene c.machine c.depth h f) h.event rule (binds (scene c.machine c.depth h f) v o)) t from.1 in
-      by-items rule v.0 t found.1 (variable-among h.event state rule.source rule.dest v.0 from.0 v.1) v.2
+      by-items rule v.0 t found.1 (begins state rule.source from.0) (variable-among h.event state rule.source rule.dest v.0 from.0 v.1) v.2
 
-  pub chosen-binds : (k : Bool) (state : ℕ) (x : State) → chosen c.machine c.depth h f k state o None ≡ Some x → Binds c.machine c.depth f h o
-  chosen-binds k state x e = by (taken c.machine c.depth h f k state o None) refl e
+  pub chosen-gives : (k : Bool) (state : ℕ) (x : State) → chosen c.machine c.depth h f k state o None ≡ Some x → Gives c.machine c.depth f h o
+  chosen-gives k state x e = by (taken c.machine c.depth h f k state o None) refl e
     where
-      by : (q : Option Taken) → taken c.machine c.depth h f k state o None ≡ q → if_there q None (λ t. object_behind (target_at h.event t.rule.dest) None) ≡ Some x → Binds c.machine c.depth f h o
+      by : (q : Option Taken) → taken c.machine c.depth h f k state o None ≡ q → if_there q None (λ t. object_behind (target_at h.event t.rule.dest) None) ≡ Some x → Gives c.machine c.depth f h o
       by None a b = cc
-      by (Some t) a b = taken-binds k state t a
+      by (Some t) a b = taken-gives k state t a
 
-  pub fires-binds : (k : Bool) (state : ℕ) (r : Report) → Fires c h f k state o None r → Binds c.machine c.depth f h o
-  fires-binds k state r e = let t = given (taken c.machine c.depth h f k state o None) (report_of c h f (Some o)) r e in taken-binds k state t.0 t.1
+  pub fires-gives : (k : Bool) (state : ℕ) (r : Report) → Fires c h f k state o None r → Gives c.machine c.depth f h o
+  fires-gives k state r e = let t = given (taken c.machine c.depth h f k state o None) (report_of c h f (Some o)) r e in taken-gives k state t.0 t.1

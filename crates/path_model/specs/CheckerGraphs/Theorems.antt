@@ -8,7 +8,7 @@ use Rattle.path_model.specs.CheckerModel.Checkers.{model, origins}
 use Rattle.path_model.specs.CheckerModel.Happenings.{Function}
 use Rattle.path_model.specs.CheckerModel.Reports.{Checker}
 use Rattle.path_model.specs.CheckerPrograms.Paths.{program}
-use Rattle.path_model.specs.CheckerPrograms.Relevant.{Relevant}
+use Rattle.path_model.specs.CheckerPrograms.Relevant.{Relevant, Followed}
 use Rattle.path_model.specs.CheckerPrograms.Texts.{functions_in, function_of, with_close, definition_of}
 use Rattle.typed_unit.specs.Texts.{Text, texts_of}
 use Rattle.report_model.specs.declared.report.Report.{Report}
@@ -33,6 +33,11 @@ GraphsReportTheSame = (c : Checker) (ts : List Text) (gs : List Graph) → AreGr
 abbrev pub RelevantObjectsAreClosedInGraphs : Type 0
 RelevantObjectsAreClosedInGraphs = (c : Checker) (ts : List Text) (gs : List Graph) → AreGraphs ts gs
     → IsClosed (model c) (supergraph (model c) (flow_graphs c ts gs)) (origins c) (Relevant c ts)
+
+-- and so may those that are followed
+abbrev pub FollowedObjectsAreClosedInGraphs : Type 0
+FollowedObjectsAreClosedInGraphs = (c : Checker) (ts : List Text) (gs : List Graph) → AreGraphs ts gs
+    → IsClosed (model c) (supergraph (model c) (flow_graphs c ts gs)) (origins c) (Followed c ts)
 
 -- no two functions of numbered units stand at one place
 abbrev pub FunctionsStandApart : Type 0

@@ -6,7 +6,8 @@ use Rattle.report_model.specs.declared.report.Report.{Report}
 use Rattle.path_theory.specs.Model.{Model}
 use Rattle.path_theory.specs.Origins.{Origins}
 use Rattle.path_model.specs.CheckerModel.Calls.{into, out, returned}
-use Rattle.path_model.specs.CheckerModel.Choices.{State, start, next_global, chosen}
+use Rattle.metal_tree.specs.MetalMachines.Machine.{start}
+use Rattle.path_model.specs.CheckerModel.Choices.{State, next_global, chosen}
 use Rattle.path_model.specs.CheckerModel.Happenings.{Function, Happening, Site}
 use Rattle.path_model.specs.CheckerModel.Moves.{move_of, source}
 use Rattle.path_model.specs.CheckerModel.Reports.{Checker, Fires, FiresGlobal}

@@ -13,20 +13,13 @@ use Rattle.hole_matching.specs.MachineMatches.{setting_of}
 use Rattle.hole_matching.specs.Matched.{nothing_taken}
 use Rattle.hole_matching.specs.Matching.{Binding}
 use Rattle.objects.specs.Equality.{same_object}
-use Rattle.metal_tree.specs.MetalMachines.Machine.{Source, FromGlobal, FromObject, Target, ToGlobal, ToObject, ToUnknown, Dest, Always, ByTruth, Item, Rule, Machine}
+use Rattle.metal_tree.specs.MetalMachines.Machine.{stop, Source, FromGlobal, FromObject, Target, ToGlobal, ToObject, ToUnknown, Dest, Always, ByTruth, Item, Rule, Machine}
 use Rattle.c_tree.specs.PathSubjects.Subjects.{Tree}
 use Rattle.path_model.specs.CheckerModel.Happenings.{Function, Happening}
 
 -- a state of an object: the variable that it is of, and its number
 abbrev pub State : Type 0
 State = ℕ × ℕ
-
--- `start` and `stop` are the first two global states
-abbrev pub start : ℕ
-start = 0
-
-abbrev pub stop : ℕ
-stop = 1
 
 abbrev pub first_some : {A B : Type 0} → (A → Option B) → List A → Option B
 first_some f [] = None
@@ -66,6 +59,11 @@ from_global state (FromObject v q) = false
 abbrev pub from_object : State → Source → Bool
 from_object state (FromGlobal q) = false
 from_object state (FromObject v q) = nat_eq v state.0 && nat_eq q state.1
+
+-- it begins in a global state, whichever that is
+abbrev pub begins_globally : Source → Bool
+begins_globally (FromGlobal q) = true
+begins_globally (FromObject v q) = false
 
 abbrev pub leads_to_global : Target → Bool
 leads_to_global (ToGlobal q) = true
@@ -164,3 +162,8 @@ pub record Binds (m : Machine) (depth : ℕ) (f : Function) (h : Happening) (o :
   pub variable : ℕ
   pub of_rule : Among variable (rule_variables rule.source rule.dest)
   pub bound : bound_object (scene m depth h f) variable binding ≡ Some o
+
+-- AN ALTERNATIVE OF A RULE MAY GIVE THE OBJECT A STATE, or a report, while it is unknown: the rule binds it, and begins in a global state
+pub record Gives (m : Machine) (depth : ℕ) (f : Function) (h : Happening) (o : Object) : Type 0 where
+  pub binds : Binds m depth f h o
+  pub begins : begins_globally binds.rule.source ≡ true

@@ -5,7 +5,7 @@ use Rattle.path_model.specs.CheckerModel.Checkers.{model, origins}
 use Rattle.path_model.specs.CheckerModel.Happenings.{Function}
 use Rattle.path_model.specs.CheckerModel.Reports.{Checker}
 use Rattle.path_model.specs.CheckerPrograms.Paths.{program}
-use Rattle.path_model.specs.CheckerPrograms.Relevant.{Relevant}
+use Rattle.path_model.specs.CheckerPrograms.Relevant.{Relevant, Followed}
 use Rattle.typed_unit.specs.Texts.{Text}
 use Rattle.path_theory.specs.Relevant.{IsClosed}
 
@@ -15,3 +15,10 @@ RelevantObjectsAreClosed = (c : Checker) (ts : List Text) → IsClosed (model c)
 -- each of them is an object at the checker's depth
 abbrev pub RelevantObjectsAreObjects : Type 0
 RelevantObjectsAreObjects = (c : Checker) (ts : List Text) (f : Function) (o : Object) → Relevant c ts f o → IsObject c.depth o
+
+-- the same of the objects that are followed, which are some of them
+abbrev pub FollowedObjectsAreClosed : Type 0
+FollowedObjectsAreClosed = (c : Checker) (ts : List Text) → IsClosed (model c) (program c ts) (origins c) (Followed c ts)
+
+abbrev pub FollowedObjectsAreRelevant : Type 0
+FollowedObjectsAreRelevant = (c : Checker) (ts : List Text) (f : Function) (o : Object) → Followed c ts f o → Relevant c ts f o

@@ -1,7 +1,7 @@
 // The theorems about the graphs of a program, each in the contract of a function that does nothing: a call of it hands the fact to a caller's
 // proof.
 
-ghost use Rattle.path_model.specs.CheckerGraphs.Theorems.{GraphsHaveTheTraces, GraphsReportTheSame, RelevantObjectsAreClosedInGraphs, FunctionsStandApart, FunctionsHaveOneNumber, FunctionsHaveTheirGraphs};
+ghost use Rattle.path_model.specs.CheckerGraphs.Theorems.{GraphsHaveTheTraces, GraphsReportTheSame, RelevantObjectsAreClosedInGraphs, FollowedObjectsAreClosedInGraphs, FunctionsStandApart, FunctionsHaveOneNumber, FunctionsHaveTheirGraphs};
 
 /// A program whose functions are cut into blocks has the traces of the program under each checker, and no others.
 pub fn graphs_have_the_traces()
@@ -16,6 +16,11 @@ pub fn graphs_report_the_same()
 /// Relevant objects may be followed alone in it.
 pub fn relevant_objects_are_closed_in_graphs()
     ensures { RelevantObjectsAreClosedInGraphs }
+{}
+
+/// So may the followed ones.
+pub fn followed_objects_are_closed_in_graphs()
+    ensures { FollowedObjectsAreClosedInGraphs }
 {}
 
 /// No two functions of the units of a program stand at one place.

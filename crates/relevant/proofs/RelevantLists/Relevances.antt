@@ -1,4 +1,4 @@
--- The lists of a program: where all relevant objects were found, those that were filed are the lists of what is relevant.
+-- The lists of a program: where all objects of a family were found, those that were filed are its lists.
 use Rattle.std.proofs.Common.{◌≡◌, ◌↔◌, ℕ, ◌<◌, List, Contains, length, Some, ap, subst}
 use Rattle.std.specs.Prelude.{slice_get}
 use Rattle.std.specs.Option.{option_map}
@@ -9,18 +9,17 @@ use Rattle.type_rules.specs.Functions.{Defined}
 use Rattle.path_model.specs.CheckerGraphs.Graphs.{function_at}
 use Rattle.path_model.specs.CheckerModel.Happenings.{Function}
 use Rattle.path_model.specs.CheckerModel.Reports.{Checker}
-use Rattle.path_model.specs.CheckerPrograms.Relevant.{Relevant}
 use Rattle.path_model.specs.CheckerPrograms.Texts.{functions_in, function_of}
 use Rattle.typed_unit.specs.Texts.{Text}
 use Rattle.relevant.specs.RelevantLists.Filed.{AreFiled}
 use Rattle.relevant.specs.RelevantLists.Lists.{AreLists}
 use Rattle.relevant.specs.RelevantSteps.Steps.{Member}
 
-module _ (c : Checker) (ts : List Text) (found : List Member) (lists : List (List Object)) where
-  pub are-lists : ((f : Function) (o : Object) → Relevant c ts f o → IsObject c.depth o)
-      → ((n : ℕ) (f : Function) (o : Object) → function_at ts n ≡ Some f → Contains found (n, o) ↔ Relevant c ts f o)
-      → length lists ≡ length (functions_in ts) → AreFiled found lists → AreLists c ts lists
-  are-lists plain relevant count filed = record {
+module _ (c : Checker) (ts : List Text) (Family : Function → Object → Type 0) (found : List Member) (lists : List (List Object)) where
+  pub are-lists : ((f : Function) (o : Object) → Family f o → IsObject c.depth o)
+      → ((n : ℕ) (f : Function) (o : Object) → function_at ts n ≡ Some f → Contains found (n, o) ↔ Family f o)
+      → length lists ≡ length (functions_in ts) → AreFiled found lists → AreLists c ts Family lists
+  are-lists plain all count filed = record {
     count = count;
     followed = followed;
     plain = λ n os e o h.
@@ -29,9 +28,9 @@ module _ (c : Checker) (ts : List Text) (found : List Member) (lists : List (Lis
   }
     where
       followed : (n : ℕ) (d : Defined) (os : List Object) → slice_get (functions_in ts) n ≡ Some d → slice_get lists n ≡ Some os
-          → ((o : Object) → Contains os o → Relevant c ts (function_of d) o) × ((o : Object) → Relevant c ts (function_of d) o → Contains os o)
+          → ((o : Object) → Contains os o → Family (function_of d) o) × ((o : Object) → Family (function_of d) o → Contains os o)
       followed n d os e k =
-          let at = relevant n (function_of d) in
+          let at = all n (function_of d) in
           let named : function_at ts n ≡ Some (function_of d) = ap (option_map function_of) e in (
             λ o h. (at o named).0 ((filed n os k).0 o h),
             λ o h. (filed n os k).1 o ((at o named).1 h),

@@ -49,12 +49,12 @@ of-number f (Some x) y e = (x, refl)
 
 -- ---- what is passed
 
-into-same : (depth : ℕ) (k : FollowedCall) (s : Site) (o : Object) → Passes depth k s → into depth (site_of depth k.site) o ≡ into depth s o
+pub into-same : (depth : ℕ) (k : FollowedCall) (s : Site) (o : Object) → Passes depth k s → into depth (site_of depth k.site) o ≡ into depth s o
 into-same depth k s o p =
     ap (λ xs. if_object depth o >? λ q. cond (are_static q.selectors) (passed depth xs (site_of depth k.site).actuals q) None) p.formals
     ∙ ap (λ as_. if_object depth o >? λ q. cond (are_static q.selectors) (passed depth s.formals as_ q) None) p.actuals
 
-out-same : (depth : ℕ) (k : FollowedCall) (s : Site) (o : Object) → Passes depth k s → out depth (site_of depth k.site) o ≡ out depth s o
+pub out-same : (depth : ℕ) (k : FollowedCall) (s : Site) (o : Object) → Passes depth k s → out depth (site_of depth k.site) o ≡ out depth s o
 out-same depth k s o p =
     ap (λ xs. or_else (reached depth xs (site_of depth k.site).actuals o) (cond (is_static o) (Some o) None)) p.formals
     ∙ ap (λ as_. or_else (reached depth s.formals as_ o) (cond (is_static o) (Some o) None)) p.actuals
@@ -71,7 +71,7 @@ module _ (c : Checker) (ts : List Text) (gs : List Graph) (rows : List FunctionR
       (function_of d.0, g.0, record { named = ap (option_map function_of) d.1; graph = g.1 })
 
   -- and a function has one
-  row-of : (n : ℕ) (f : Function) → function_at ts n ≡ Some f → (row : FunctionRow) × (slice_get rows n ≡ Some row)
+  pub row-of : (n : ℕ) (f : Function) → function_at ts n ≡ Some f → (row : FunctionRow) × (slice_get rows n ≡ Some row)
   row-of n f e =
       let d = of-number function_of (slice_get (functions_in ts) n) f e in
       there (functions_in ts) rows n d.0 R.count d.1

@@ -1,4 +1,4 @@
--- WHAT RULES BIND at an event, in a block and in a function: objects with the number of the function.
+-- WHAT RULES BIND that begin in some states, at an event, in a block and in a function: objects with the number of the function.
 use Rattle.std.specs.Prelude.{◌≡◌, ◌<◌, ℕ, List, slice_get}
 use Rattle.flow_graph.specs.CPaths.BlockGraphs.{events_at}
 use Rattle.flow_graph.specs.CPaths.Building.{Graph}
@@ -6,7 +6,8 @@ use Rattle.flow_graph.specs.CPaths.Events.{Event}
 use Rattle.flow_graph.specs.CPaths.Graphs.{Block}
 use Rattle.flow_graph.specs.CPaths.Membership.{Among}
 use Rattle.type_rules.specs.Functions.{Defined}
-use Rattle.path_model.specs.CheckerModel.Choices.{Binds}
+use Rattle.state_tuples.specs.AppliedRules.Bound.{BindsFrom}
+use Rattle.state_tuples.specs.declared.applied_rules.sources.RuleSources.{RuleSources}
 use Rattle.path_model.specs.CheckerModel.Happenings.{Function, Happening}
 use Rattle.path_model.specs.CheckerModel.Reports.{Checker}
 use Rattle.path_model.specs.CheckerPrograms.Texts.{function_of, happening}
@@ -15,10 +16,10 @@ use Rattle.metal_tree.specs.MetalMachines.Machine.{Machine}
 use Rattle.flow_graph.specs.ReachedBlocks.Reached.{Happens}
 use Rattle.relevant.specs.RelevantSteps.Steps.{Member, Base}
 
-module _ (m : Machine) (depth n : ℕ) where
+module _ (w : RuleSources) (m : Machine) (depth n : ℕ) where
   -- at an event of this function, whose number is n
   abbrev pub BoundAt : Function → Happening → Member → Type 0
-  BoundAt f h y = (n ≡ y.0) × Binds m depth f h y.1
+  BoundAt f h y = (n ≡ y.0) × BindsFrom w m depth f h y.1
 
   -- at an event of the block with a number
   abbrev pub BoundIn : List Text → Defined → List Block → ℕ → Member → Type 0
@@ -28,11 +29,11 @@ module _ (m : Machine) (depth n : ℕ) where
   abbrev pub BoundOf : List Text → Defined → Graph → Member → Type 0
   BoundOf ts d g y = (e : Event) × Happens g e × BoundAt (function_of d) (happening ts (function_of d) e) y
 
-module _ (c : Checker) (ts : List Text) (gs : List Graph) (n : ℕ) where
+module _ (w : RuleSources) (c : Checker) (ts : List Text) (gs : List Graph) (n : ℕ) where
   -- in the function with number n
   abbrev pub BoundWith : Member → Type 0
-  BoundWith y = (n ≡ y.0) × Base c ts gs y
+  BoundWith y = (n ≡ y.0) × Base c ts gs w y
 
   -- in the functions before it
   abbrev pub BoundBefore : Member → Type 0
-  BoundBefore y = (y.0 < n) × Base c ts gs y
+  BoundBefore y = (y.0 < n) × Base c ts gs w y

@@ -9,7 +9,8 @@ use Rattle.call_graph.specs.Followed.{followed}
 use Rattle.path_model.specs.CheckerGraphs.Graphs.{function_at}
 use Rattle.path_model.specs.CheckerModel.Calls.{into, out}
 use Rattle.path_model.specs.CheckerModel.Checkers.{source_at}
-use Rattle.path_model.specs.CheckerModel.Choices.{Binds}
+use Rattle.state_tuples.specs.AppliedRules.Bound.{BindsFrom}
+use Rattle.state_tuples.specs.declared.applied_rules.sources.RuleSources.{RuleSources}
 use Rattle.path_model.specs.CheckerModel.Happenings.{Function, Site}
 use Rattle.path_model.specs.CheckerModel.Reports.{Checker}
 use Rattle.path_model.specs.CheckerPrograms.Texts.{functions_in, table_of, happening, site}
@@ -26,14 +27,14 @@ module _ (c : Checker) (ts : List Text) (gs : List Graph) where
     pub named : function_at ts n ≡ Some f
     pub graph : slice_get gs n ≡ Some g
 
-  -- a rule binds the object at an event of the function, in a block that control reaches
-  pub record IsBound (n : ℕ) (o : Object) : Type 0 where
+  -- a rule that begins there binds the object at an event of the function, in a block that control reaches
+  pub record IsBound (w : RuleSources) (n : ℕ) (o : Object) : Type 0 where
     pub function : Function
     pub graph : Graph
     pub is : IsNumbered n function graph
     pub event : Event
     pub happens : Happens graph event
-    pub binds : Binds c.machine c.depth function (happening ts function event) o
+    pub binds : BindsFrom w c.machine c.depth function (happening ts function event) o
 
   -- the object takes its state from the other at such an event
   pub record Moves (n : ℕ) (o b : Object) : Type 0 where
@@ -63,8 +64,8 @@ module _ (c : Checker) (ts : List Text) (gs : List Graph) where
     AtReturn : {n m : ℕ} {o b : Object} (s : Site) → IsCall n m s → out c.depth s o ≡ Some b → Takes n o m b
 
   -- what is there from the beginning, and what follows from a member
-  abbrev pub Base : Member → Type 0
-  Base x = IsBound x.0 x.1
+  abbrev pub Base : RuleSources → Member → Type 0
+  Base w x = IsBound w x.0 x.1
 
   abbrev pub Goes : Member → Member → Type 0
   Goes x y = Takes x.0 x.1 y.0 y.1 ⊎ Takes y.0 y.1 x.0 x.1

@@ -28,8 +28,8 @@ fn linked_in(
     Ok(found)
 }
 
-// The function with a number.
-fn row_at<'r, 's, 'a>(
+/// The function with a number.
+pub fn row_at<'r, 's, 'a>(
     rows: &'r [FunctionRow<'s, 'a>],
     number: u32,
 ) -> Option<&'r FunctionRow<'s, 'a>>
@@ -54,8 +54,8 @@ fn linked_from(
     }
 }
 
-// Equal objects of functions.
-fn copies(alloc: Global, members: &[(u32, Object)]) -> Result<Vec<(u32, Object)>, AllocError>
+/// Equal objects of functions.
+pub fn copies(alloc: Global, members: &[(u32, Object)]) -> Result<Vec<(u32, Object)>, AllocError>
     ensures { IfOk result (λ list. list.items ≡ members.now) }
 {
     let mut list = Vec::new(alloc);

@@ -1,4 +1,4 @@
--- What a C file is from its bytes on: its tokens, its trees and its types, or its first fault.
+-- What a C file is from its tokens on: its trees and its types, or its first fault; and that bytes have no tokens.
 use Rattle.std.specs.Prelude.{◌≡◌, ℕ, ◌<◌, ◌^◌, List, [], Some, None, slice_get}
 use Rattle.c_tree.specs.declared.place.Place.{Place}
 use Rattle.c_tree.specs.declared.token.Token.{Token}
@@ -10,8 +10,8 @@ use Rattle.c_lexer.specs.CReading.Chunks.{AreChunks}
 use Rattle.c_lexer.specs.declared.c_reading.fault.Fault as reading
 use Rattle.c_lexer.specs.declared.c_reading.mode.Mode.TheVariants.{C}
 use Rattle.c_lexer.specs.CReading.Pieces.{Piece, beginning, behind_all}
-use Rattle.c_lexer.specs.CReading.Reading.{IsReading, IsFaulty}
-use Rattle.c_lexer.specs.Tokens.{TokenList, Lexes, position_of}
+use Rattle.c_lexer.specs.CReading.Reading.{IsFaulty}
+use Rattle.c_lexer.specs.Tokens.{TokenList, position_of}
 use Rattle.c_parser.specs.Units.{AreTheTrees, IsFirstBadAt}
 use Rattle.type_rules.specs.Definition.{first_fault}
 use Rattle.type_rules.specs.Faults as typing
@@ -20,12 +20,6 @@ use Rattle.request_files.specs.declared.front_end.fault.Fault.{Fault}
 use Rattle.request_files.specs.declared.front_end.fault.Fault.TheVariants.{Syntax}
 use Rattle.request_files.specs.declared.front_end.fault.Faulty.{Faulty}
 use Rattle.request_files.specs.FrontEnd.Faults.{of_reading, of_typing, place_of}
-
--- the bytes of the file with this number have a reading, and these are its tokens
-pub record AreTokensOf (number : ℕ) (word : List ℕ) (names : List (List ℕ)) (bytes : List ℕ) (list : TokenList) : Type 0 where
-  pub pieces : List Piece
-  pub reading : IsReading C word pieces bytes
-  pub lexes : Lexes C number word names pieces list
 
 -- the bytes have no reading, and this is wrong behind the longest beginning that can be cut
 pub record HasNoTokens (word : List ℕ) (names : List (List ℕ)) (bytes : List ℕ) (found : Faulty) : Type 0 where

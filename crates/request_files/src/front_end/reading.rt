@@ -1,13 +1,10 @@
 //! A C file's tokens, and its unit with types.
 
 ghost use Rattle.std.specs.Prelude.{◌≡◌, ◌+◌, ◌<◌, ◌≤◌, ◌^◌, ◌⊎◌, List, length, map, IfOk, IfErr};
-ghost use Rattle.mx_base.specs.Names.{AddsAtMost, HasNoRepeats, names_after};
+ghost use Rattle.mx_base.specs.Names.{AddsAtMost, HasNoRepeats};
 ghost use Rattle.c_tree.specs.declared.place.Place.{Place as PlaceValue};
 ghost use Rattle.c_tree.specs.Views.{nodes_of};
-ghost use Rattle.c_lexer.specs.CReading.Pieces.{Piece as ReadPiece};
-ghost use Rattle.c_lexer.specs.CReading.Reading.{IsReading};
 ghost use Rattle.c_lexer.specs.declared.c_reading.mode.Mode.TheVariants.{C};
-ghost use Rattle.c_lexer.specs.Naming.{named_by};
 ghost use Rattle.c_lexer.specs.Tokens.{TokenList};
 ghost use Rattle.type_rules.specs.Functions.{functions_of};
 ghost use Rattle.type_rules.specs.Unit.{table_by};
@@ -15,7 +12,8 @@ ghost use Rattle.typed_unit.specs.Functions.{function_of};
 ghost use Rattle.typed_unit.specs.Tables.{table_of};
 ghost use Rattle.unit_typing.specs.Faults.{fault_of};
 ghost use Rattle.request_files.specs.FrontEnd.Refusals.{kind_and_spot, unread_as, unparsed_as, untyped_as};
-ghost use Rattle.request_files.specs.FrontEnd.Sources.{AreTokensOf, AreTypedTrees, HasNoTokens, HasNoTrees, HasNoTypes, stands_at};
+ghost use Rattle.request_files.specs.FrontEnd.Sources.{AreTypedTrees, HasNoTokens, HasNoTrees, HasNoTypes, stands_at};
+ghost use Rattle.request_files.specs.Lexed.{AreTokensOf};
 ghost use Rattle.request_files.specs.declared.front_end.fault.Faulty.{Faulty as Found};
 ghost use Rattle.request_files.specs.declared.front_end.fault.Refusal.TheVariants.{Faulty as FaultyAt};
 
@@ -104,12 +102,10 @@ pub fn read_tokens(
 ) -> Result<Tokens, Refusal>
     requires size { length bytes.now ≤ 16777216 }
     requires room { length bytes.now + length names.old + 1 < 2 ^ 31 }
-    ensures tokens { IfOk result (λ tokens. AreTokensOf file word.now names.new bytes.now tokens) }
+    ensures tokens { IfOk result (λ tokens. AreTokensOf C file word.now names.old names.new bytes.now tokens) }
     ensures refused { IfErr result (λ e. (found : Found) → e ≡ FaultyAt found → HasNoTokens word.now names.new bytes.now found) }
     ensures few { IfOk result (λ tokens. length tokens.all ≤ length bytes.now) }
     ensures adds { AddsAtMost names.old names.new (length bytes.now + 1) }
-    ensures named { IfOk result (λ _. (pieces : List ReadPiece) → IsReading C word.now pieces bytes.now →
-        names.new ≡ named_by (names_after names.old word.now) pieces) }
     ensures distinct { HasNoRepeats names.new }
 {
     match lex(alloc, bytes, Mode::C, file, word, names) {

@@ -8,7 +8,7 @@ use Rattle.path_model.specs.CheckerGraphs.Graphs.{flow_graphs, function_at}
 use Rattle.path_model.specs.CheckerModel.Checkers.{model, origins}
 use Rattle.path_model.specs.CheckerModel.Happenings.{Function, Happening}
 use Rattle.path_model.specs.CheckerModel.Reports.{Checker}
-use Rattle.path_model.specs.CheckerPrograms.Relevant.{Relevant}
+use Rattle.path_model.specs.CheckerPrograms.Relevant.{Followed}
 use Rattle.path_model.specs.CheckerPrograms.Texts.{function_of, happening}
 use Rattle.typed_unit.specs.Texts.{Text}
 use Rattle.saturation.proofs.EdgeReports.AtEvents.{of-unit}
@@ -60,14 +60,14 @@ module _ (t : Tables) (e : Edge) (f : Frame) (p : IsPlace t e.context.function f
   here-shown r w = record {
     fn = fn;
     named = named t e.context.function p.defined p.is;
-    shows = shows (model c) (origins c) (listed c f.objects.now) (Relevant c (texts_in t)) fn (λ o i. p.followed.0 o i) (subst (λ hs. Here hs r) events-are w);
+    shows = shows (model c) (origins c) (listed c f.objects.now) (Followed c (texts_in t)) fn (λ o i. p.followed.0 o i) (subst (λ hs. Here hs r) events-are w);
   }
 
   shown-here : (r : Report) → ShowsAt c (texts_in t) (graphs_in t) e r → Here (map (happening_at u.now) (events_of f e)) r
   shown-here r s =
       let same : s.fn ≡ fn = one-function s.fn fn (sym s.named ∙ named t e.context.function p.defined p.is) in
-      let there = subst (λ (z : Function). Shows (model c) (origins c) (Relevant c (texts_in t)) z e.is_root r ((flow_graphs c (texts_in t) (graphs_in t)).events z e.block) (edge_in e).tuple.global (edge_in e).tuple.fact) same s.shows in
-      subst (λ hs. Here hs r) (sym events-are) (shows (model c) (origins c) (Relevant c (texts_in t)) (listed c f.objects.now) fn (λ o i. p.followed.1 o i) there)
+      let there = subst (λ (z : Function). Shows (model c) (origins c) (Followed c (texts_in t)) z e.is_root r ((flow_graphs c (texts_in t) (graphs_in t)).events z e.block) (edge_in e).tuple.global (edge_in e).tuple.fact) same s.shows in
+      subst (λ hs. Here hs r) (sym events-are) (shows (model c) (origins c) (Followed c (texts_in t)) (listed c f.objects.now) fn (λ o i. p.followed.1 o i) there)
 
   -- the rules of the block
   pub rules-are : (b : BlockTable) → slice_get f.table.now.blocks.items e.block ≡ Some b → AreOfEvents c.machine t.depth fn (map (happening_at u.now) (events_of f e)) b.rules.items

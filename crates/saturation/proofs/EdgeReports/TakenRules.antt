@@ -6,7 +6,8 @@ use Rattle.block_flows.specs.declared.taken_rules.Firing.{Firing}
 use Rattle.c_objects.specs.Objects.{Object}
 use Rattle.path_model.proofs.CheckerModel.Sources.{given, tested, untested}
 use Rattle.path_model.specs.CheckerModel.Checkers.{model, origins}
-use Rattle.path_model.specs.CheckerModel.Choices.{State, Taken, stop, first_some, is_asked, is_global_asked, scene, taken, taken_global, object_rule, global_rule}
+use Rattle.metal_tree.specs.MetalMachines.Machine.{stop}
+use Rattle.path_model.specs.CheckerModel.Choices.{State, Taken, first_some, is_asked, is_global_asked, scene, taken, taken_global, object_rule, global_rule}
 use Rattle.path_model.specs.CheckerModel.Happenings.{Function, Happening}
 use Rattle.path_model.specs.CheckerModel.Reports as reports
 use Rattle.path_theory.specs.EventWalks.Happenings.{HappensHere, ToObject, ToGlobal, HappensAt, Here, Later}

@@ -6,7 +6,8 @@ use Rattle.state_tuples.proofs.AppliedRules.BoundObjects.{exactly_bound}
 use Rattle.state_tuples.proofs.AppliedRules.MatchedOnce.{matched_once, taken_by_first}
 use Rattle.state_tuples.proofs.AppliedRules.Takers.{object-takes}
 use Rattle.state_tuples.specs.AppliedRules.Applied.{Applied, applied_at}
-use Rattle.state_tuples.specs.AppliedRules.Bound.{bound_by}
+use Rattle.state_tuples.specs.AppliedRules.Bound.{bound_by, BindsFrom}
+use Rattle.state_tuples.specs.declared.applied_rules.sources.RuleSources.{RuleSources}
 use Rattle.state_tuples.specs.AppliedRules.Events.{applied_of, AreOfEvent}
 use Rattle.state_tuples.specs.AppliedRules.Firsts.{picked, first_taken, rule_taken}
 use Rattle.state_tuples.specs.AppliedRules.Takers.{IsFirstFor}
@@ -14,11 +15,11 @@ use Rattle.state_tuples.specs.declared.applied_rules.rules.EventRules.{EventRule
 use Rattle.c_objects.specs.Objects.{Object}
 use Rattle.type_rules.specs.Options.{if_there}
 use Rattle.path_model.proofs.CheckerModel.Sources.{untested}
-use Rattle.path_model.specs.CheckerModel.Choices.{State, Taken, Binds, stop, first_some, is_asked, is_global_asked, scene, taken, taken_global, target_at, global_behind, object_behind, next_global, chosen}
+use Rattle.path_model.specs.CheckerModel.Choices.{State, Taken, first_some, is_asked, is_global_asked, scene, taken, taken_global, target_at, global_behind, object_behind, next_global, chosen}
 use Rattle.path_model.specs.CheckerModel.Happenings.{Function, Happening}
 use Rattle.flow_graph.specs.Values.{event_of}
 use Rattle.hole_matcher.specs.HoleBindings.Settings.{setting_in}
-use Rattle.metal_tree.specs.MetalMachines.Machine.{Machine}
+use Rattle.metal_tree.specs.MetalMachines.Machine.{stop, Machine}
 use Rattle.state_tuples.specs.RuleChoices.Asked.{Asker, GlobalState, ObjectIn, asked_rule, may_take}
 use Rattle.state_tuples.specs.declared.rule_choices.fired.Fired.{Fired}
 use Rattle.state_tuples.specs.RuleChoices.Firsts.{IsByFirst}
@@ -76,11 +77,11 @@ module _ (m : Machine) (depth : ℕ) (h : Happening) (f : Function) (r : EventRu
       let there = subst (λ (z : Asker). (may_take h.event state z (taken_of x).rule ≡ true) × IsByFirst (scene m depth h f) h.event z x) same (is_by_first asked state a x e) in
       subst (λ (z : Asker). IsByFirst (scene m depth h f) h.event z x) (object-takes h.event state o q (taken_of x).rule there.0) there.1
 
-  pub bound_is : (o : Object) → Contains (bound_by (setting_in r.setting) all) o ↔ Binds m depth f h o
-  bound_is o =
-      let list : bound_by (setting_in r.setting) all ≡ bound_by (scene m depth h f) (applied_at (scene m depth h f) h.event m.rules) =
-      ap (λ z. bound_by z all) of.setting ∙ ap (bound_by (scene m depth h f)) of.applied in
-      subst (λ (z : List Object). Contains z o ↔ Binds m depth f h o) (sym list) (exactly_bound m depth h f o)
+  pub bound_is : (w : RuleSources) (o : Object) → Contains (bound_by w (setting_in r.setting) all) o ↔ BindsFrom w m depth f h o
+  bound_is w o =
+      let list : bound_by w (setting_in r.setting) all ≡ bound_by w (scene m depth h f) (applied_at (scene m depth h f) h.event m.rules) =
+      ap (λ z. bound_by w z all) of.setting ∙ ap (bound_by w (scene m depth h f)) of.applied in
+      subst (λ (z : List Object). Contains z o ↔ BindsFrom w m depth f h o) (sym list) (exactly_bound m depth h f o w)
 
 -- what is known of the one that is picked, by what it stands for
 pub picked_rule : (o : Option (Bor Fired)) (y : Option Applied) → option_map (λ (t : Bor Fired). applied_of t.now) o ≡ y → option_map (λ (t : Bor Fired). taken_of t.now) o ≡ rule_taken y
@@ -93,13 +94,13 @@ picked_first None y P e k = tt
 picked_first (Some t) y P e k = k t.now (sym e)
 
 -- the list of them
-pub all_bound : {A E : Type 0} (r : EventRules) (xs : List Fired) (s : Result (Vec Object A) E) → xs ≡ r.applied.items
-    → IfOk s (λ list. list.items ≡ bound_by (setting_in r.setting) (map applied_of xs))
-    → IfOk s (λ list. (m : Machine) (depth : ℕ) (h : Happening) (f : Function) → AreOfEvent m depth h f r → (o : Object) → Contains list.items o ↔ Binds m depth f h o)
-all_bound r xs (Err e) same h = tt
-all_bound r xs (Ok list) same k = λ m depth h f of o.
-    let items : list.items ≡ bound_by (setting_in r.setting) (map applied_of r.applied.items) = k ∙ ap (λ z. bound_by (setting_in r.setting) (map applied_of z)) same in
-    subst (λ (z : List Object). Contains z o ↔ Binds m depth f h o) (sym items) (bound_is m depth h f r of o)
+pub all_bound : {A E : Type 0} (r : EventRules) (w : RuleSources) (xs : List Fired) (s : Result (Vec Object A) E) → xs ≡ r.applied.items
+    → IfOk s (λ list. list.items ≡ bound_by w (setting_in r.setting) (map applied_of xs))
+    → IfOk s (λ list. (m : Machine) (depth : ℕ) (h : Happening) (f : Function) → AreOfEvent m depth h f r → (o : Object) → Contains list.items o ↔ BindsFrom w m depth f h o)
+all_bound r w xs (Err e) same h = tt
+all_bound r w xs (Ok list) same k = λ m depth h f of o.
+    let items : list.items ≡ bound_by w (setting_in r.setting) (map applied_of r.applied.items) = k ∙ ap (λ z. bound_by w (setting_in r.setting) (map applied_of z)) same in
+    subst (λ (z : List Object). Contains z o ↔ BindsFrom w m depth f h o) (sym items) (bound_is m depth h f r of w o)
 
 -- the states behind what is taken
 module _ (m : Machine) (depth : ℕ) (h : Happening) (f : Function) (r : EventRules) (of : AreOfEvent m depth h f r) (is_root : Bool) (state : ℕ) (t : Option Taken) where

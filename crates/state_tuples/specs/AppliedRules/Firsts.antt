@@ -3,7 +3,8 @@ use Rattle.std.specs.Prelude.{ℕ, nat_eq, List, Bool, cond, not, ◌&&◌, ◌|
 use Rattle.std.specs.Option.{option_map}
 use Rattle.state_tuples.specs.AppliedRules.Applied.{Applied}
 use Rattle.flow_graph.specs.CPaths.Events.{Event}
-use Rattle.path_model.specs.CheckerModel.Choices.{Taken, stop, first_some}
+use Rattle.metal_tree.specs.MetalMachines.Machine.{stop}
+use Rattle.path_model.specs.CheckerModel.Choices.{Taken, first_some}
 use Rattle.hole_matching.specs.Holes.{Setting}
 use Rattle.state_tuples.specs.RuleChoices.Asked.{Asker, may_take, fits}
 

@@ -13,9 +13,10 @@ ghost use Rattle.metal_tree.specs.MetalMachines.Machine.{Machine as Form};
 ghost use Rattle.state_tuples.specs.RuleChoices.Values.{asker_of, taken_of};
 
 use crate::applied_rules::rules::EventRules;
-use crate::choices::{STOP, asked_object, is_asked, is_global_asked};
+use crate::choices::{asked_object, is_asked, is_global_asked};
 use crate::rule_choices::{Asked, Fired, fits, may_take};
 use crate::targets::{global_behind, object_behind, target_at};
+use metal_tree::STOP;
 use objects::Object;
 
 impl<'m, 'a> EventRules<'m, 'a> {

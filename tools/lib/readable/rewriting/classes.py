@@ -13,28 +13,32 @@ EXACT = {
     "old-style head": "the head of an old-style definition with its parameters in the list",
     "typeof of a type": "`typeof` of a type as the type",
     "own type": "a cast of an operand to its own type left out",
+    "selection": "`_Generic` as the value for the type that its operand is declared with, or as any where they differ in qualifiers alone",
     "repeated declaration": "`extern typeof(f) f` left out",
     "assertion": "assertions at compile time left out",
     "declaration": "declarations in `for` and behind statements as blocks of their own",
     "plain loop": "`do { S } while (0)` without `break` and `continue` as `{ S }`",
     "comma": "`({ e; f; })` as `(e, f)`",
     "block": "a statement expression that is a statement, as a block",
-    "branches": "`c ? ({ .. }) : ({ .. });` as `if` and `else`",
+    "branches": "`c ? ({ .. }) : ({ .. });` and `v = c ? a : ({ .. });` as `if` and `else`",
     "nothing": "parts of a statement expression without an event left out",
+    "local label": "`__label__ l;` left out, and l under a name of its own where there are several",
     "address of a label": "of a label of its own, as 0",
 }
 # what is put in stands for something without an event, but a detail of it changes
 DETAIL = {
     "foreign size": "`sizeof` and `offsetof` of something foreign as `sizeof(0)`",
-    "typeof by declaration": "`typeof(*p)` by the declaration of `p`",
+    "typeof by declaration": "`typeof(*p)` and `typeof(p->m)` by the declarations of `p` and of `m`",
     "own variable": "the value of a variable of a statement expression in its place",
     "in front": "a statement expression in front of its statement, where it is evaluated first and always",
 }
 # may add or lose an event, or give a wrong type
 APPROXIMATION = {
     "read again": "a variable of a statement expression that is read more than once: its value read as often",
-    "automatic type": "`__auto_type` of arithmetic as `unsigned long`",
+    "automatic type": "`__auto_type` and `typeof` of arithmetic as `unsigned long`",
     "choice": "`__builtin_choose_expr` as `?:`",
+    "middle": "`a ?: b` as `a ? a : b`, where `a` only reads",
+    "compound literal": "`(T){ a, b }` as `(*(T *)(a, b, 0))`",
     "compatible types": "`__builtin_types_compatible_p(..)` as a call without arguments",
-    "per-CPU read": "a read of per-CPU data as the variable",
+    "per-CPU read": "a read of per-CPU data as the variable, a pointer to a processor's own as the pointer",
 }

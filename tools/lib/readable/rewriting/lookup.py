@@ -1,6 +1,6 @@
-"""The type of a plain expression by the nearest declaration above it: the words of the type and the number of stars."""
-from ..tokens import spellings, text_at
-from ..words import KEYWORDS, QUALIFIERS, STORAGE, TAGGED, WORD
+"""The type of a plain expression by declarations: the nearest one above it, those of the file, and those of members."""
+from ..tokens import Token, spellings, text_at
+from ..words import CLOSING, KEYWORDS, OPENING, QUALIFIERS, STORAGE, TAGGED, WORD
 
 BEHIND_NAME = {";", ",", "=", ")", "["}
 BEFORE_SPECIFIERS = {"{", ";", "(", ",", "}", ")"}
@@ -19,28 +19,76 @@ def plain_type(expression, names):
     return [text for text in texts[:k] if text not in QUALIFIERS], texts[k:].count("*")
 
 
-def dereferenced_name(expression):
-    """The name and the number of stars of `* .. * NAME`, in parentheses or not, or None."""
-    texts, stars = spellings(expression), 0
-    while texts and (texts[0] == "*" or (texts[0] == "(" and texts[-1] == ")")):
-        stars += texts[0] == "*"
-        texts = texts[1:] if texts[0] == "*" else texts[1:-1]
-    if len(texts) != 1 or not WORD.match(texts[0]) or texts[0] in KEYWORDS:
-        return None
-    return texts[0], stars
-
-
 def declared_type(tokens, i, expression, partner, work):
-    """The type of an expression at i that dereferences a name, by the declaration of the name above, or of the file; or None."""
-    found = dereferenced_name(expression)
-    if found is None:
+    """The words and stars of the type of an expression at i, by declarations above, in the file and in structs; or None."""
+    found = typing(tokens, i, partner, work)(spellings(expression))
+    return None if found is None or found[2] else found[:2]
+
+
+def typing(tokens, i, partner, work):
+    """What gives the type of an expression that stands at i, by its spellings."""
+    def local(name):
+        return type_above(tokens, i, name, partner, work)
+    return lambda texts: expression_type(texts, local, work.names)
+
+
+def expression_type(texts, local, names):
+    """The words, the stars, and whether it is an array, of an expression of names, calls, casts, `*`, `&`, `->`, `.`, indices and
+    `+ 0`; or None. Local gives
+    that of the name of a variable of the function."""
+    texts = without_parentheses(texts)
+    if len(texts) == 1 and WORD.match(texts[0]) and texts[0] not in KEYWORDS:
+        return local(texts[0]) or names.variables.get(texts[0])
+    if texts[:1] == ["*"]:
+        return pointed(expression_type(texts[1:], local, names))
+    if texts[:1] == ["&"]:
+        found = expression_type(texts[1:], local, names)
+        return None if found is None or found[2] else (found[0], found[1] + 1, False)
+    if texts[:1] == ["("] and names.is_type(texts[1]):
+        return cast_type(texts, names)
+    if len(texts) > 2 and texts[-2] in ("->", "."):
+        found = expression_type(texts[:-2], local, names)
+        found = pointed(found) if texts[-2] == "->" else found
+        return None if found is None or found[1] or found[2] else names.member(found[0], texts[-1])
+    if texts[-2:] == ["+", "0"]:
+        found = expression_type(texts[:-2], local, names)
+        return None if found is None else (found[0], found[1] + found[2], False)
+    if texts[1:2] == ["("] and texts[-1] == ")" and opening_of(texts) == 1:
+        return names.returned(texts[0])
+    if texts[-1:] == ["]"]:
+        return pointed(expression_type(texts[:opening_of(texts)], local, names))
+    return None
+
+
+def cast_type(texts, names):
+    """The type that the cast in front of an operand names, or None."""
+    found = plain_type([Token(text) for text in texts[1:texts.index(")")]], names)
+    return None if found is None else (*found, False)
+
+
+def pointed(found):
+    """The type of what a pointer or an array points to, or None."""
+    if found is None or not (found[1] or found[2]):
         return None
-    name, taken = found
-    declared = type_above(tokens, i, name, partner, work) or work.names.variables.get(name)
-    if declared is None:
-        return None
-    words, stars, is_array = declared
-    return None if stars + is_array < taken or is_array and taken == 0 else (words, stars + is_array - taken)
+    words, stars, is_array = found
+    return words, stars - (not is_array), False
+
+
+def without_parentheses(texts):
+    """Spellings without parentheses around the whole."""
+    while len(texts) > 2 and texts[0] == "(" and texts[-1] == ")" and opening_of(texts) == 0:
+        texts = texts[1:-1]
+    return texts
+
+
+def opening_of(texts):
+    """The index of the bracket that the last one ends."""
+    depth = 0
+    for k in range(len(texts) - 1, -1, -1):
+        depth += (texts[k] in CLOSING) - (texts[k] in OPENING)
+        if depth == 0:
+            return k
+    return 0
 
 
 def type_above(tokens, i, name, partner, work):

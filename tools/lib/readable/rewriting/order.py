@@ -1,18 +1,23 @@
 """The order in which the classes are tried, until nothing changes."""
 from ..tokens import spellings
 from ..words import TYPEOF
+from .conditionals import middles
 from .initials import designators
 from .late_declarations import declarations_behind_statements, declarations_in_heads
+from .literals import literals
+from .local_labels import local_labels
 from .loops import assertions, plain_loops
 from .old_style import new_style
+from .per_cpu import per_cpu_data
+from .selections import selections
 from .sizes import case_ranges, choices, sizes
 from .spellings import plain_words
 from .statement_expressions import statement_expressions
 from .types import plain_types
 
 ROUNDS = 6
-EVERYWHERE = [plain_types, sizes, assertions, choices, case_ranges, designators, statement_expressions]
-IN_FUNCTIONS = [declarations_in_heads, declarations_behind_statements, plain_loops]
+EVERYWHERE = [per_cpu_data, plain_types, selections, sizes, assertions, choices, case_ranges, designators, statement_expressions, middles]
+IN_FUNCTIONS = [literals, declarations_in_heads, declarations_behind_statements, local_labels, plain_loops]
 
 
 class Work:

@@ -1,14 +1,14 @@
 """Statement expressions, from the innermost outward: as an expression with commas, a block, branches, or in front of the statement."""
 from ..statements import divided, is_label, is_typed
-from ..tokens import Token, partners, put_in, spellings, text_at
-from ..words import KEYWORDS, TYPEOF, WORD
+from ..tokens import NOWHERE, Token, partners, put_in, spellings, text_at
+from ..words import KEYWORDS, WORD
 from .around import begins_statement, ends_value
 from .hoisting import in_front
 from .reduction import reduced
 from .substitution import substituted
+from .value_branches import as_value_branches
 
 ROUNDS = 2000
-PER_CPU_RESULTS = {"pscr_ret__", "pto_ret__", "pao_ret__"}
 
 
 def statement_expressions(tokens, work):
@@ -51,22 +51,17 @@ def one(tokens, opening, partner, work):
     if value is not None:
         return tokens[:opening] + value + tokens[close + 1:]
     return (as_block(tokens, opening, partner, statements, work) or as_branches(tokens, opening, partner, work)
-            or in_front(tokens, opening, close, partner, statements, work) or smaller(tokens, opening, close, statements))
+            or as_value_branches(tokens, opening, partner, statements, work)
+            or in_front(tokens, opening, close, partner, statements, work)
+            or behind_comma(tokens, opening, partner) or smaller(tokens, opening, close, statements))
 
 
 def known_value(body, work):
-    """The value of the address of a label of its own, and of a read of per-CPU data, which stands in asm."""
+    """The value of the address of a label of its own."""
     texts = spellings(body)
-    if len(texts) < 9:
-        return None
-    if texts[0] == "__label__" and texts[3:5] == [texts[1], ":"] and texts[-3:] == ["&&", texts[1], ";"]:
+    if texts[:1] == ["__label__"] and texts[3:5] == [texts[1], ":"] and texts[-3:] == ["&&", texts[1], ";"]:
         work.count("address of a label")
         return put_in("0")
-    if texts[0] in TYPEOF and texts[1] == "(":
-        close = partners(body)[1]
-        if texts[close + 1] in PER_CPU_RESULTS and texts[-2:] == [texts[close + 1], ";"]:
-            work.count("per-CPU read")
-            return body[2:close]
     return None
 
 
@@ -133,6 +128,19 @@ def as_branches(tokens, opening, partner, work):
     test = [*put_in("{ if ("), *tokens[condition:question], *put_in(")")]
     ways = [*tokens[first:partner[first] + 1], *put_in("else"), *tokens[opening:partner[opening] + 1], *put_in("}")]
     return tokens[:start] + test + ways + tokens[end:]
+
+
+def behind_comma(tokens, opening, partner):
+    """`(a, ({ .. }))` as `({ a; .. })`, so that what stands before the comma doesn't keep the rest from a form that fits; or None."""
+    close = partner[opening]
+    first = partner.get(close + 2, NOWHERE) if text_at(tokens, close + 2) == ")" else NOWHERE
+    if first <= 0 or text_at(tokens, opening - 2) != "," or WORD.match(tokens[first - 1].text) or tokens[first - 1].text in (")", "]"):
+        return None
+    before = tokens[first + 1:opening - 2]
+    if not before or before[0].text == "{":
+        return None
+    inside = [tokens[opening], *before, Token(";", tokens[opening - 2].at), *tokens[opening + 1:close + 1]]
+    return tokens[:first + 1] + inside + tokens[close + 2:]
 
 
 def arm_before(tokens, opening, partner):

@@ -1,16 +1,16 @@
 """`typeof` and `__auto_type`: as the type where it can be read off, and casts to an operand's own type left out."""
 from ..tokens import Token, apply, index_of, parts, partners, put_in, spellings, text_at
-from ..words import CLOSING, OPENING, QUALIFIERS, TAGGED, TYPE_WORDS, TYPEOF, WORD
-from .lookup import declared_type, plain_type
+from ..words import CLOSING, OPENING, QUALIFIERS, TYPEOF
+from .arithmetic import cast_type, has_name, is_arithmetic, operands
+from .lookup import declared_type, plain_type, typing
 
 PREFIXES = {"*", "&", "-", "!", "~", "+"}
 NO_OPERAND = {")", ";", ",", "=", "]", "}"}
-NO_ARITHMETIC = {"{", "->", ".", "&", ","}
-ARITHMETIC_NAMES = set("u8 u16 u32 u64 s8 s16 s32 s64 size_t uint8_t uint16_t uint32_t uint64_t bool".split())
 
 
 def own_type(tokens, i, partner, work):
-    """`(typeof(x) *)&x` and `(typeof(x))x` without the cast, also where the type is a `_Generic` of x that falls back on x."""
+    """`(typeof(x) *)&x`, `(typeof(*p) *)p` and `(typeof(x))x` without the cast, also where the type is a `_Generic` of x that falls
+    back on x."""
     found = cast_to_typeof(tokens, i, partner)
     if found is None:
         return None
@@ -18,6 +18,8 @@ def own_type(tokens, i, partner, work):
     operand = partner[i] + 1
     if stars == ["*"] and text_at(tokens, operand) == "&":
         operand += 1
+    elif stars == ["*"] and text_at(expression, 0) == "*":
+        expression = expression[1:]
     elif stars or text_at(tokens, operand) in NO_OPERAND or operand >= len(tokens):
         return None
     if bare(tokens[operand:behind_operand(tokens, operand, partner)]) != bare(expression):
@@ -51,11 +53,16 @@ def fallback(expression):
 
 
 def bare(tokens):
-    """The spellings without parentheses around the whole."""
+    """The spellings without parentheses around the whole, and without `*&` in front of it."""
     texts, partner = spellings(tokens), partners(tokens)
     first, last = 0, len(texts) - 1
-    while last - first > 1 and texts[first] == "(" and partner.get(first) == last:
-        first, last = first + 1, last - 1
+    while last - first > 1:
+        if texts[first] == "(" and partner.get(first) == last:
+            first, last = first + 1, last - 1
+        elif texts[first:first + 2] == ["*", "&"]:
+            first += 2
+        else:
+            break
     return texts[first:last + 1]
 
 
@@ -70,44 +77,30 @@ def behind_operand(tokens, i, partner):
 
 
 def automatic(tokens, i, partner, work):
-    """`__auto_type v = E` as `unsigned long v = E` (as `int` without a name in E), where E is arithmetic of plain names."""
-    if text_at(tokens, i + 2) != "=":
-        return None
+    """`__auto_type v = E` as `unsigned long v = E` (as `int` without a name in E), where E is arithmetic; as `T v = E`, where E is cast to
+    an arithmetic type T."""
     end = index_of(tokens, {";"}, i + 3)
-    if end < 0 or not all(is_arithmetic(tokens, k, i + 3, partner, work) for k in range(i + 3, end)):
+    if text_at(tokens, i + 2) != "=" or end < 0:
+        return None
+    value = bare(tokens[i + 3:end])
+    if "," in value or not is_arithmetic(value, typing(tokens, i, partner, work), work.names):
         return None
     work.count("automatic type")
-    named = any(WORD.match(text) for text in spellings(tokens[i + 3:end]))
-    return put_in("unsigned long" if named else "int"), i + 1
-
-
-def is_arithmetic(tokens, k, first, partner, work):
-    """Whether a token of an initial value that begins at first leaves it arithmetic."""
-    text = tokens[k].text
-    if WORD.match(text):
-        return text in TYPE_WORDS or text == "sizeof" or is_arithmetic_name(tokens, k, partner, work)
-    if text[0] in "\"'" or text in NO_ARITHMETIC:
-        return False
-    return text != "*" or not (k == first or tokens[k - 1].text in ("(", "=", "+", "-"))
-
-
-def is_arithmetic_name(tokens, k, partner, work):
-    """Whether the name at k is declared with an arithmetic type."""
-    declared = declared_type(tokens, k, [tokens[k]], partner, work)
-    if declared is None:
-        return False
-    words, stars = declared
-    return stars == 0 and TAGGED.isdisjoint(words) and (words[0] in TYPE_WORDS or words[0] in ARITHMETIC_NAMES)
+    words = cast_type(value, work.names) if len(operands(value, work.names)) == 1 else None
+    return put_in(" ".join(words or (["unsigned", "long"] if has_name(value) else ["int"]))), i + 1
 
 
 def plain_typeof(tokens, i, partner, work):
-    """`typeof(T)` as `T`, and `typeof(*p)` as the type that p's declaration gives it."""
+    """`typeof(T)` as `T`, `typeof(*p)` as the type that p's declaration gives it, and `typeof` of arithmetic as `unsigned long`."""
     if i + 1 not in partner:
         return None
     behind = partner[i + 1] + 1
     expression = tokens[i + 2:behind - 1]
     of_type = plain_type(expression, work.names)
     found = of_type or declared_type(tokens, i, expression, partner, work)
+    if found is None and is_arithmetic(spellings(expression), typing(tokens, i, partner, work), work.names):
+        work.count("automatic type")
+        return put_in("unsigned long"), behind
     if found is None or found[1] and not is_alone(tokens, behind):
         return None
     work.count("typeof of a type" if of_type else "typeof by declaration")

@@ -7,6 +7,7 @@ use Rattle.command.specs.Tasks.{command_of}
 use Rattle.command.proofs.Plans.{due_for_none, due_for_reports, failed_for_none, is_among, kind_few, of_both}
 use Rattle.command.specs.JudgedFiles.FirstFault.{AnswersUnjudged}
 use Rattle.command.specs.JudgedFiles.Judged.{AreAccepted}
+use Rattle.request_files.specs.Telling.{may_hold}
 use Rattle.request_files.specs.Views.{words_of}
 use Rattle.command.proofs.plan.plan_task.Goals as goal
 
@@ -18,11 +19,11 @@ reports_of-requires-clause-few_sources g c = kind_few string_bytes is_source_wor
 
 pub returns-in-Ok-clause-due : goal.returns-in-Ok-clause-due
 returns-in-Ok-clause-due g c =
-    let told = g.F.Files.contents c.args.files.now in
+    let holds = may_hold (g.F.Files.contents c.args.files.now) in
     let command = command_of c.args.task.now in
-    let accepted = of_both (λ xs ys. AreAccepted told xs ys c.args.task.now.depth c.in-Ok.reports.items) _ _ _ _ (ap words_of c.deref.ensures.value ∙ c.in_ok-checkers.ensures) (ap words_of c.deref-2.ensures.value ∙ c.in_ok-sources.ensures) c.in-Ok.ensures.accepted in
+    let accepted = of_both (λ xs ys. AreAccepted holds xs ys c.args.task.now.depth c.in-Ok.reports.items) _ _ _ _ (ap words_of c.deref.ensures.value ∙ c.in_ok-checkers.ensures) (ap words_of c.deref-2.ensures.value ∙ c.in_ok-sources.ensures) c.in-Ok.ensures.accepted in
     IfOk-weaker c.plan_reports.result _ _
-    (λ plan p. due_for_reports told command (g.F.Files.failed c.args.files.now) (g.F.Files.failed c.reports_of.new.files)
+    (λ plan p. due_for_reports holds command (g.F.Files.failed c.args.files.now) (g.F.Files.failed c.reports_of.new.files)
     (λ reports. map (λ b. (goal.Reporter-dyn g (b.vtable, b.value)).rendered b.value reports) c.args.reporters.now.items) c.in-Ok.reports.items plan.status plan.text.items plan.line accepted c.in-Ok.ensures.none_failed p)
     (rw c.deref-in-Ok.ensures.value at c.plan_reports.ensures.plan)
 
@@ -30,17 +31,17 @@ pub plan_refusal-requires : goal.plan_refusal-requires
 plan_refusal-requires g c =
     of_both (λ xs ys. IsAmong (length xs + length ys) c.in-Err.unjudged) c.deref.result.now c.deref-2.result.now c.deref-in-Err.result.now c.deref-in-Err-2.result.now
     (c.deref.ensures.value ∙ sym c.deref-in-Err.ensures.value) (c.deref-2.ensures.value ∙ sym c.deref-in-Err-2.ensures.value)
-    (is_among (g.F.Files.contents c.args.files.now) c.deref.result.now c.deref-2.result.now (g.F.Files.failed c.args.files.now) (g.F.Files.failed c.reports_of.new.files) c.in-Err.unjudged c.in-Err.ensures.unjudged)
+    (is_among (may_hold (g.F.Files.contents c.args.files.now)) c.deref.result.now c.deref-2.result.now (g.F.Files.failed c.args.files.now) (g.F.Files.failed c.reports_of.new.files) c.in-Err.unjudged c.in-Err.ensures.unjudged)
 
 pub returns-clause-due : goal.returns-clause-due
 returns-clause-due g c =
-    let told = g.F.Files.contents c.args.files.now in
+    let holds = may_hold (g.F.Files.contents c.args.files.now) in
     let command = command_of c.args.task.now in
     let old = g.F.Files.failed c.args.files.now in
     let new = g.F.Files.failed c.reports_of.new.files in
-    let answers = of_both (λ xs ys. AnswersUnjudged told xs ys old new c.in-Err.unjudged) _ _ _ _ (ap words_of c.deref.ensures.value ∙ c.in_ok-checkers.ensures) (ap words_of c.deref-2.ensures.value ∙ c.in_ok-sources.ensures) c.in-Err.ensures.unjudged in
+    let answers = of_both (λ xs ys. AnswersUnjudged holds xs ys old new c.in-Err.unjudged) _ _ _ _ (ap words_of c.deref.ensures.value ∙ c.in_ok-checkers.ensures) (ap words_of c.deref-2.ensures.value ∙ c.in_ok-sources.ensures) c.in-Err.ensures.unjudged in
     IfOk-weaker c.plan_refusal.result _ _
-    (λ plan p. due_for_none told command old new (λ reports. map (λ b. (goal.Reporter-dyn g (b.vtable, b.value)).rendered b.value reports) c.args.reporters.now.items) c.in-Err.unjudged plan.status plan.text.items plan.line answers
+    (λ plan p. due_for_none holds command old new (λ reports. map (λ b. (goal.Reporter-dyn g (b.vtable, b.value)).rendered b.value reports) c.args.reporters.now.items) c.in-Err.unjudged plan.status plan.text.items plan.line answers
     (of_both (λ xs ys. IsPlanOf xs ys c.in-Err.unjudged plan.status plan.text.items plan.line) _ _ _ _ (ap words_of c.deref-in-Err.ensures.value ∙ c.in_ok-checkers.ensures) (ap words_of c.deref-in-Err-2.ensures.value ∙ c.in_ok-sources.ensures) p))
     c.plan_refusal.ensures
 
@@ -48,6 +49,6 @@ pub returns-clause-failed : goal.returns-clause-failed
 returns-clause-failed g c =
     let command = command_of c.args.task.now in
     on_err c.plan_refusal.result _
-    (failed_for_none (g.F.Files.contents c.args.files.now) command (g.F.Files.failed c.args.files.now) (g.F.Files.failed c.reports_of.new.files) c.in-Err.unjudged
-    (of_both (λ xs ys. AnswersUnjudged (g.F.Files.contents c.args.files.now) xs ys (g.F.Files.failed c.args.files.now) (g.F.Files.failed c.reports_of.new.files) c.in-Err.unjudged) _ _ _ _
+    (failed_for_none (may_hold (g.F.Files.contents c.args.files.now)) command (g.F.Files.failed c.args.files.now) (g.F.Files.failed c.reports_of.new.files) c.in-Err.unjudged
+    (of_both (λ xs ys. AnswersUnjudged (may_hold (g.F.Files.contents c.args.files.now)) xs ys (g.F.Files.failed c.args.files.now) (g.F.Files.failed c.reports_of.new.files) c.in-Err.unjudged) _ _ _ _
     (ap words_of c.deref.ensures.value ∙ c.in_ok-checkers.ensures) (ap words_of c.deref-2.ensures.value ∙ c.in_ok-sources.ensures) c.in-Err.ensures.unjudged))

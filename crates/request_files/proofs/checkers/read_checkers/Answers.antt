@@ -1,35 +1,36 @@
 use Rattle.std.proofs.Common.{◌≡◌, ◌+◌, ◌*◌, ◌∙◌, [], ◌∷◌, length, length-append, ap, arith}
-use Rattle.metal_tree.specs.Whole.{machine_view}
+use Rattle.request_files.specs.Faults.{before_file}
 use Rattle.request_files.specs.Turns.{CheckerFile}
-use Rattle.request_files.proofs.Looping.{not_read, checker_faulty, checkers_more, checker_fits, room_left, places-push, place_taken}
-use Rattle.request_files.proofs.Turns.{first-adds, first-then, adds_few}
+use Rattle.request_files.proofs.Looping.{not_read, faulty, checkers_more, checker_fits, room_left, places-push, place_taken}
+use Rattle.request_files.proofs.Turns.{adds_few}
 use Rattle.request_files.proofs.checkers.read_checkers.Goals as goal
 
 pub returns-in-Err-NotRead-clause-unread : goal.returns-in-Err-NotRead-clause-unread
 returns-in-Err-NotRead-clause-unread g c =
     let here = c.loop-word.invariant in
-    not_read (g.F.Files.contents c.args.files.now) (g.F.Files.contents c.loop-word.files) c.args.left c.args.words.now c.loop-word.word-index c.len-position.result c.loop-word.rest _ (omega (arith, c.loop-word-test.true))
-    (omega (arith, here.count, c.loop-word.machines.ok.0, c.len-position.ensures)) here.contents CheckerFile here.read.contents here.read.read here.read.count _ (g.F.Files.failed c.loop-word.files) _ c.in-Err-NotRead.field-0
-    c.in-Err-NotRead.ensures.failed here.failed c.in-Err-NotRead.field-0-is
+    not_read (g.F.Files.contents c.args.files.now) (g.F.Files.contents c.loop-word.files) (before_file c.args.left c.args.names.now) c.args.words.now c.loop-word.word-index c.len-position.result (before_file c.loop-word.rest c.loop-word.names) _
+    (omega (arith, c.loop-word-test.true)) (omega (arith, here.count, c.loop-word.machines.ok.0, c.len-position.ensures)) here.contents CheckerFile here.read.contents here.read.read here.read.count _ (g.F.Files.failed c.loop-word.files) _
+    c.in-Err-NotRead.field-0 c.in-Err-NotRead.ensures.failed here.failed c.in-Err-NotRead.field-0-is
 
 pub returns-in-Err-Faulty-clause-unread : goal.returns-in-Err-Faulty-clause-unread
 returns-in-Err-Faulty-clause-unread g c =
     let here = c.loop-word.invariant in
     rw c.in-Err-Faulty.located-is (
-    checker_faulty (g.F.Files.contents c.args.files.now) (g.F.Files.contents c.loop-word.files) c.args.left c.args.words.now c.loop-word.word-index c.len-position.result c.loop-word.rest _ (omega (arith, c.loop-word-test.true))
-    (omega (arith, here.count, c.loop-word.machines.ok.0, c.len-position.ensures)) here.contents c.len-position.result here.read.contents _ (g.F.Files.failed c.loop-word.files) _ c.in-Err-Faulty.field-0 here.read.read here.read.count
-    c.in-Err-Faulty.ensures.failed here.failed c.in-Err-Faulty.located c.in-Err-Faulty.field-0-is c.in-Err-Faulty.ensures.stopped
+    faulty (g.F.Files.contents c.args.files.now) (g.F.Files.contents c.loop-word.files) (before_file c.args.left c.args.names.now) c.args.words.now c.loop-word.word-index c.len-position.result (before_file c.loop-word.rest c.loop-word.names) _
+    (omega (arith, c.loop-word-test.true)) (omega (arith, here.count, c.loop-word.machines.ok.0, c.len-position.ensures)) here.contents CheckerFile here.read.contents here.read.read here.read.count _ (g.F.Files.failed c.loop-word.files) _
+    c.in-Err-Faulty.field-0 c.in-Err-Faulty.ensures.failed here.failed _ c.in-Err-Faulty.located c.in-Err-Faulty.field-0-is c.in-Err-Faulty.ensures.stopped
+    (omega (arith, here.count, c.loop-word.machines.ok.0, c.len-position.ensures, c.requires.few, c.loop-word-test.true))
     )
 
 pub loop-word-preserved : goal.loop-word-preserved
 loop-word-preserved g c =
     let here = c.loop-word.invariant in
     let size = c.in-Ok.loaded.size in
-    let fits = checker_fits _ c.loop-word.rest _ _ size _ c.in-Ok.ensures.ok in
+    let fits = checker_fits _ (before_file c.loop-word.rest c.loop-word.names) _ _ _ size _ c.in-Ok.ensures.ok in
     record {
-      read = checkers_more (g.F.Files.contents c.args.files.now) (g.F.Files.contents c.loop-word.files) c.args.left c.args.words.now c.loop-word.word-index c.len-position.result c.loop-word.rest _ (omega (arith, c.loop-word-test.true))
-          (omega (arith, here.count, c.loop-word.machines.ok.0, c.len-position.ensures)) here.contents c.loop-word.names c.load_checker.new.names size c.loop-word.machines.items c.push.new.self.items c.in-Ok.loaded.machine here.read
-          c.in-Ok.ensures.ok c.in-Ok.ensures.adds c.in-Ok.ensures.distinct c.in-Ok-push.ensures.items;
+      read = checkers_more (g.F.Files.contents c.args.files.now) (g.F.Files.contents c.loop-word.files) (before_file c.args.left c.args.names.now) c.args.words.now c.loop-word.word-index c.len-position.result (before_file c.loop-word.rest c.loop-word.names) _
+          (omega (arith, c.loop-word-test.true)) (omega (arith, here.count, c.loop-word.machines.ok.0, c.len-position.ensures)) here.contents c.load_checker.new.names size _ c.loop-word.machines.items c.push.new.self.items c.in-Ok.loaded.machine here.read
+          c.in-Ok.ensures.ok (omega (arith, here.count, c.loop-word.machines.ok.0, c.len-position.ensures, c.requires.few, c.loop-word-test.true)) c.in-Ok-push.ensures.items;
       numbered = places-push c.loop-word.machines.items c.push.new.self.items c.in-Ok.loaded.machine _ here.numbered c.in-Ok.ensures.places
           (omega (arith, here.count, c.loop-word.machines.ok.0, c.len-position.ensures, c.requires.few, c.loop-word-test.true)) c.in-Ok-push.ensures.items;
       count = omega (arith, here.count, ap length c.in-Ok-push.ensures.items, length-append c.loop-word.machines.items (c.in-Ok.loaded.machine ∷ []));
@@ -37,7 +38,6 @@ loop-word-preserved g c =
       bound = omega (arith, here.bound);
       room = room_left (length c.loop-word.names) (length c.load_checker.new.names) (length c.args.names.now + 2 * c.args.left) c.loop-word.rest size (2 * size + 1) c.loop-word.word-index 0
           (adds_few c.loop-word.names c.load_checker.new.names (2 * size + 1) c.in-Ok.ensures.adds) (omega arith) fits here.room;
-      first = first-then c.args.names.now c.loop-word.names c.load_checker.new.names here.first (first-adds c.loop-word.names c.load_checker.new.names (2 * size + 1) c.in-Ok.ensures.adds);
       failed = c.in-Ok.ensures.none_failed ∙ here.failed;
       contents = c.load_checker.ensures.same ∙ here.contents;
     }

@@ -1,23 +1,24 @@
 use Rattle.std.proofs.Common.{◌≡◌, ◌+◌, ◌*◌, ◌∙◌, [], ◌∷◌, length, length-append, ap, arith}
+use Rattle.request_files.specs.Faults.{before_file}
 use Rattle.request_files.specs.Turns.{SourceFile}
-use Rattle.request_files.proofs.Looping.{not_read, source_faulty, sources_more, source_fits, room_left, numbered-push, place_taken}
-use Rattle.request_files.proofs.Turns.{first-adds, first-then, adds_few}
+use Rattle.request_files.proofs.Looping.{not_read, faulty, sources_more, source_fits, room_left, numbered-push, place_taken}
+use Rattle.request_files.proofs.Turns.{adds_few}
 use Rattle.request_files.proofs.sources.read_sources.Goals as goal
 
 pub returns-in-Err-NotRead-clause-unread : goal.returns-in-Err-NotRead-clause-unread
 returns-in-Err-NotRead-clause-unread g c =
     let here = c.loop-word.invariant in
-    not_read (g.F.Files.contents c.args.files.now) (g.F.Files.contents c.loop-word.files) c.args.left c.args.words.now c.loop-word.word-index c.len-position.result c.loop-word.rest _ (omega (arith, c.loop-word-test.true))
-    (omega (arith, here.count, c.loop-word.units.ok.0, c.len-position.ensures)) here.contents SourceFile here.read.contents here.read.read here.read.count _ (g.F.Files.failed c.loop-word.files) _ c.in-Err-NotRead.field-0
-    c.in-Err-NotRead.ensures.failed here.failed c.in-Err-NotRead.field-0-is
+    not_read (g.F.Files.contents c.args.files.now) (g.F.Files.contents c.loop-word.files) (before_file c.args.left c.args.names.now) c.args.words.now c.loop-word.word-index c.len-position.result (before_file c.loop-word.rest c.loop-word.names) _
+    (omega (arith, c.loop-word-test.true)) (omega (arith, here.count, c.loop-word.units.ok.0, c.len-position.ensures)) here.contents SourceFile here.read.contents here.read.read here.read.count _ (g.F.Files.failed c.loop-word.files) _
+    c.in-Err-NotRead.field-0 c.in-Err-NotRead.ensures.failed here.failed c.in-Err-NotRead.field-0-is
 
 pub returns-in-Err-Faulty-clause-unread : goal.returns-in-Err-Faulty-clause-unread
 returns-in-Err-Faulty-clause-unread g c =
     let here = c.loop-word.invariant in
     rw c.in-Err-Faulty.located-is (
-    source_faulty (g.F.Files.contents c.args.files.now) (g.F.Files.contents c.loop-word.files) c.args.left c.args.words.now c.loop-word.word-index c.len-position.result c.loop-word.rest _ (omega (arith, c.loop-word-test.true))
-    (omega (arith, here.count, c.loop-word.units.ok.0, c.len-position.ensures)) here.contents _ here.read.contents _ (g.F.Files.failed c.loop-word.files) _ c.in-Err-Faulty.field-0 here.read.read here.read.count
-    c.in-Err-Faulty.ensures.failed here.failed c.in-Err-Faulty.located c.in-Err-Faulty.field-0-is c.in-Err-Faulty.ensures.stopped
+    faulty (g.F.Files.contents c.args.files.now) (g.F.Files.contents c.loop-word.files) (before_file c.args.left c.args.names.now) c.args.words.now c.loop-word.word-index c.len-position.result (before_file c.loop-word.rest c.loop-word.names) _
+    (omega (arith, c.loop-word-test.true)) (omega (arith, here.count, c.loop-word.units.ok.0, c.len-position.ensures)) here.contents SourceFile here.read.contents here.read.read here.read.count _ (g.F.Files.failed c.loop-word.files) _
+    c.in-Err-Faulty.field-0 c.in-Err-Faulty.ensures.failed here.failed _ c.in-Err-Faulty.located c.in-Err-Faulty.field-0-is c.in-Err-Faulty.ensures.stopped
     (omega (arith, here.count, c.loop-word.units.ok.0, c.len-position.ensures, c.requires.few, c.loop-word-test.true))
     )
 
@@ -25,11 +26,11 @@ pub loop-word-preserved : goal.loop-word-preserved
 loop-word-preserved g c =
     let here = c.loop-word.invariant in
     let size = c.in-Ok.loaded.size in
-    let fits = source_fits _ c.loop-word.rest _ _ _ size _ c.in-Ok.ensures.ok in
+    let fits = source_fits _ (before_file c.loop-word.rest c.loop-word.names) _ _ _ size _ c.in-Ok.ensures.ok in
     record {
-      read = sources_more (g.F.Files.contents c.args.files.now) (g.F.Files.contents c.loop-word.files) c.args.left c.args.words.now c.loop-word.word-index c.len-position.result c.loop-word.rest _ (omega (arith, c.loop-word-test.true))
-          (omega (arith, here.count, c.loop-word.units.ok.0, c.len-position.ensures)) here.contents c.loop-word.names c.load_source.new.names size _ c.loop-word.units.items c.push.new.self.items c.in-Ok.loaded.unit here.read
-          c.in-Ok.ensures.ok (omega (arith, here.count, c.loop-word.units.ok.0, c.len-position.ensures, c.requires.few, c.loop-word-test.true)) c.in-Ok.ensures.adds c.in-Ok.ensures.distinct c.in-Ok-push.ensures.items;
+      read = sources_more (g.F.Files.contents c.args.files.now) (g.F.Files.contents c.loop-word.files) (before_file c.args.left c.args.names.now) c.args.words.now c.loop-word.word-index c.len-position.result (before_file c.loop-word.rest c.loop-word.names) _
+          (omega (arith, c.loop-word-test.true)) (omega (arith, here.count, c.loop-word.units.ok.0, c.len-position.ensures)) here.contents c.load_source.new.names size _ c.loop-word.units.items c.push.new.self.items c.in-Ok.loaded.unit here.read
+          c.in-Ok.ensures.ok (omega (arith, here.count, c.loop-word.units.ok.0, c.len-position.ensures, c.requires.few, c.loop-word-test.true)) c.in-Ok-push.ensures.items;
       numbered = numbered-push c.loop-word.units.items c.push.new.self.items c.in-Ok.loaded.unit here.numbered
           (c.in-Ok.ensures.file ∙ omega (arith, here.count, c.loop-word.units.ok.0, c.len-position.ensures, c.requires.few, c.loop-word-test.true)) c.in-Ok-push.ensures.items;
       count = omega (arith, here.count, ap length c.in-Ok-push.ensures.items, length-append c.loop-word.units.items (c.in-Ok.loaded.unit ∷ []));
@@ -37,7 +38,6 @@ loop-word-preserved g c =
       bound = omega (arith, here.bound);
       room = room_left (length c.loop-word.names) (length c.load_source.new.names) (length c.args.names.now + 2 * c.args.left) c.loop-word.rest size (size + 1) c.loop-word.word-index 0
           (adds_few c.loop-word.names c.load_source.new.names (size + 1) c.in-Ok.ensures.adds) (omega arith) fits here.room;
-      first = first-then c.args.names.now c.loop-word.names c.load_source.new.names here.first (first-adds c.loop-word.names c.load_source.new.names (size + 1) c.in-Ok.ensures.adds);
       failed = c.in-Ok.ensures.none_failed ∙ here.failed;
       contents = c.load_source.ensures.same ∙ here.contents;
     }

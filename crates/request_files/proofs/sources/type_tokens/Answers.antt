@@ -1,11 +1,6 @@
-use Rattle.std.proofs.Common.{◌∙◌, ap, sym, subst, arith}
-use Rattle.c_lexer.specs.CReading.Strip.{stripped}
-use Rattle.c_tree.specs.Views.{nodes_of}
-use Rattle.request_files.specs.FrontEnd.Sources.{AreTypedTrees}
-use Rattle.typed_unit.specs.Tables.{table_of}
+use Rattle.std.proofs.Common.{◌∙◌, ap, arith}
 use Rattle.request_files.proofs.KnownFiles.{stripped_few}
 use Rattle.request_files.proofs.Refusing.{unit_known, has_no_unit}
-use Rattle.request_files.proofs.Typing.{typing_out}
 use Rattle.request_files.proofs.sources.type_tokens.Goals as goal
 
 pub read_typed-requires : goal.read_typed-requires
@@ -15,10 +10,6 @@ pub in_text-requires : goal.in_text-requires
 in_text-requires c =
     unit_known c.args.names.now c.args.tokens.now c.insert-kept.result.now c.in-Err.refusal (ap (λ l. l.all) c.insert-kept.ensures.value ∙ c.in-Ok.ensures.all) (ap (λ l. l.end) c.insert-kept.ensures.value ∙ c.in-Ok.ensures.end)
     c.in-Err.ensures.refused c.requires.known
-
-pub returns-in-Ok-read_typed-clause-typing : goal.returns-in-Ok-read_typed-clause-typing
-returns-in-Ok-read_typed-clause-typing c =
-    typing_out (nodes_of c.in-Ok-read_typed.unit.unit.chunks) (table_of c.in-Ok-read_typed.unit.table) c.in-Ok-read_typed.ensures.typed.fine c.in-Ok-read_typed.unit.typing
 
 pub returns-in-Err-clause-stopped : goal.returns-in-Err-clause-stopped
 returns-in-Err-clause-stopped c =

@@ -17,17 +17,17 @@ judge_units-requires-clause-few_units g c =
     omega (arith, h, c.requires.few_sources, length-map c.args.sources.now (λ w. w.now), length-map c.in-Ok.read.sources.units.items text_of, ap length c.deref-2.ensures.value)
 
 pub judge_units-requires-clause-few_functions : goal.judge_units-requires-clause-few_functions
-judge_units-requires-clause-few_functions g c = rw c.deref-2.ensures.value (few_in_all _ _ _ _ _ _ _ c.in-Ok.ensures.read.sound c.in-Ok.ensures.read.texts_are)
+judge_units-requires-clause-few_functions g c = rw c.deref-2.ensures.value (few_in_all _ _ _ _ _ _ _ _ _ c.in-Ok.ensures.read.sound c.in-Ok.ensures.read.texts_are)
 
 pub judge_units-requires-clause-placed : goal.judge_units-requires-clause-placed
-judge_units-requires-clause-placed g c = rw c.deref-2.ensures.value (have_token _ _ _ _ c.in-Ok.ensures.read.texts_are)
+judge_units-requires-clause-placed g c = rw c.deref-2.ensures.value (have_token _ _ _ _ _ c.in-Ok.ensures.read.texts_are)
 
 pub returns-in-Ok-judge_units-clause-accepted : goal.returns-in-Ok-judge_units-clause-accepted
 returns-in-Ok-judge_units-clause-accepted g c =
-    accepted _ _ _ c.read_files.new.names (machines_of c.in-Ok.read.checkers.machines.items) (texts_of c.in-Ok.read.sources.units.items) c.in-Ok.ensures.read c.in-Ok.ensures.distinct c.args.depth c.in-Ok-judge_units.reports.items
+    accepted _ _ _ c.read_files.new.names (machines_of c.in-Ok.read.checkers.machines.items) (texts_of c.in-Ok.read.sources.units.items) c.in-Ok.ensures.read c.args.depth c.in-Ok-judge_units.reports.items
     (rw c.deref-2.ensures.value at c.in-Ok-judge_units.ensures.linked) (rw c.deref.ensures.value at (rw c.deref-2.ensures.value at c.in-Ok-judge_units.ensures.reports))
 
 pub returns-clause-unjudged : goal.returns-clause-unjudged
 returns-clause-unjudged g c =
-    unlinked _ _ _ c.read_files.new.names (machines_of c.in-Ok.read.checkers.machines.items) (texts_of c.in-Ok.read.sources.units.items) c.in-Ok.ensures.read c.in-Ok.ensures.distinct _ _ c.in-Err.unjudged c.in-Ok.ensures.none_failed
+    unlinked _ _ _ c.read_files.new.names (machines_of c.in-Ok.read.checkers.machines.items) (texts_of c.in-Ok.read.sources.units.items) c.in-Ok.ensures.read _ _ c.in-Err.unjudged c.in-Ok.ensures.none_failed
     (rw c.deref-2.ensures.value at c.in-Err.ensures.unlinked)

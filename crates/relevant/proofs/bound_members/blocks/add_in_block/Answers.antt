@@ -10,10 +10,10 @@ pub returns-in-Some : goal.returns-in-Some
 returns-in-Some c =
     let at = sym c.item.ensures ∙ ap option_copied c.in-Some.is in
     if-ok _ _ c.add_at_events.result
-    (λ u added m depth ts d bs are. in-block m depth c.args.number ts d bs c.args.tables.now are c.args.block c.in-Some.table.now c.args.found.now.items c.add_at_events.new.found.items at (λ hs of. added m depth (function_of d) hs (subst (AreOfEvents m depth (function_of d) hs) (sym c.as_slice.ensures.value) of)))
+    (λ u added m depth ts d bs are. in-block c.args.sources m depth c.args.number ts d bs c.args.tables.now are c.args.block c.in-Some.table.now c.args.found.now.items c.add_at_events.new.found.items at (λ hs of. added m depth (function_of d) hs (subst (AreOfEvents m depth (function_of d) hs) (sym c.as_slice.ensures.value) of)))
     c.add_at_events.ensures
 
 pub returns-in-None : goal.returns-in-None
 returns-in-None c =
     let none = sym c.item.ensures ∙ ap option_copied c.in-None.is in
-    λ m depth ts d bs are. no-block m depth c.args.number ts d bs c.args.tables.now are c.args.block c.args.found.now.items none
+    λ m depth ts d bs are. no-block c.args.sources m depth c.args.number ts d bs c.args.tables.now are c.args.block c.args.found.now.items none

@@ -12,4 +12,4 @@ use Rattle.metal_tree.specs.MetalMachines.Machine.{Machine}
 abbrev pub invariant-loop-block : goal.invariant-loop-block
 invariant-loop-block l =
     (m : Machine) (depth : ℕ) (ts : List Text) (d : Defined) (bs : List Block) → AreBlockTables m depth ts d bs l.tables
-    → Adds (SomeGives (BoundIn m depth l.number ts d bs) (take l.block-index l.blocks)) l.fn.found.items l.found.items
+    → Adds (SomeGives (BoundIn l.sources m depth l.number ts d bs) (take l.block-index l.blocks)) l.fn.found.items l.found.items

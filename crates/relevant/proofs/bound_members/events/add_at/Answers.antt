@@ -5,5 +5,5 @@ use Rattle.relevant.proofs.RelevantObjects.Gathered.{if-ok}
 pub returns : goal.returns
 returns c =
     if-ok _ _ c.add_members.result
-    (λ u e m depth f h is. at-added m depth c.args.number f h c.in_ok-objects.objects.items c.args.found.now.items c.add_members.new.found.items (c.in_ok-objects.ensures m depth h f is) e)
+    (λ u e m depth f h is. at-added c.args.sources m depth c.args.number f h c.in_ok-objects.objects.items c.args.found.now.items c.add_members.new.found.items (c.in_ok-objects.ensures m depth h f is) e)
     c.add_members.ensures

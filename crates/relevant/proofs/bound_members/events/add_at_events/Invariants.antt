@@ -10,4 +10,4 @@ use Rattle.metal_tree.specs.MetalMachines.Machine.{Machine}
 abbrev pub invariant-loop-rules : goal.invariant-loop-rules
 invariant-loop-rules l =
     (m : Machine) (depth : ℕ) (f : Function) (hs : List Happening) → AreOfEvents m depth f hs l.events
-    → Adds (SomeGives (BoundAt m depth l.number f) (take l.rules-index hs)) l.fn.found.items l.found.items
+    → Adds (SomeGives (BoundAt l.sources m depth l.number f) (take l.rules-index hs)) l.fn.found.items l.found.items

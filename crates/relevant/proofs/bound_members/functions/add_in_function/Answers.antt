@@ -13,5 +13,5 @@ returns c =
     (λ u added m depth ts d are.
     let tables = subst (AreBlockTables m depth ts d graph.blocks) (sym c.as_slice.ensures.value) are in
     let reached = subst (AreReached graph) (sym c.as_slice-2.ensures.value) c.in_ok-blocks.ensures in
-    in-blocks m depth c.args.number ts d graph c.as_slice-2.result.now c.args.found.now.items c.add_in_blocks.new.found.items reached (added m depth ts d graph.blocks tables))
+    in-blocks c.args.sources m depth c.args.number ts d graph c.as_slice-2.result.now c.args.found.now.items c.add_in_blocks.new.found.items reached (added m depth ts d graph.blocks tables))
     c.add_in_blocks.ensures

@@ -11,5 +11,5 @@ returns-clause-relevant c =
     let rows = c.args.rows.now in
     let bound = c.args.bound.now in
     if-ok _ _ c.relevant.result
-    (λ found all k ts gs e graphs apart are is n f o named. are-relevant k ts gs rows bound found.keys graphs apart are is (subst (λ d. IsExactly found.keys (Least (Contains bound) (LinksFrom d rows))) e all) n f o named)
+    (λ found all w k ts gs e graphs apart are is n f o named. are-relevant w k ts gs rows bound found.keys graphs apart are is (subst (λ d. IsExactly found.keys (Least (Contains bound) (LinksFrom d rows))) e all) n f o named)
     c.relevant.ensures.exact

@@ -1,0 +1,144 @@
+"""Texts that nobody would write: those of cases/ and examples/, changed token by token as a seed has it."""
+import collections
+import glob
+import importlib.machinery
+import importlib.util
+import os
+import random
+import re
+
+from program import ROOT
+
+MOST_BYTES = 20_000  # of a text that is changed
+MOST_MADE = 200_000  # of one that comes out
+Corpus = collections.namedtuple("Corpus", "groups checkers sources")
+LARGE = ("large/", "reading/")  # cases with files at the limits
+TOKEN = re.compile(
+    rb"""\s+|/\*.*?\*/|//[^\n]*|[A-Za-z_][A-Za-z_0-9]*|\.?[0-9][A-Za-z_0-9.]*|"(?:\\.|[^"\\\n])*"|'(?:\\.|[^'\\\n])*'"""
+    rb"""|==>|<<=|>>=|\.\.\.|->|\+\+|--|&&|\|\||<<|>>|[-+*/%&|^=!<>]=|.""", re.DOTALL)
+# what readers stumble over: half tokens, odd bytes, limits, words with a meaning of their own
+ODD = [b"\0", b"\r", b"\r\n", b"\xff", b"\xc3\xa9", b"@", b"\\", b"#", b"\n# 1 \"b.c\"\n", b"\n#pragma x\n", b"\"", b"'", b"''", b"/*", b"*/",
+       b"//", b"0x", b"08", b"1e", b"0xffffffffffffffff", b"18446744073709551616", b"1ull", b"L\"a\"", b"L'", b"...", b"==>", b"$",
+       b"${ mc_is_call_to(v, \"f\") }", b"$end_of_path$", b"__attribute__", b"__attribute__((", b"__extension__", b"asm(\"\")",
+       b"__builtin_va_arg(a, int)", b"__builtin_offsetof(struct s, a)", b"sizeof", b"typedef", b"struct s", b"enum { A }", b"union",
+       b"int", b"char *", b"void", b"unsigned long long", b"static", b"extern", b"return", b"goto a;", b"a:", b"case 1:", b"default:",
+       b"break;", b"if (", b"else", b"while (", b"for (;;)", b"do {", b"switch (", b"sm m {", b"state decl", b"decl any_pointer v;",
+       b"start:", b"v.stop", b"err(\"%s\", mc_identifier(v));", b"(", b")", b"{", b"}", b"[", b"]", b";", b",", b"=", b"*", b"&", b"?", b":"]
+BRACKETS = [(b"(", b")"), (b"{", b"}"), (b"[", b"]"), (b"*(", b")"), (b"f(", b")"), (b"{ ", b" ;}"), (b"!", b""), (b"(int)", b"")]
+WORDS = [[], [], [], ["--depth", "0"], ["--depth=8"], ["--format", "table"], ["--format=json"], ["--depth", "1", "--format", "json"], ["--"]]
+ODD_WORDS = [["--depth", "9"], ["--stats"], ["--format", "xml"], ["-"], ["none.c"], ["."], ["--generate", "3"], ["--", "--"]]
+
+
+def cases_module():
+    """checks/cases as a module."""
+    loader = importlib.machinery.SourceFileLoader("cases", os.path.join(ROOT, "checks", "cases"))
+    module = importlib.util.module_from_spec(importlib.util.spec_from_loader("cases", loader))
+    loader.exec_module(module)
+    return module
+
+
+def texts_of_cases():
+    """The case, the name and the bytes of the files of all cases, those of rows too."""
+    cases = cases_module()
+    for case in (it for it in cases.all_cases() if not it.startswith(LARGE)):
+        for title, text in cases.sections(os.path.join(cases.CASES, case + ".case")):
+            kind, *name = title.split()
+            if kind == "file":
+                yield case, name[0], cases.contents(name[1:], text)
+            elif kind == "rows":
+                yield from ((case, name[0], cases.spelled(line.partition(": ")[2])) for line in text.splitlines())
+
+
+def texts_of_examples():
+    """The folder, the name and the bytes of the files of examples/, without the lines of C files that only a preprocessor takes."""
+    for path in sorted(glob.glob(os.path.join(ROOT, "examples", "**", "*.*"), recursive=True)):
+        if path.endswith((".c", ".metal")):
+            with open(path, "rb") as file:
+                text = file.read()
+            yield os.path.dirname(path), path, re.sub(rb"(?m)^[ \t]*#(?! [0-9]).*$", b"", text) if path.endswith(".c") else text
+
+
+def corpus():
+    """The texts that are changed, as lists of tokens: by group, where a group has checkers and C files, and all."""
+    groups, texts = {}, ({}, {})
+    for group, name, text in [*texts_of_cases(), *texts_of_examples()]:
+        if 0 < len(text) <= MOST_BYTES:
+            kind = 0 if name.endswith(".metal") else 1
+            tokens = texts[kind].setdefault(text, TOKEN.findall(text))
+            groups.setdefault(group, ([], []))[kind].append(tokens)
+    return Corpus([pair for pair in groups.values() if all(pair)], *(list(it.values()) for it in texts))
+
+
+def piece(rng, tokens, most=12):
+    """The ends of a piece of a list, of at most so many tokens."""
+    at = rng.randrange(len(tokens) + 1)
+    return at, min(len(tokens), at + 1 + int(rng.expovariate(0.5)) % most)
+
+
+def cut(rng, tokens, _):
+    """Without a piece, or without all behind a place."""
+    at, end = piece(rng, tokens)
+    return tokens[:at] + (tokens[end:] if rng.random() < 0.9 else [])
+
+
+def double(rng, tokens, _):
+    """With a piece many times."""
+    at, end = piece(rng, tokens)
+    return tokens[:end] + tokens[at:end] * rng.choice([1, 1, 1, 2, 3, 17, 70, 300]) + tokens[end:]
+
+
+def swap(rng, tokens, _):
+    """With two pieces that lie side by side turned round."""
+    at, middle = piece(rng, tokens)
+    end = min(len(tokens), middle + middle - at)
+    return tokens[:at] + tokens[middle:end] + tokens[at:middle] + tokens[end:]
+
+
+def replace(rng, tokens, others):
+    """With something in the place of a token: something odd, or a token of another text."""
+    at = rng.randrange(len(tokens) + 1)
+    new = rng.choice(ODD) if rng.random() < 0.5 else rng.choice(rng.choice(others))
+    return tokens[:at] + [new] + tokens[at + rng.choice([0, 1, 1]):]
+
+
+def splice(rng, tokens, others):
+    """With a piece of another text."""
+    at, other = rng.randrange(len(tokens) + 1), rng.choice(others)
+    start, end = piece(rng, other, 40)
+    return tokens[:at] + other[start:end] + tokens[at:]
+
+
+def wrap(rng, tokens, _):
+    """With a piece in many brackets."""
+    at, end = piece(rng, tokens, 4)
+    left, right = rng.choice(BRACKETS)
+    times = rng.choice([1, 2, 3, 40, 500, 994, 1000, 1500])
+    return tokens[:at] + [left] * times + tokens[at:end] + [right] * times + tokens[end:]
+
+
+CHANGES = [cut, cut, double, swap, replace, replace, replace, splice, wrap]
+
+
+def changed(rng, tokens, others):
+    """A text that is changed a few times."""
+    for _ in range(rng.choice([1, 1, 1, 1, 2, 2, 3, 5, 8])):
+        made = rng.choice(CHANGES)(rng, tokens, others)
+        if sum(map(len, made)) <= MOST_MADE:
+            tokens = made
+    return tokens
+
+
+def run_of(texts, seed):
+    """The files and the words of the run of a seed: a checker and C files, of which one kind or both are changed."""
+    rng = random.Random(seed)
+    checkers, sources = rng.choice(texts.groups) if rng.random() < 0.7 else (texts.checkers, texts.sources)
+    files = {"m.metal": rng.choice(checkers), "a.c": rng.choice(sources)}
+    if rng.random() < 0.2:
+        files["b.c"] = rng.choice(sources)
+    which = rng.choice(["checker", "source", "source", "both"])
+    for name, tokens in files.items():
+        is_checker = name == "m.metal"
+        if which == "both" or (which == "checker") == is_checker:
+            files[name] = changed(rng, tokens, texts.checkers if is_checker else texts.sources)
+    words = rng.choice(ODD_WORDS) if rng.random() < 0.05 else rng.choice(WORDS)
+    return {name: b"".join(tokens) for name, tokens in files.items()}, [*words, *files]

@@ -1,5 +1,0 @@
-//! Reporters over one report and over none.
-#![tactic(auto)]
-
-#[cfg(test)]
-mod styles;
