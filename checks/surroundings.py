@@ -174,6 +174,14 @@ def plain_names(room):
     return wrong + differs(room.over("a\nb.c"), Run(3, b"", b"a\nb.c:2: refused: BadByte\n"))
 
 
+def words_that_are_no_text(room):
+    """Words of which one isn't UTF-8 are those of no command, wherever it stands."""
+    room.put("a.c", USE)
+    no_text, usage = b"\xff.c", room.run()
+    return [line for words in ([b"free.metal", b"a.c", no_text], [no_text, b"free.metal", b"a.c"], [b"free.metal", b"\xc3"])
+            for line in differs(room.run(*words), usage)] + differs(Run(usage.status, usage.out, b""), Run(2, b"", b""))
+
+
 def file_without_end(room):
     return differs(room.over("/dev/zero"), Run(3, b"", b"/dev/zero:1: refused: TooLarge\n"))
 
@@ -228,6 +236,7 @@ STEPS = {
     "linked files": linked_file,
     "a folder that is gone": folder_that_is_gone,
     "names that no file has": plain_names,
+    "words that are no text": words_that_are_no_text,
     "a file without end": file_without_end,
     "a file of null bytes": file_of_nulls,
     "a read that fails": read_that_fails,
