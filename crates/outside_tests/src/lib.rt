@@ -1,4 +1,4 @@
-//! Tests of the rooms round the program that stand on little: names, files and sinks, styles of reports, and words.
+//! Tests of the rooms round the program that stand on little: names, files and sinks, styles of reports, words, and trees.
 #![tactic(auto)]
 
 // what is expected
@@ -12,6 +12,10 @@ mod files;
 mod names;
 #[cfg(test)]
 mod sinks;
+
+// trees that are compared, copied and spelled
+#[cfg(test)]
+mod trees;
 
 // words and styles
 #[cfg(test)]

@@ -17,6 +17,7 @@ mod facts;
 mod walks;
 
 // phrases and typed trees
+mod alike;
 mod expressions;
 mod found;
 mod phrases;

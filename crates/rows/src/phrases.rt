@@ -17,7 +17,7 @@ pub enum Phrase {
 }
 
 /// The tree that these tokens are.
-fn tree_of<'a>(
+pub fn tree_of<'a>(
     arena: &'a Arena,
     phrase: Phrase,
     tokens: &'a Tokens,

@@ -1,5 +1,6 @@
 //! What a row asks: its question stands before the first `: `, and what it is asked about behind it.
 
+use crate::alike::said_of_two;
 use crate::bodies::traces_of_text;
 use crate::expressions::said_of;
 use crate::lexed::{Listed, said_of_blanks, said_of_tokens};
@@ -112,6 +113,14 @@ fn say_of_blanks(alloc: Global, number: &str) -> Result<String, LexFault> {
     }
 }
 
+/// How two expressions with a semicolon between them are read.
+fn say_alike(alloc: Global, texts: &str) -> Result<String, LexFault> {
+    match texts.split_once("; ") {
+        Some((text, other)) => Ok(String::from_str(alloc, said_of_two(alloc, text, other)?)?),
+        None => Ok(String::from_str(alloc, "no two texts")?),
+    }
+}
+
 /// The answer to a question about a text behind its tokens.
 fn answer_behind_tokens(alloc: Global, asked: &str, text: &str) -> Result<String, LexFault> {
     if let Some(phrase) = phrase_of(asked) {
@@ -133,6 +142,9 @@ fn answer_behind_tokens(alloc: Global, asked: &str, text: &str) -> Result<String
 fn answer_to(alloc: Global, asked: &str, text: &str) -> Result<String, LexFault> {
     if asked == "blanks" {
         return say_of_blanks(alloc, text);
+    }
+    if asked == "read alike" {
+        return say_alike(alloc, text);
     }
     match asked_of_tokens(asked) {
         Some((mode, is_kept, listed)) => said_of_tokens(alloc, mode, is_kept, text, listed),
