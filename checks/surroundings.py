@@ -182,6 +182,17 @@ def words_that_are_no_text(room):
             for line in differs(room.run(*words), usage)] + differs(Run(usage.status, usage.out, b""), Run(2, b"", b""))
 
 
+def many_names(room):
+    """Ten thousand names of types are hidden in a block, and are in force again behind it."""
+    names = [b"t%d" % at for at in range(10000)]
+    types = b"".join(b"typedef int %s;\n" % it for it in names)
+    hidden = b"void f(void){ {\n" + b"".join(b"int %s;\n" % it for it in names) + b"".join(b"%s = 1;\n" % it for it in names) + b"}\n"
+    room.put("a.c", types + hidden + b"".join(b"{ %s x; }\n" % it for it in names) + b"}\n")
+    wrong = differs(room.over("a.c"), Run(0, b"", b""))
+    room.put("a.c", types + hidden + b"t9998 = 1; }\n")
+    return wrong + differs(room.over("a.c"), Run(3, b"", b"a.c:10001: refused: Syntax\n"))
+
+
 def file_without_end(room):
     return differs(room.over("/dev/zero"), Run(3, b"", b"/dev/zero:1: refused: TooLarge\n"))
 
@@ -237,6 +248,7 @@ STEPS = {
     "a folder that is gone": folder_that_is_gone,
     "names that no file has": plain_names,
     "words that are no text": words_that_are_no_text,
+    "many names": many_names,
     "a file without end": file_without_end,
     "a file of null bytes": file_of_nulls,
     "a read that fails": read_that_fails,
