@@ -120,6 +120,11 @@ CASES = [
      "int x ( int n ) { if ( n ) g ? g : e ( 1 ) ; return n ? g ? g : 1 : e ( n , t [ n ] ? t [ n ] : g ) ? 2 : 3 ; }"),
     ("middle", "int x(int n) { return ({ int a = g; a; }) ?: n; }",
      "int x ( int n ) { return ( ( ( g ) ) ) ? ( ( ( g ) ) ) : n ; }"),
+    ("kept result", "S *x(int n) { if (n) h = s(n) ?: h; return h; }",
+     "S * x ( int n ) { if ( n ) { struct s * result_1 = s ( n ) ; h = ( result_1 ? result_1 : h ) ; } return h ; }"),
+    ("kept result", "int x(int n) { int y = e(n) ?: f(); return e(s(y) ?: h); }",
+     "int x ( int n ) { int y ; { int result_2 = e ( n ) ; y = ( result_2 ? result_2 : f ( ) ) ; }"
+     " { struct s * result_1 = s ( y ) ; return e ( ( result_1 ? result_1 : h ) ) ; } }"),
     ("compound literal", "int x(S *p) { *p = (S){ .m = e(1), .n = { 2, g, }, }; return ((S){ }).m; }",
      "int x ( S * p ) { * p = ( * ( S * ) ( e ( 1 ) , 2 , g , 0 ) ) ; return ( ( * ( S * ) ( 0 ) ) ) . m ; }"),
     ("compound literal", "int x(void) { return e(((int const []){ 1, ((S){ 2, { { }, t[0] } }).m })[0]); }",
@@ -169,6 +174,9 @@ KEPT = [
     ("int x(int n) { return _Generic(n + 1, int: n, long: g); }", "selection"),
     ("int x(int n) { return ({ unsigned long p = f(); (typeof(n))(p + n); }); }", "per-CPU read"),
     ("int x(int n) { return e(n) ?: 3; }", "middle"),
+    ("int x(int n) { return g ? e(n) ?: 3 : 1; }", "kept result"),
+    ("int x(int n) { return e(1) + (e(n) ?: 3); }", "kept result"),
+    ("int x(int n) { return unknown(n) ?: 3; }", "kept result"),
     ("int x(int n) { return n++ ?: 3; }", "middle"),
     ("int x(int n) { return n ? g : 3; }", "middle"),
 ]
@@ -222,7 +230,7 @@ class Forms(unittest.TestCase):
     def test_named(self):
         for text, name in [
                 ("int x(void) { return e(((int[2][2]){ 1 })[0][0]); }", "compound literal"),
-                ("int x(int y) { return e(y) ?: 3; }", "?: without a middle"),
+                ("int x(int y) { return e(1) + (e(y) ?: 3); }", "?: without a middle"),
                 ("void x(void) { void *p = &&l; l: goto *p; }", "computed goto"), ("void x(void) { l: h = &&l; }", "address of a label"),
                 ("void x(void) { int y(int a) { return a; } y(1); }", "nested function"), ("_Complex double x;", "complex"),
                 ("int x = (struct { int a; } *)0 == 0;", "struct body in a type name"),

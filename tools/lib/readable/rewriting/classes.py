@@ -38,6 +38,7 @@ APPROXIMATION = {
     "automatic type": "`__auto_type` and `typeof` of arithmetic as `unsigned long`",
     "choice": "`__builtin_choose_expr` as `?:`",
     "middle": "`a ?: b` as `a ? a : b`, where `a` only reads",
+    "kept result": "`f(x) ?: b` as `r ? r : b`, with `T r = f(x)` in front of the statement, where it is evaluated first and always",
     "compound literal": "`(T){ a, b }` as `(*(T *)(a, b, 0))`",
     "compatible types": "`__builtin_types_compatible_p(..)` as a call without arguments",
     "per-CPU read": "a read of per-CPU data as the variable, a pointer to a processor's own as the pointer",
