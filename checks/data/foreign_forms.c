@@ -215,6 +215,16 @@ static int defaults(int n)
     return sum + (n & 1 ?: none ?: event(97)) * 10;
 }
 
+/* conditionals without a middle, whose condition calls */
+static int kept_results(int n)
+{
+    int first = event(n - 2) ?: event(103), second;
+
+    if (n & 1) second = event(n % 3) ?: first;
+    else return 1 + (event(n - 4) ?: event(104));
+    return first + second;
+}
+
 /* a value that is prepared in one arm of a conditional, or behind a comma; labels of blocks; a selection by type */
 static int arms(int n)
 {
@@ -250,6 +260,7 @@ int main(void)
         sum = sum * 31 + once(i);
         sum = sum * 31 + order(i);
         sum = sum * 31 + defaults(i);
+        sum = sum * 31 + kept_results(i);
         sum = sum * 31 + arms(i);
     }
     printf("%ld\n", sum);
