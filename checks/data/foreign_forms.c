@@ -218,7 +218,8 @@ static int defaults(int n)
 /* conditionals without a middle, whose condition calls */
 static int kept_results(int n)
 {
-    int first = event(n - 2) ?: event(103), second;
+    int first = event(n - 2) ?: event(103);
+    int second;
 
     if (n & 1) second = event(n % 3) ?: first;
     else return 1 + (event(n - 4) ?: event(104));
