@@ -98,6 +98,8 @@ CASES = [
      "int x ( int n ) { { int i = n ; while ( i ) i -- ; if ( ( i ) > 2 ) return 1 ; } return 0 ; }"),
     ("in front", "int x(int n) { if ((e(n), ({ int i = n; while (i) i--; i; }))) return 1; return 0; }",
      "int x ( int n ) { { e ( n ) ; { int i = n ; while ( i ) i -- ; if ( ( i ) ) return 1 ; } } return 0 ; }"),
+    ("in front", "int x(int n) { return ({ e(n); ({ int i; i = n; while (i) i--; i; }); }); }",
+     "int x ( int n ) { { e ( n ) ; { int i ; i = n ; while ( i ) i -- ; return ( i ) ; } } }"),
     ("read again", "int x(int n) { return ({ int a = n; e(a) ? a : 3; }); }",
      "int x ( int n ) { return ( e ( ( ( n ) ) ) ? ( ( n ) ) : 3 ) ; }"),
     ("read again", "int x(int n) { return ({ int a = (n); a < 3 ? a : 3; }); }",

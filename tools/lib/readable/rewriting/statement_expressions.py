@@ -9,6 +9,7 @@ from .substitution import substituted
 from .value_branches import as_value_branches
 
 ROUNDS = 2000
+BEFORE_VALUE = {"return", "else", "do"}
 
 
 def statement_expressions(tokens, work):
@@ -134,13 +135,18 @@ def behind_comma(tokens, opening, partner):
     """`(a, ({ .. }))` as `({ a; .. })`, so that what stands before the comma doesn't keep the rest from a form that fits; or None."""
     close = partner[opening]
     first = partner.get(close + 2, NOWHERE) if text_at(tokens, close + 2) == ")" else NOWHERE
-    if first <= 0 or text_at(tokens, opening - 2) != "," or WORD.match(tokens[first - 1].text) or tokens[first - 1].text in (")", "]"):
+    if first <= 0 or text_at(tokens, opening - 2) != "," or is_called(tokens[first - 1].text):
         return None
     before = tokens[first + 1:opening - 2]
     if not before or before[0].text == "{":
         return None
     inside = [tokens[opening], *before, Token(";", tokens[opening - 2].at), *tokens[opening + 1:close + 1]]
     return tokens[:first + 1] + inside + tokens[close + 2:]
+
+
+def is_called(text):
+    """Whether the parenthesis behind a spelling may begin arguments, or an operand that isn't evaluated."""
+    return text in (")", "]") or WORD.match(text) is not None and text not in BEFORE_VALUE
 
 
 def arm_before(tokens, opening, partner):
