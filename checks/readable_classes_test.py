@@ -100,6 +100,12 @@ CASES = [
      "int x ( int n ) { { e ( n ) ; { int i = n ; while ( i ) i -- ; if ( ( i ) ) return 1 ; } } return 0 ; }"),
     ("in front", "int x(int n) { return ({ e(n); ({ int i; i = n; while (i) i--; i; }); }); }",
      "int x ( int n ) { { e ( n ) ; { int i ; i = n ; while ( i ) i -- ; return ( i ) ; } } }"),
+    ("in front", "int x(int n) { int i = 1; n = i + ({ int i = n; while (i) i--; i; }); return n; }",
+     "int x ( int n ) { int i = 1 ; { int i_1 = n ; while ( i_1 ) i_1 -- ; n = i + ( i_1 ) ; } return n ; }"),
+    ("in front", "int x(S *m) { int n = 0; if (!m->m) n = ({ __label__ out; int n = 0; struct s *m = s(1); for (;;) { if (m->n[n]) goto out;"
+     " n++; } out: n; }); return n; }",
+     "int x ( S * m ) { int n = 0 ; if ( ! m -> m ) { { int n_1 = 0 ; struct s * m = s ( 1 ) ; for ( ; ; ) { if ( m -> n [ n_1 ] ) goto out ;"
+     " n_1 ++ ; } out : n = ( n_1 ) ; } } return n ; }"),
     ("read again", "int x(int n) { return ({ int a = n; e(a) ? a : 3; }); }",
      "int x ( int n ) { return ( e ( ( ( n ) ) ) ? ( ( n ) ) : 3 ) ; }"),
     ("read again", "int x(int n) { return ({ int a = (n); a < 3 ? a : 3; }); }",
@@ -156,7 +162,6 @@ KEPT = [
     ("int x(int n) { t[e(1)] = n ? 1 : ({ while (n) n--; n; }); return 1; }", "branches"),
     ("int x(int n) { return n && ({ int i = n; while (i) i--; i; }); }", "in front"),
     ("int x(int n) { while (({ int i = n; while (i) i--; i; })) e(1); return 0; }", "in front"),
-    ("int x(int n) { int i = 1; int y = i + ({ int i = n; while (i) i--; i; }); return y; }", "in front"),
     ("int x(int n) { return ({ int a = e(n); n ? a : 3; }); }", "own variable"),
     ("int x(int n) { return ({ int a = e(n); a < 3 ? a : 3; }); }", "read again"),
     ("int x(S *p) { return ({ int a = p->m; e(p->m) + a; }); }", "own variable"),

@@ -4,6 +4,7 @@ from ..statements import divided
 from ..tokens import Token, partners, put_in, spellings, text_at
 from ..words import CLOSING, OPENING
 from .conditionals import condition_begin
+from .fresh import fresh_name
 from .hoisting import in_front
 from .lookup import declared_type
 
@@ -32,7 +33,7 @@ def kept_result(tokens, i, partner, work):
     found = declared_type(tokens, begin, condition, partner, work)
     if not condition or found is None:
         return None
-    name = fresh_name(tokens)
+    name = fresh_name(NAME, set(spellings(tokens)))
     declaration = [*put_in(" ".join([*found[0], *["*"] * found[1], name, "="])), *condition, *put_in(";")]
     value = [Token(name), tokens[i], Token(name), *tokens[i + 1:behind], *put_in(";")]
     changed = [*tokens[:begin], *put_in("( {"), *declaration, *value, *put_in("} )"), *tokens[behind:]]
@@ -54,9 +55,3 @@ def conditional_end(tokens, i):
         questions += (text == "?") - (text == ":") if depth == 0 else 0
         i += 1
     return i
-
-
-def fresh_name(tokens):
-    """A name that doesn't stand among tokens."""
-    there = set(spellings(tokens))
-    return next(name for n in range(1, len(there) + 2) if (name := f"{NAME}_{n}") not in there)
