@@ -12,7 +12,7 @@ EXACT = {
     "array bound": "a foreign bound left out",
     "old-style head": "the head of an old-style definition with its parameters in the list",
     "typeof of a type": "`typeof` of a type as the type",
-    "own type": "a cast of an operand to its own type left out",
+    "own type": "a cast of an operand to its own type left out, or of what is assigned to that of the variable",
     "selection": "`_Generic` as the value for the type that its operand is declared with, or as any where they differ in qualifiers alone",
     "repeated declaration": "`extern typeof(f) f` left out",
     "assertion": "assertions at compile time left out",
