@@ -19,7 +19,7 @@ from readable.rewriting.classes import APPROXIMATION, DETAIL, EXACT  # noqa: E40
 AROUND = ("struct s { int m; int n[4]; struct s *next; }; typedef unsigned long size_t; typedef struct s S;"
           " typedef struct { int a; union { struct i { int d; } inner; const struct { const unsigned long b : 3; }; };"
           " char (*f)(int), **c; } T;"
-          " int e(int); int f(void); static inline struct s *s(int); int g; S *h; int t[4]; ")
+          " int e(int); struct { int e; }; int f(void); static inline struct s *s(int); int g; S *h; int t[4]; ")
 # class, text, what becomes of it
 CASES = [
     ("alignment", "int x = __alignof__(long) + _Alignof(S);", "int x = sizeof ( long ) + sizeof ( S ) ;"),
