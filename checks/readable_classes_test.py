@@ -104,6 +104,8 @@ CASES = [
      "int x ( int n ) { { e ( n ) ; { int i = n ; while ( i ) i -- ; if ( ( i ) ) return 1 ; } } return 0 ; }"),
     ("in front", "int x(int n) { return ({ e(n); ({ int i; i = n; while (i) i--; i; }); }); }",
      "int x ( int n ) { { e ( n ) ; { int i ; i = n ; while ( i ) i -- ; return ( i ) ; } } }"),
+    ("in front", "int x(S *p) { if (p) ((*p).next)->m = ({ int i = 3; while (i) i--; i; }); return 0; }",
+     "int x ( S * p ) { if ( p ) { int i = 3 ; while ( i ) i -- ; ( ( * p ) . next ) -> m = ( i ) ; } return 0 ; }"),
     ("in front", "int x(int n) { int i = 1; n = i + ({ int i = n; while (i) i--; i; }); return n; }",
      "int x ( int n ) { int i = 1 ; { int i_1 = n ; while ( i_1 ) i_1 -- ; n = i + ( i_1 ) ; } return n ; }"),
     ("in front", "int x(S *m) { int n = 0; if (!m->m) n = ({ __label__ out; int n = 0; struct s *m = s(1); for (;;) { if (m->n[n]) goto out;"
@@ -160,6 +162,7 @@ KEPT = [
     ("void x(int n) { while (n--) do { if (n) continue; } while (0); }", "plain loop"),
     ("void x(int n) { do { e(1); } while (n); }", "plain loop"),
     ("void x(int n) { do { e(1); } while (0 && e(n) || n); }", "plain loop"),
+    ("int x(int n) { return (*f)(n) + ({ int i = n; while (i) i--; i; }); }", "in front"),
     ("int x(int n) { return e(n) + ({ int i = n; while (i) i--; i; }); }", "in front"),
     ("int x(int n) { return e(n, ({ int i = n; while (i) i--; i; })); }", "in front"),
     ("int x(int n) { return e(n ? 1 : ({ while (n) n--; n; })); }", "branches"),

@@ -69,7 +69,8 @@ def is_passed(tokens, k, partner):
         return False
     before = text_at(tokens, opening - 1)
     called = is_name(before) and not before.startswith("__builtin_") and before not in TYPEOF
-    return not (tokens[k].text == ")" and (called or before in (")", "]")))
+    called = called or before == "]" or before == ")" and not ends_head(tokens, opening - 1, partner)
+    return not (tokens[k].text == ")" and called)
 
 
 def stands_in_list(tokens, k):
