@@ -4,6 +4,7 @@ from ..tokens import NOWHERE, Token, partners, put_in, spellings, text_at
 from ..words import KEYWORDS, WORD
 from .around import begins_statement, ends_value
 from .hoisting import in_front
+from .loops import plain_loop
 from .reduction import reduced
 from .substitution import substituted
 from .value_branches import as_value_branches
@@ -47,7 +48,7 @@ def one(tokens, opening, partner, work):
     if value is not None:
         return tokens[:opening] + value + tokens[close + 1:]
     statements = reduced(substituted(reduced(divided(body, work.names), work), work), work)
-    statements = [statement for statement in statements if spellings(statement) != [";"]]
+    statements = opened([statement for statement in statements if spellings(statement) != [";"]], work)
     value = with_commas(statements, work)
     if value is not None:
         return tokens[:opening] + value + tokens[close + 1:]
@@ -78,6 +79,24 @@ def with_commas(statements, work):
     for before, statement in zip(statements, statements[1:]):
         result = result + [Token(",", before[-1].at)] + statement[:-1]
     return result
+
+
+def opened(statements, work):
+    """The statements, with the expressions of blocks, and of loops that run once, in place of those that hold nothing else."""
+    found = [expressions_of(statement, work) or [statement] for statement in statements]
+    return [statement for some in found for statement in some]
+
+
+def expressions_of(statement, work):
+    """The statements of a block, or of a loop that runs once, where all of them are expressions; else nothing."""
+    partner, body = partners(statement), []
+    loop = plain_loop(statement, 0, partner) if statement[0].text == "do" else None
+    if statement[0].text == "{" and partner.get(0) == len(statement) - 1:
+        body = statement[1:-1]
+    elif loop is not None and loop[1] == len(statement) - 1:
+        body = statement[2:loop[0]]
+    inner = opened([one for one in divided(body, work.names) if spellings(one) != [";"]], work)
+    return inner if all(is_expression(one, work.names) for one in inner) else []
 
 
 def is_expression(statement, names):
