@@ -62,7 +62,7 @@ CASES = [
      "void x ( int n ) { if ( n ) { e ( 1 ) ; } else e ( 2 ) ; }"),
     ("plain loop", "void x(int n) { do { e(1); } while (0 && e(n)); }", "void x ( int n ) { { e ( 1 ) ; } }"),
     ("comma", "int x(void) { return ({ e(1); e(2); }); }", "int x ( void ) { return ( e ( 1 ) , e ( 2 ) ) ; }"),
-    ("comma", "int x(int n) { if (e(n) || ({ do { { e(1); } do { n = f(); } while (0); } while (0); n ? 1 : ({ do { e(2); } while (0); 0; }); })) n = 1;"
+    ("comma", "int x(int n) { if (e(n) || ({ do { { e(1); } do { n = f(); } while (0); } while (0); n ? 1 : ({ do { { } e(2); } while (0); 0; }); })) n = 1;"
      " return n; }",
      "int x ( int n ) { if ( e ( n ) || ( e ( 1 ) , n = f ( ) , n ? 1 : ( e ( 2 ) , 0 ) ) ) n = 1 ; return n ; }"),
     ("block", "void x(int n) { ({ if (n) e(1); }); }", "void x ( int n ) { { if ( n ) e ( 1 ) ; } }"),

@@ -5,7 +5,7 @@ from ..words import KEYWORDS, WORD
 from .around import begins_statement, ends_value
 from .hoisting import in_front
 from .loops import plain_loop
-from .reduction import reduced
+from .reduction import is_empty, reduced
 from .substitution import substituted
 from .value_branches import as_value_branches
 
@@ -95,7 +95,7 @@ def expressions_of(statement, work):
         body = statement[1:-1]
     elif loop is not None and loop[1] == len(statement) - 1:
         body = statement[2:loop[0]]
-    inner = opened([one for one in divided(body, work.names) if spellings(one) != [";"]], work)
+    inner = opened([one for one in divided(body, work.names) if not is_empty(one)], work)
     return inner if all(is_expression(one, work.names) for one in inner) else []
 
 
