@@ -21,6 +21,7 @@ EXACT = {
     "comma": "`({ e; f; })` as `(e, f)`",
     "block": "a statement expression that is a statement, as a block",
     "branches": "`c ? ({ .. }) : ({ .. });` and `v = c ? a : ({ .. });` as `if` and `else`",
+    "variables in front": "`({ T v = E; R; })` as `(v = E, R)`, with `T v;` in front of the statement",
     "nothing": "parts of a statement expression without an event left out",
     "local label": "`__label__ l;` left out, and l under a name of its own where there are several",
     "address of a label": "of a label of its own, as 0",

@@ -8,6 +8,7 @@ from .loops import plain_loop
 from .reduction import is_empty, reduced
 from .substitution import substituted
 from .value_branches import as_value_branches
+from .variables_in_front import variables_in_front
 
 ROUNDS = 2000
 BEFORE_VALUE = {"return", "else", "do"}
@@ -55,7 +56,9 @@ def one(tokens, opening, partner, work):
     return (as_block(tokens, opening, partner, statements, work) or as_branches(tokens, opening, partner, work)
             or as_value_branches(tokens, opening, partner, statements, work)
             or in_front(tokens, opening, close, partner, statements, work)
-            or behind_comma(tokens, opening, partner) or smaller(tokens, opening, close, statements))
+            or behind_comma(tokens, opening, partner)
+            or variables_in_front(tokens, opening, partner, statements, is_expression, work)
+            or smaller(tokens, opening, close, statements))
 
 
 def known_value(body, work):
