@@ -103,6 +103,9 @@ CASES = [
      "int x ( T * p ) { struct i y ; unsigned long z ; char * a ; return y . d + z + a ; }"),
     ("typeof by declaration", "int x(S *p) { typeof(*(p + 1)) y; typeof(p->n + p->m) z; typeof(*((S *)(p->n + 2 * p->m))) a; return y.m + *z + a.m; }",
      "int x ( S * p ) { S y ; int * z ; S a ; return y . m + * z + a . m ; }"),
+    ("typeof by declaration", "int x(int n) { unsigned long a = e(n), *b = 0, c[3], d = n; return (typeof(d))n + (typeof(*c))n + (typeof(*b))a; }",
+     "int x ( int n ) { unsigned long a = e ( n ) , * b = 0 , c [ 3 ] , d = n ;"
+     " return ( unsigned long ) n + ( unsigned long ) n + ( unsigned long ) a ; }"),
     ("typeof by declaration", "int x(void) { typeof(*h) y; typeof(t[0]) *z; return y.m; }", None),
     ("own variable", "int x(S *p) { return ({ void *q = (void *)(p); ((S *)(q - 8)); })->m; }",
      "int x ( S * p ) { return ( ( ( S * ) ( ( ( ( void * ) ( p ) ) ) - 8 ) ) ) -> m ; }"),

@@ -154,9 +154,9 @@ def first_declarator(tokens, k, work):
 
 
 def later_declarator(tokens, k, partner, work):
-    """The type of the name at k where it is a pointer and stands behind another declarator of the same specifiers."""
+    """The type of the name at k where it stands behind another declarator of the same specifiers."""
     comma, stars = before_stars(tokens, k)
-    if comma <= 0 or tokens[comma].text != "," or not stars or text_at(tokens, k + 1) == "[":
+    if comma <= 0 or tokens[comma].text != ",":
         return None
     u = comma
     while u >= 0 and tokens[u].text not in (";", "{", "}", "("):
@@ -168,4 +168,4 @@ def later_declarator(tokens, k, partner, work):
     while u < comma and (work.names.is_specifier(texts, u) or texts[u] in STORAGE):
         u += 1
     words = [text for text in texts[first:u] if text not in QUALIFIERS and text not in STORAGE]
-    return (words, stars, False) if words else None
+    return (words, stars, text_at(tokens, k + 1) == "[") if words else None
