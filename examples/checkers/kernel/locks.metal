@@ -11,8 +11,9 @@ sm locks {
          | { down_write_trylock(l) } ==> true=l.write, false=l.stop
          | { down_read_killable(l) } || { down_read_interruptible(l) } ==> true=l.stop, false=l.read
          | { down_write_killable(l) } ==> true=l.stop, false=l.write;
-  start:   { spin_lock(l) } || { spin_lock_irq(l) } || { spin_lock_bh(l) } || { flags = _raw_spin_lock_irqsave(spinlock_check(l)) }
-               ==> l.spin
+  // pte_offset_map_lock(.., &ptl) is *(&ptl) = __ptl, and then spin_lock(__ptl)
+  start:   { spin_lock(l) } && ${ !mc_name_is(l, "__ptl") } || { l = __ptl } || { spin_lock_irq(l) } || { spin_lock_bh(l) }
+               || { flags = _raw_spin_lock_irqsave(spinlock_check(l)) } ==> l.spin
          | { mutex_lock(l) } ==> l.mutex
          | { _raw_read_lock(l) } || { _raw_read_lock_irq(l) } || { _raw_read_lock_bh(l) } || { flags = _raw_read_lock_irqsave(l) }
                || { down_read(l) } ==> l.read

@@ -65,3 +65,14 @@ int tables(struct port *p)
     downgrade_write(&p->users);
     return 0;                                   /* wants: &p->users is still held at the end */
 }
+
+int entry(struct port *p, int *kept)
+{
+    spinlock_t *ptl;
+    { spinlock_t *__ptl = &p->lock; *(&ptl) = __ptl; spin_lock(__ptl); }
+    if (!p->open)
+        return -1;                              /* wants: ptl is still held at the end */
+    *kept = p->open;
+    spin_unlock(ptl);
+    return 0;
+}

@@ -70,3 +70,11 @@ void wait(struct port *p)
         }
     }
 }
+
+void entry(struct port *p, int *kept)
+{
+    spinlock_t *ptl;
+    { spinlock_t *__ptl = &p->lock; *(&ptl) = __ptl; spin_lock(__ptl); }
+    *kept = p->open;
+    spin_unlock(ptl);
+}
