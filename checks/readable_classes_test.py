@@ -77,6 +77,8 @@ CASES = [
      "int x ( int n ) { { if ( n ) return g ; else { while ( n ) n -- ; return n ; } } }"),
     ("variables in front", "int x(int n) { while (n && ({ S *const a = s(n); int b[3], c; c = a->m; e(c) + b[0]; })) n--; return n; }",
      "int x ( int n ) { { S * a ; int b [ 3 ] , c ; while ( n && ( a = s ( n ) , c = a -> m , e ( c ) + b [ 0 ] ) ) n -- ; } return n ; }"),
+    ("variables in front", "int x(int n) { if (n) do { e(n); } while (g && ({ int a = f(); e(a); })); return 0; }",
+     "int x ( int n ) { if ( n ) { int a ; do { e ( n ) ; } while ( g && ( a = f ( ) , e ( a ) ) ) ; } return 0 ; }"),
     ("variables in front", "int x(int n) { int a = 2, b = e(a) + ({ register int a = f(); { int c = n; e(c); } a = e(a); a; }); return b + a; }",
      "int x ( int n ) { int a_1 ; int c ; int a = 2 , b = e ( a ) + ( a_1 = f ( ) , c = n , e ( c ) , a_1 = e ( a_1 ) , a_1 ) ; return b + a ; }"),
     ("variables in front", "int x(int n) { if (e(1) || ({ int a = f(); e(a); e(a); }) || ({ int a = n; n = f(); e(a); })) return 1; return 0; }",

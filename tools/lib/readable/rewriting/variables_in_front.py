@@ -35,6 +35,8 @@ def statement_begin(tokens, opening, partner):
         text = tokens[k].text
         if text == "{" and text_at(tokens, k - 1) in ("=", ",", "{") or text in (")", "]", "}") and k not in partner:
             return None
+        if text == "}" and text_at(tokens, k + 1) == "while" and text_at(tokens, partner[k] - 1) == "do":
+            return partner[k] - 1
         if text == "}" and text_at(tokens, k + 1) == ")":
             k = partner[k]
         elif text in BEFORE_STATEMENT and not (text == ";" and in_head(tokens, k, partner)):
