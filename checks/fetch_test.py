@@ -228,7 +228,7 @@ class Rebuilds(Folder):
         checker, program = self.write("c.metal", ""), self.write("reads_all", "#!/bin/sh\nexit 0\n")
         os.chmod(program, 0o755)
         done = subprocess.run([sys.executable, REBUILDS, self.folder, "zlib", checker, "a.c", "h.h"], capture_output=True, text=True,
-                              timeout=120, env={**os.environ, "METALCHECK": program})
+                              timeout=600, env={**os.environ, "METALCHECK": program})
         self.assertEqual((done.returncode, done.stderr), (0, ""))
         rows = [[cell.strip() for cell in row.split("|")[1:-1]] for row in done.stdout.splitlines()[2:]]
         self.assertEqual([(row[0], row[3], row[4]) for row in rows], [

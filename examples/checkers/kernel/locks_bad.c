@@ -5,6 +5,7 @@ struct mutex { int owner; };
 struct rw_semaphore { int count; };
 void spin_lock(spinlock_t *); void spin_unlock(spinlock_t *); int spin_trylock(spinlock_t *);
 raw_spinlock_t *spinlock_check(spinlock_t *);
+int _raw_spin_trylock(raw_spinlock_t *); unsigned long arch_local_irq_save(void); void arch_local_irq_restore(unsigned long);
 unsigned long _raw_spin_lock_irqsave(raw_spinlock_t *); void spin_unlock_irqrestore(spinlock_t *, unsigned long);
 void mutex_lock(struct mutex *); void mutex_unlock(struct mutex *); int mutex_lock_interruptible(struct mutex *);
 void _raw_read_lock(rwlock_t *); void _raw_read_unlock(rwlock_t *); void _raw_write_lock(rwlock_t *); void _raw_write_unlock(rwlock_t *);
@@ -75,4 +76,11 @@ int entry(struct port *p, int *kept)
     *kept = p->open;
     spin_unlock(ptl);
     return 0;
+}
+
+int attempt(struct port *p, unsigned long *flags)
+{
+    if (!(*flags = arch_local_irq_save(), _raw_spin_trylock(spinlock_check(&p->lock)) ? 1 : (arch_local_irq_restore(*flags), 0)))
+        return 0;
+    return 1;                                   /* wants: &p->lock is still held at the end */
 }
