@@ -224,6 +224,15 @@ class Judged(Box):
         status, _, errs = self.judge("right one m a.c:4\nfalse one m a.c:9\nfalse three m b.c:1\n")
         self.assertEqual((status, errs[-len(self.MOST):]), (1, self.MOST))
 
+    def test_pruned(self):
+        """With --prune nothing is reported in a function of a header that the main file doesn't reach."""
+        low = '# 1 "c.c"\n# 1 "c.h" 1\nstatic void low(char *q) { kfree(q); kfree(q); }\n# 2 "c.c" 2\nint f(void) { return ({ 1; }); }\n'
+        os.makedirs(os.path.join(self.box.name, "all", "four", "preprocessed"))
+        self.write("all/four/preprocessed/a.i", low)
+        words = ("--programs", "four", "all", "judged", "m.metal")
+        self.assertEqual(self.judge("", *words)[1].count("?"), 1)
+        self.assertEqual(self.judge("", "--prune", *words)[1].count("?"), 0)
+
     def test_what_is_kept(self):
         self.assertEqual(self.judge("")[1].count("?"), 3)
         for name in ("one/a.json", "three/a.i"):

@@ -1,5 +1,5 @@
-"""The tests of bench/fetch, without a network: source lines, recorded compilations, programs that are built; and of bench/rebuilds.
-checks/tools runs them."""
+"""The tests of bench/fetch, without a network: source lines, recorded compilations, programs that are built; and of bench/readable and
+bench/rebuilds. checks/tools runs them."""
 import contextlib
 import io
 import json
@@ -11,9 +11,10 @@ import tempfile
 import unittest
 from unittest import mock
 
-from program import ROOT
+from program import ROOT, built
 
 FETCH = os.path.join(ROOT, "bench", "fetch")
+READABLE = os.path.join(ROOT, "bench", "readable")
 REBUILDS = os.path.join(ROOT, "bench", "rebuilds")
 sys.path[:0] = [os.path.join(ROOT, "bench", "lib"), os.path.join(ROOT, "tools", "lib")]
 
@@ -193,6 +194,28 @@ class Unpacking(Folder):
         self.assertIn("x_1.orig.tar.gz can't be unpacked", str(fault.exception))
 
 
+class Readable(Folder):
+    def test_rows(self):
+        """What bench/readable prints of a program of three files, one of which has no text."""
+        for name, text in {"a.i": "int f(int a) { return a; }\n", "b.i": "int g(int a) { return ({ a; }); }\nint h(void *p) { goto *p; }\n",
+                           "c.i": "no C )\n"}.items():
+            self.write("own/preprocessed/" + name, text)
+        texts = os.path.join(self.folder, "texts")
+        command = [sys.executable, READABLE, "--jobs", "1", "--reasons", "--check", "1", "--texts", texts, self.folder]
+        done = subprocess.run(command, capture_output=True, text=True, timeout=300, env={**os.environ, "METALCHECK": built()})
+        self.assertEqual((done.returncode, done.stderr), (0, ""))
+        row, fault, reason = done.stdout.splitlines()
+        self.assertRegex(row, r"\Aown: 3 files, 1 read as they are, 2 read; 2 of 3 functions stay \(66\.7%\); seconds a file [\d., ]+; "
+                              r"runs \d, \d, \d; checked in [\d., ]+\Z")
+        self.assertIn("c.i: the text isn't balanced", fault)
+        self.assertEqual(reason, "  computed goto: 1")
+        self.assertEqual(sorted(os.listdir(os.path.join(texts, "own"))), ["a.i", "b.i"])
+
+    def test_nothing_to_measure(self):
+        done = subprocess.run([sys.executable, READABLE, self.folder], capture_output=True, text=True, timeout=60)
+        self.assertEqual((done.returncode, done.stdout), (3, ""))
+
+
 @unittest.skipUnless(shutil.which("gcc") and shutil.which("ninja"), "there is no gcc or no ninja")
 class Rebuilds(Folder):
     def test_rows(self):
@@ -205,7 +228,7 @@ class Rebuilds(Folder):
         checker, program = self.write("c.metal", ""), self.write("reads_all", "#!/bin/sh\nexit 0\n")
         os.chmod(program, 0o755)
         done = subprocess.run([sys.executable, REBUILDS, self.folder, "zlib", checker, "a.c", "h.h"], capture_output=True, text=True,
-                              timeout=120, env={**os.environ, "METALCHECK": program})
+                              timeout=600, env={**os.environ, "METALCHECK": program})
         self.assertEqual((done.returncode, done.stderr), (0, ""))
         rows = [[cell.strip() for cell in row.split("|")[1:-1]] for row in done.stdout.splitlines()[2:]]
         self.assertEqual([(row[0], row[3], row[4]) for row in rows], [

@@ -19,7 +19,7 @@ from readable.rewriting.classes import APPROXIMATION, DETAIL, EXACT  # noqa: E40
 AROUND = ("struct s { int m; int n[4]; struct s *next; }; typedef unsigned long size_t; typedef struct s S;"
           " typedef struct { int a; union { struct i { int d; } inner; const struct { const unsigned long b : 3; }; };"
           " char (*f)(int), **c; } T;"
-          " int e(int); int f(void); static inline struct s *s(int); int g; S *h; int t[4]; ")
+          " int e(int); struct { int e; }; int f(void); static inline struct s *s(int); int g; S *h; int t[4]; ")
 # class, text, what becomes of it
 CASES = [
     ("alignment", "int x = __alignof__(long) + _Alignof(S);", "int x = sizeof ( long ) + sizeof ( S ) ;"),
@@ -46,6 +46,8 @@ CASES = [
     ("own type", "S *x(S *p) { return (typeof(*(p->next)) *)(p->next); }", "S * x ( S * p ) { return ( p -> next ) ; }"),
     ("own type", "S *x(S *p) { return (typeof(*(p->next)) *)((*&((p->next)))); }",
      "S * x ( S * p ) { return ( ( * & ( ( p -> next ) ) ) ) ; }"),
+    ("own type", "int x(char *p) { do { struct { typeof(*((int *)(p + g))) b; } *q = (typeof(q))(((int *)(p + g))); q->b = 1; } while (0); return 0; }",
+     "int x ( char * p ) { { struct { int b ; } * q = ( ( ( int * ) ( p + g ) ) ) ; q -> b = 1 ; } return 0 ; }"),
     ("selection", "S *x(S *p) { return _Generic((p), const S *: (const S *)p->next, S *: (S *)p->next); }",
      "S * x ( S * p ) { return ( ( S * ) p -> next ) ; }"),
     ("selection", "int x(S *p) { return _Generic(*(&p->m), long: 1, int: e(2), default: 3); }", "int x ( S * p ) { return ( e ( 2 ) ) ; }"),
@@ -60,6 +62,9 @@ CASES = [
      "void x ( int n ) { if ( n ) { e ( 1 ) ; } else e ( 2 ) ; }"),
     ("plain loop", "void x(int n) { do { e(1); } while (0 && e(n)); }", "void x ( int n ) { { e ( 1 ) ; } }"),
     ("comma", "int x(void) { return ({ e(1); e(2); }); }", "int x ( void ) { return ( e ( 1 ) , e ( 2 ) ) ; }"),
+    ("comma", "int x(int n) { if (e(n) || ({ do { { e(1); } do { n = f(); } while (0); } while (0); n ? 1 : ({ do { { } e(2); } while (0); 0; }); })) n = 1;"
+     " return n; }",
+     "int x ( int n ) { if ( e ( n ) || ( e ( 1 ) , n = f ( ) , n ? 1 : ( e ( 2 ) , 0 ) ) ) n = 1 ; return n ; }"),
     ("block", "void x(int n) { ({ if (n) e(1); }); }", "void x ( int n ) { { if ( n ) e ( 1 ) ; } }"),
     ("block", "void x(int n) { (void)({ while (n--) e(1); n; }); }", "void x ( int n ) { { while ( n -- ) e ( 1 ) ; n ; } }"),
     ("branches", "void x(int n) { n ? ({ while (n) e(1); }) : ({ if (n) e(2); }); }",
@@ -70,6 +75,15 @@ CASES = [
      " else e ( 2 ) ; return 1 ; }"),
     ("branches", "int x(int n) { return n ? g : ({ while (n) n--; n; }); }",
      "int x ( int n ) { { if ( n ) return g ; else { while ( n ) n -- ; return n ; } } }"),
+    ("variables in front", "int x(int n) { while (n && ({ S *const a = s(n); int b[3], c; c = a->m; e(c) + b[0]; })) n--; return n; }",
+     "int x ( int n ) { { S * a ; int b [ 3 ] , c ; while ( n && ( a = s ( n ) , c = a -> m , e ( c ) + b [ 0 ] ) ) n -- ; } return n ; }"),
+    ("variables in front", "int x(int n) { if (n) do { e(n); } while (g && ({ int a = f(); e(a); })); return 0; }",
+     "int x ( int n ) { if ( n ) { int a ; do { e ( n ) ; } while ( g && ( a = f ( ) , e ( a ) ) ) ; } return 0 ; }"),
+    ("variables in front", "int x(int n) { int a = 2, b = e(a) + ({ register int a = f(); { int c = n; e(c); } a = e(a); a; }); return b + a; }",
+     "int x ( int n ) { int a_1 ; int c ; int a = 2 , b = e ( a ) + ( a_1 = f ( ) , c = n , e ( c ) , a_1 = e ( a_1 ) , a_1 ) ; return b + a ; }"),
+    ("variables in front", "int x(int n) { if (e(1) || ({ int a = f(); e(a); e(a); }) || ({ int a = n; n = f(); e(a); })) return 1; return 0; }",
+     "int x ( int n ) { { int a_1 ; { int a ; if ( e ( 1 ) || ( a = f ( ) , e ( a ) , e ( a ) ) || ( a_1 = n , n = f ( ) , e ( a_1 ) ) ) return 1 ; } }"
+     " return 0 ; }"),
     ("nothing", "int x(int n) { return ({ int y = !!(n); do { } while (0); if (y) { int z; } y; }); }",
      "int x ( int n ) { return ( ( ( ! ! ( n ) ) ) ) ; }"),
     ("nothing", "int x(int n) { return ({ int y; typeof(n) z; (void)(&y == &z); 1; }); }", "int x ( int n ) { return ( 1 ) ; }"),
@@ -89,6 +103,11 @@ CASES = [
      "int x ( S * p ) { return ( int * ) 0 ? 1 : 0 ; }"),
     ("typeof by declaration", "int x(T *p) { typeof(p->inner) y; typeof(p->b) z; typeof(*p->c) a; return y.d + z + a; }",
      "int x ( T * p ) { struct i y ; unsigned long z ; char * a ; return y . d + z + a ; }"),
+    ("typeof by declaration", "int x(S *p) { typeof(*(p + 1)) y; typeof(p->n + p->m) z; typeof(*((S *)(p->n + 2 * p->m))) a; return y.m + *z + a.m; }",
+     "int x ( S * p ) { S y ; int * z ; S a ; return y . m + * z + a . m ; }"),
+    ("typeof by declaration", "int x(int n) { unsigned long a = e(n), *b = 0, c[3], d = n; return (typeof(d))n + (typeof(*c))n + (typeof(*b))a; }",
+     "int x ( int n ) { unsigned long a = e ( n ) , * b = 0 , c [ 3 ] , d = n ;"
+     " return ( unsigned long ) n + ( unsigned long ) n + ( unsigned long ) a ; }"),
     ("typeof by declaration", "int x(void) { typeof(*h) y; typeof(t[0]) *z; return y.m; }", None),
     ("own variable", "int x(S *p) { return ({ void *q = (void *)(p); ((S *)(q - 8)); })->m; }",
      "int x ( S * p ) { return ( ( ( S * ) ( ( ( ( void * ) ( p ) ) ) - 8 ) ) ) -> m ; }"),
@@ -98,6 +117,16 @@ CASES = [
      "int x ( int n ) { { int i = n ; while ( i ) i -- ; if ( ( i ) > 2 ) return 1 ; } return 0 ; }"),
     ("in front", "int x(int n) { if ((e(n), ({ int i = n; while (i) i--; i; }))) return 1; return 0; }",
      "int x ( int n ) { { e ( n ) ; { int i = n ; while ( i ) i -- ; if ( ( i ) ) return 1 ; } } return 0 ; }"),
+    ("in front", "int x(int n) { return ({ e(n); ({ int i; i = n; while (i) i--; i; }); }); }",
+     "int x ( int n ) { { e ( n ) ; { int i ; i = n ; while ( i ) i -- ; return ( i ) ; } } }"),
+    ("in front", "int x(S *p) { if (p) ((*p).next)->m = ({ int i = 3; while (i) i--; i; }); return 0; }",
+     "int x ( S * p ) { if ( p ) { int i = 3 ; while ( i ) i -- ; ( ( * p ) . next ) -> m = ( i ) ; } return 0 ; }"),
+    ("in front", "int x(int n) { int i = 1; n = i + ({ int i = n; while (i) i--; i; }); return n; }",
+     "int x ( int n ) { int i = 1 ; { int i_1 = n ; while ( i_1 ) i_1 -- ; n = i + ( i_1 ) ; } return n ; }"),
+    ("in front", "int x(S *m) { int n = 0; if (!m->m) n = ({ __label__ out; int n = 0; struct s *m = s(1); for (;;) { if (m->n[n]) goto out;"
+     " n++; } out: n; }); return n; }",
+     "int x ( S * m ) { int n = 0 ; if ( ! m -> m ) { { int n_1 = 0 ; struct s * m = s ( 1 ) ; for ( ; ; ) { if ( m -> n [ n_1 ] ) goto out ;"
+     " n_1 ++ ; } out : n = ( n_1 ) ; } } return n ; }"),
     ("read again", "int x(int n) { return ({ int a = n; e(a) ? a : 3; }); }",
      "int x ( int n ) { return ( e ( ( ( n ) ) ) ? ( ( n ) ) : 3 ) ; }"),
     ("read again", "int x(int n) { return ({ int a = (n); a < 3 ? a : 3; }); }",
@@ -120,6 +149,11 @@ CASES = [
      "int x ( int n ) { if ( n ) g ? g : e ( 1 ) ; return n ? g ? g : 1 : e ( n , t [ n ] ? t [ n ] : g ) ? 2 : 3 ; }"),
     ("middle", "int x(int n) { return ({ int a = g; a; }) ?: n; }",
      "int x ( int n ) { return ( ( ( g ) ) ) ? ( ( ( g ) ) ) : n ; }"),
+    ("kept result", "S *x(int n) { if (n) h = s(n) ?: h; return h; }",
+     "S * x ( int n ) { if ( n ) { struct s * result_1 = s ( n ) ; h = ( result_1 ? result_1 : h ) ; } return h ; }"),
+    ("kept result", "int x(int n) { int y = e(n) ?: f(); return e(s(y) ?: h); }",
+     "int x ( int n ) { int y ; { int result_2 = e ( n ) ; y = ( result_2 ? result_2 : f ( ) ) ; }"
+     " { struct s * result_1 = s ( y ) ; return e ( ( result_1 ? result_1 : h ) ) ; } }"),
     ("compound literal", "int x(S *p) { *p = (S){ .m = e(1), .n = { 2, g, }, }; return ((S){ }).m; }",
      "int x ( S * p ) { * p = ( * ( S * ) ( e ( 1 ) , 2 , g , 0 ) ) ; return ( ( * ( S * ) ( 0 ) ) ) . m ; }"),
     ("compound literal", "int x(void) { return e(((int const []){ 1, ((S){ 2, { { }, t[0] } }).m })[0]); }",
@@ -143,13 +177,13 @@ KEPT = [
     ("void x(int n) { while (n--) do { if (n) continue; } while (0); }", "plain loop"),
     ("void x(int n) { do { e(1); } while (n); }", "plain loop"),
     ("void x(int n) { do { e(1); } while (0 && e(n) || n); }", "plain loop"),
+    ("int x(int n) { return (*f)(n) + ({ int i = n; while (i) i--; i; }); }", "in front"),
     ("int x(int n) { return e(n) + ({ int i = n; while (i) i--; i; }); }", "in front"),
     ("int x(int n) { return e(n, ({ int i = n; while (i) i--; i; })); }", "in front"),
     ("int x(int n) { return e(n ? 1 : ({ while (n) n--; n; })); }", "branches"),
     ("int x(int n) { t[e(1)] = n ? 1 : ({ while (n) n--; n; }); return 1; }", "branches"),
     ("int x(int n) { return n && ({ int i = n; while (i) i--; i; }); }", "in front"),
     ("int x(int n) { while (({ int i = n; while (i) i--; i; })) e(1); return 0; }", "in front"),
-    ("int x(int n) { int i = 1; int y = i + ({ int i = n; while (i) i--; i; }); return y; }", "in front"),
     ("int x(int n) { return ({ int a = e(n); n ? a : 3; }); }", "own variable"),
     ("int x(int n) { return ({ int a = e(n); a < 3 ? a : 3; }); }", "read again"),
     ("int x(S *p) { return ({ int a = p->m; e(p->m) + a; }); }", "own variable"),
@@ -160,7 +194,9 @@ KEPT = [
     ("int x(S *p) { __auto_type a = (short)e(1) ? p : h; return a->m; }", "automatic type"),
     ("int x(int n) { do { e(n); } while (0); return n; } ", "assertion"),
     ("S x = { 1, { t[0], h->m } };", "designator"),
+    ("int x(int n) { int y = (typeof(y))n + 1; return y; }", "own type"),
     ("int x(int n) { typeof(t) y; return n; }", "typeof by declaration"),
+    ("int x(S *p) { typeof(p->m + p->n) y; typeof(p + 1 - p) z; typeof(p + 1 ? p : h) a; return n; }", "typeof by declaration"),
     ("int x(int n) { return (typeof((int *)0))n ? 1 : 0; }", "automatic type"),
     ("int x = sizeof(int[3]);", "foreign size"),
     ("int x(void) { return ((int[2][2]){ 1 })[0][0]; }", "compound literal"),
@@ -169,6 +205,9 @@ KEPT = [
     ("int x(int n) { return _Generic(n + 1, int: n, long: g); }", "selection"),
     ("int x(int n) { return ({ unsigned long p = f(); (typeof(n))(p + n); }); }", "per-CPU read"),
     ("int x(int n) { return e(n) ?: 3; }", "middle"),
+    ("int x(int n) { return g ? e(n) ?: 3 : 1; }", "kept result"),
+    ("int x(int n) { return e(1) + (e(n) ?: 3); }", "kept result"),
+    ("int x(int n) { return unknown(n) ?: 3; }", "kept result"),
     ("int x(int n) { return n++ ?: 3; }", "middle"),
     ("int x(int n) { return n ? g : 3; }", "middle"),
 ]
@@ -222,7 +261,7 @@ class Forms(unittest.TestCase):
     def test_named(self):
         for text, name in [
                 ("int x(void) { return e(((int[2][2]){ 1 })[0][0]); }", "compound literal"),
-                ("int x(int y) { return e(y) ?: 3; }", "?: without a middle"),
+                ("int x(int y) { return e(1) + (e(y) ?: 3); }", "?: without a middle"),
                 ("void x(void) { void *p = &&l; l: goto *p; }", "computed goto"), ("void x(void) { l: h = &&l; }", "address of a label"),
                 ("void x(void) { int y(int a) { return a; } y(1); }", "nested function"), ("_Complex double x;", "complex"),
                 ("int x = (struct { int a; } *)0 == 0;", "struct body in a type name"),

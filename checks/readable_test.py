@@ -40,7 +40,7 @@ int old(one,
 """
 UNREAD = """# 1 "main.c"
 # 1 "low.h" 1
-static int low(int a) { return low(a) ?: 3; }
+static int low(int a) { return low(a) + (low(a) ?: 3); }
 _Complex double lost_variable;
 # 2 "main.c" 2
 typedef _Complex double lost_type;

@@ -215,6 +215,28 @@ static int defaults(int n)
     return sum + (n & 1 ?: none ?: event(97)) * 10;
 }
 
+/* conditionals without a middle, whose condition calls */
+static int kept_results(int n)
+{
+    int first = event(n - 2) ?: event(103);
+    int second;
+
+    if (n & 1) second = event(n % 3) ?: first;
+    else return 1 + (event(n - 4) ?: event(104));
+    return first + second;
+}
+
+/* variables of statement expressions behind && and ||, and in the heads of loops */
+static int conditions(int n)
+{
+    int left = n, both = 0;
+
+    while (left > 0 && ({ int one = event(left); int *to = &both; *to += one; { int two = one; event(two); } one > 2; })) left--;
+    if (n < 3 || ({ int one = event(105); int *to = &one; *to + both & 1; }) || ({ char one = event(106); event(one); })) both++;
+    for (left = 0; left < ({ long most = event(107); most -= 104; most; }); left++) both += left;
+    return left + both;
+}
+
 /* a value that is prepared in one arm of a conditional, or behind a comma; labels of blocks; a selection by type */
 static int arms(int n)
 {
@@ -250,6 +272,8 @@ int main(void)
         sum = sum * 31 + once(i);
         sum = sum * 31 + order(i);
         sum = sum * 31 + defaults(i);
+        sum = sum * 31 + kept_results(i);
+        sum = sum * 31 + conditions(i);
         sum = sum * 31 + arms(i);
     }
     printf("%ld\n", sum);

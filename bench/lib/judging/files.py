@@ -5,7 +5,7 @@ import os
 from commands import kept
 from metalcheck import ANSWERS, NoProgram, run_proved
 from readable.asking import ProgramFailed
-from readable.making import make_readable
+from readable.making import Options, make_readable
 from silenced.silencer import checker_names
 
 from .checkers import runs_of
@@ -20,17 +20,17 @@ class Failed(Exception):
 class File:
     """A preprocessed file with what is known of it, in the folder of its program: `how` it is read, and reports by the keys of checkers.
 
-    `tools` is a number for the programs that made what is kept.
+    `tools` is a number for the programs that made what is kept, `prune` an option of tools/readable.
     """
 
-    def __init__(self, path, folder, tools):
-        self.path = path
+    def __init__(self, path, folder, tools, prune=False):
+        self.path, self.prune = path, prune
         self.program = program_of(path)
         own = os.path.join(folder, self.program)
         os.makedirs(own, exist_ok=True)
         self.made = os.path.join(own, os.path.basename(path))
         self.record = self.made[:-len(".i")] + ".json"
-        self.known = self.kept(kept.digest(path) + tools)
+        self.known = self.kept(kept.digest(path) + tools + (" pruned" if prune else ""))
 
     def kept(self, key):
         """What an earlier call has found out of this file by these programs; else nothing yet."""
@@ -45,7 +45,7 @@ class File:
         if self.known["how"]:
             return
         try:
-            record = make_readable(self.path)
+            record = make_readable(self.path, Options(self.prune))
         except ProgramFailed as fault:
             raise Failed(f"{self.path}: {fault}") from fault
         self.known["how"] = AS_IT_IS if record.as_it_is else NOT_READ if record.text is None else READABLE
@@ -91,8 +91,8 @@ def answer(words):
     return done.stdout.decode().splitlines()
 
 
-def judged_file(path, folder, tools, checkers):
+def judged_file(path, folder, tools, checkers, prune=False):
     """What the checkers report of a file, and how it is read, with the reason where it isn't. It runs in a process of its own."""
-    file = File(path, folder, tools)
+    file = File(path, folder, tools, prune)
     file.check(checkers)
     return file.reports(checkers), file.known["how"], file.known["why"]

@@ -5,6 +5,7 @@ struct mutex { int owner; };
 struct rw_semaphore { int count; };
 void spin_lock(spinlock_t *); void spin_unlock(spinlock_t *); int spin_trylock(spinlock_t *);
 raw_spinlock_t *spinlock_check(spinlock_t *);
+int _raw_spin_trylock(raw_spinlock_t *); unsigned long arch_local_irq_save(void); void arch_local_irq_restore(unsigned long);
 unsigned long _raw_spin_lock_irqsave(raw_spinlock_t *); void spin_unlock_irqrestore(spinlock_t *, unsigned long);
 void mutex_lock(struct mutex *); void mutex_unlock(struct mutex *); int mutex_lock_interruptible(struct mutex *);
 void _raw_read_lock(rwlock_t *); void _raw_read_unlock(rwlock_t *); void _raw_write_lock(rwlock_t *); void _raw_write_unlock(rwlock_t *);
@@ -64,4 +65,22 @@ int tables(struct port *p)
         return 1;                               /* wants: &p->users is still held at the end */
     downgrade_write(&p->users);
     return 0;                                   /* wants: &p->users is still held at the end */
+}
+
+int entry(struct port *p, int *kept)
+{
+    spinlock_t *ptl;
+    { spinlock_t *__ptl = &p->lock; *(&ptl) = __ptl; spin_lock(__ptl); }
+    if (!p->open)
+        return -1;                              /* wants: ptl is still held at the end */
+    *kept = p->open;
+    spin_unlock(ptl);
+    return 0;
+}
+
+int attempt(struct port *p, unsigned long *flags)
+{
+    if (!(*flags = arch_local_irq_save(), _raw_spin_trylock(spinlock_check(&p->lock)) ? 1 : (arch_local_irq_restore(*flags), 0)))
+        return 0;
+    return 1;                                   /* wants: &p->lock is still held at the end */
 }

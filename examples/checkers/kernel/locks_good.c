@@ -5,6 +5,7 @@ struct mutex { int owner; };
 struct rw_semaphore { int count; };
 void spin_lock(spinlock_t *); void spin_unlock(spinlock_t *); int spin_trylock(spinlock_t *);
 raw_spinlock_t *spinlock_check(spinlock_t *);
+int _raw_spin_trylock(raw_spinlock_t *); unsigned long arch_local_irq_save(void); void arch_local_irq_restore(unsigned long);
 unsigned long _raw_spin_lock_irqsave(raw_spinlock_t *); void spin_unlock_irqrestore(spinlock_t *, unsigned long);
 void mutex_lock(struct mutex *); void mutex_unlock(struct mutex *); int mutex_lock_killable(struct mutex *);
 void _raw_read_lock(rwlock_t *); void _raw_read_unlock(rwlock_t *);
@@ -69,4 +70,44 @@ void wait(struct port *p)
             return;
         }
     }
+}
+
+void entry(struct port *p, int *kept)
+{
+    spinlock_t *ptl;
+    { spinlock_t *__ptl = &p->lock; *(&ptl) = __ptl; spin_lock(__ptl); }
+    *kept = p->open;
+    spin_unlock(ptl);
+}
+
+void snd_pcm_stream_lock(struct port *p)
+{
+    spin_lock(&p->lock);
+}
+
+void *slab_start(struct port *p)
+{
+    mutex_lock(&p->setup);
+    return p;
+}
+
+void page_offline_freeze(struct port *p)
+{
+    _raw_read_lock(&p->table);
+}
+
+int page_offline_begin(struct port *p)
+{
+    if (down_write_killable(&p->users))
+        return -4;
+    return 0;
+}
+
+int attempt(struct port *p, unsigned long *flags)
+{
+    if ((*flags = arch_local_irq_save(), _raw_spin_trylock(spinlock_check(&p->lock)) ? 1 : (arch_local_irq_restore(*flags), 0))) {
+        spin_unlock_irqrestore(&p->lock, *flags);
+        return 1;
+    }
+    return 0;
 }

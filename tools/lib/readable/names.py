@@ -25,10 +25,16 @@ class Names:
     def returned(self, name):
         """The same of what a function gives back, or None."""
         if self._chunks is None:
-            self._chunks = {chunk.name: chunk for chunk in self.source.chunks}
-        texts = self.source.own_texts(self._chunks[name]) if name in self._chunks else ["", ""]
+            self._chunks = {}
+            for chunk in self.source.chunks:
+                self._chunks.setdefault(chunk.name, []).append(chunk)
+        found = (self._returned(self.source.own_texts(chunk), name) for chunk in self._chunks.get(name, []))
+        return next((one for one in found if one is not None), None)
+
+    def _returned(self, texts, name):
+        """The same of a declaration or definition with these spellings, or None where it isn't that of a function of this name."""
         k, words = 0, []
-        while texts[k] in STORAGE or self.is_specifier(texts, k):
+        while k < len(texts) and (texts[k] in STORAGE or self.is_specifier(texts, k)):
             words += [texts[k]] if texts[k] not in STORAGE and texts[k] not in QUALIFIERS else []
             k += 1
         named = behind_stars(texts, k)

@@ -1,7 +1,7 @@
 """Whether an expression is arithmetic, so that a variable of its type may be one of a number."""
 from ..tokens import NOWHERE, Token, index_of, parts, spellings
 from ..words import CLOSING, OPENING, TAGGED, TYPE_WORDS, is_name
-from .lookup import opening_of, plain_type, without_parentheses
+from .lookup import ends_operand, plain_type, without_parentheses
 
 BINARY = set("+ - * / % << >> < > <= >= == != & | ^ && || ? :".split())
 UNARY = {"-", "+", "~", "!"}
@@ -39,13 +39,6 @@ def operands(texts, names):
             found[-1].append(text)
         depth += (text in OPENING) - (text in CLOSING)
     return found
-
-
-def ends_operand(texts, names):
-    """Whether an operator behind these spellings is a binary one: they are no cast and no operator."""
-    if not texts or texts[-1] in BINARY | UNARY:
-        return False
-    return texts[-1] != ")" or not names.is_type(texts[opening_of(texts) + 1])
 
 
 def cast_type(texts, names):

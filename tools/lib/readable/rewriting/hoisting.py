@@ -1,8 +1,9 @@
 """`[before] ({ S; R; }) [behind];` as `{ S; [before] (R) [behind]; }`, where nothing is evaluated before it and it is evaluated always."""
-from ..statements import NoStatement, declared_names, declared_variable, is_typed, statement_end
+from ..statements import NoStatement, declared_variable, is_typed, statement_end
 from ..tokens import NOWHERE, Token, index_of, put_in, spellings, text_at
 from ..words import CONTROL, STEPPING, STORAGE, TYPEOF, WORD, is_name
 from .around import behind_question, in_head
+from .fresh import apart
 
 BEFORE_STATEMENT = {";", "{", "}", "else", "do"}
 NOT_FIRST = {"&&", "||", "?", ",", "for", "while", "case", "sizeof"} | STEPPING | TYPEOF
@@ -12,18 +13,17 @@ NO_VALUE = CONTROL | {"do", "{", "goto", "return"}
 def in_front(tokens, opening, close, partner, statements, work):
     """The tokens with the statement expression whose braces are given in front of its statement, or None. It has these statements."""
     start = statement_start(tokens, opening, partner)
-    value = value_of(statements, work.names)
-    if start is None or value is None:
+    if start is None or value_of(statements, work.names) is None:
         return None
     try:
         end = statement_end(tokens, start, partner)
     except NoStatement:
         return None
     before, behind = tokens[start:opening - 1], tokens[close + 2:end]
-    own = declared_names(statements, work.names)
-    if end <= close or not before or own & set(spellings(before + behind)):
+    statements = apart(statements, before + behind, set(spellings(tokens)), work.names)
+    if end <= close or not before or statements is None:
         return None
-    labels, value = value
+    labels, value = value_of(statements, work.names)
     front = [token for statement in statements[:-1] for token in statement] + labels
     inner = [tokens[opening - 1], *value, tokens[close + 1]]
     if is_typed(before[0].text, work.names) or before[0].text in STORAGE:
@@ -69,7 +69,8 @@ def is_passed(tokens, k, partner):
         return False
     before = text_at(tokens, opening - 1)
     called = is_name(before) and not before.startswith("__builtin_") and before not in TYPEOF
-    return not (tokens[k].text == ")" and (called or before in (")", "]")))
+    called = called or before == "]" or before == ")" and not ends_head(tokens, opening - 1, partner)
+    return not (tokens[k].text == ")" and called)
 
 
 def stands_in_list(tokens, k):

@@ -1,9 +1,12 @@
 """The type of a plain expression by declarations: the nearest one above it, those of the file, and those of members."""
 from ..tokens import Token, spellings, text_at
-from ..words import CLOSING, KEYWORDS, OPENING, QUALIFIERS, STORAGE, TAGGED, WORD
+from ..words import ASSIGNING, CLOSING, KEYWORDS, OPENING, QUALIFIERS, STORAGE, TAGGED, WORD
 
 BEHIND_NAME = {";", ",", "=", ")", "["}
 BEFORE_SPECIFIERS = {"{", ";", "(", ",", "}", ")"}
+PRODUCTS = {"*", "/", "%"}
+OPERATORS = PRODUCTS | ASSIGNING | set("+ - << >> < > <= >= == != & | ^ && || ? : ,".split())
+PREFIXES = {"-", "+", "~", "!"}
 
 
 def plain_type(expression, names):
@@ -33,10 +36,12 @@ def typing(tokens, i, partner, work):
 
 
 def expression_type(texts, local, names):
-    """The words, the stars, and whether it is an array, of an expression of names, calls, casts, `*`, `&`, `->`, `.`, indices and
-    `+ 0`; or None. Local gives
-    that of the name of a variable of the function."""
+    """The words, the stars, and whether it is an array, of an expression of names, calls, casts, `*`, `&`, `->`, `.`, indices, and `+`
+    behind a pointer; or None. Local gives that of the name of a variable of the function."""
     texts = without_parentheses(texts)
+    plus = first_plus(texts, names)
+    if plus:
+        return sum_type(expression_type(texts[:plus], local, names), texts[plus + 1:])
     if len(texts) == 1 and WORD.match(texts[0]) and texts[0] not in KEYWORDS:
         return local(texts[0]) or names.variables.get(texts[0])
     if texts[:1] == ["*"]:
@@ -50,14 +55,37 @@ def expression_type(texts, local, names):
         found = expression_type(texts[:-2], local, names)
         found = pointed(found) if texts[-2] == "->" else found
         return None if found is None or found[1] or found[2] else names.member(found[0], texts[-1])
-    if texts[-2:] == ["+", "0"]:
-        found = expression_type(texts[:-2], local, names)
-        return None if found is None else (found[0], found[1] + found[2], False)
     if texts[1:2] == ["("] and texts[-1] == ")" and opening_of(texts) == 1:
         return names.returned(texts[0])
     if texts[-1:] == ["]"]:
         return pointed(expression_type(texts[:opening_of(texts)], local, names))
     return None
+
+
+def first_plus(texts, names):
+    """The index of the first `+` between two operands where nothing that binds less stands in no bracket, or 0."""
+    found = depth = 0
+    for k, text in enumerate(texts):
+        if depth == 0 and text in OPERATORS and ends_operand(texts[:k], names):
+            if text not in PRODUCTS and text != "+":
+                return 0
+            found = found or k * (text == "+")
+        depth += (text in OPENING) - (text in CLOSING)
+    return found
+
+
+def ends_operand(texts, names):
+    """Whether an operator behind these spellings stands between two operands: they are no cast and no operator."""
+    if not texts or texts[-1] in OPERATORS | PREFIXES:
+        return False
+    return texts[-1] != ")" or not names.is_type(texts[opening_of(texts) + 1])
+
+
+def sum_type(found, added):
+    """The type of the sum of an operand of this type and what is added, where that is a pointer or 0; or None."""
+    if found is None or not (found[1] or found[2] or added == ["0"]):
+        return None
+    return found[0], found[1] + found[2], False
 
 
 def cast_type(texts, names):
@@ -126,9 +154,9 @@ def first_declarator(tokens, k, work):
 
 
 def later_declarator(tokens, k, partner, work):
-    """The type of the name at k where it is a pointer and stands behind another declarator of the same specifiers."""
+    """The type of the name at k where it stands behind another declarator of the same specifiers."""
     comma, stars = before_stars(tokens, k)
-    if comma <= 0 or tokens[comma].text != "," or not stars or text_at(tokens, k + 1) == "[":
+    if comma <= 0 or tokens[comma].text != ",":
         return None
     u = comma
     while u >= 0 and tokens[u].text not in (";", "{", "}", "("):
@@ -140,4 +168,4 @@ def later_declarator(tokens, k, partner, work):
     while u < comma and (work.names.is_specifier(texts, u) or texts[u] in STORAGE):
         u += 1
     words = [text for text in texts[first:u] if text not in QUALIFIERS and text not in STORAGE]
-    return (words, stars, False) if words else None
+    return (words, stars, text_at(tokens, k + 1) == "[") if words else None

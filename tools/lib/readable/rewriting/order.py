@@ -3,6 +3,7 @@ from ..tokens import spellings
 from ..words import TYPEOF
 from .conditionals import middles
 from .initials import designators
+from .kept_results import kept_results
 from .late_declarations import declarations_behind_statements, declarations_in_heads
 from .literals import literals
 from .local_labels import local_labels
@@ -17,7 +18,7 @@ from .types import plain_types
 
 ROUNDS = 6
 EVERYWHERE = [per_cpu_data, plain_types, selections, sizes, assertions, choices, case_ranges, designators, statement_expressions, middles]
-IN_FUNCTIONS = [literals, declarations_in_heads, declarations_behind_statements, local_labels, plain_loops]
+IN_FUNCTIONS = [kept_results, literals, declarations_in_heads, declarations_behind_statements, local_labels, plain_loops]
 
 
 class Work:

@@ -4,11 +4,14 @@ from ..tokens import NOWHERE, Token, partners, put_in, spellings, text_at
 from ..words import KEYWORDS, WORD
 from .around import begins_statement, ends_value
 from .hoisting import in_front
-from .reduction import reduced
+from .loops import plain_loop
+from .reduction import is_empty, reduced
 from .substitution import substituted
 from .value_branches import as_value_branches
+from .variables_in_front import variables_in_front
 
 ROUNDS = 2000
+BEFORE_VALUE = {"return", "else", "do"}
 
 
 def statement_expressions(tokens, work):
@@ -46,14 +49,16 @@ def one(tokens, opening, partner, work):
     if value is not None:
         return tokens[:opening] + value + tokens[close + 1:]
     statements = reduced(substituted(reduced(divided(body, work.names), work), work), work)
-    statements = [statement for statement in statements if spellings(statement) != [";"]]
+    statements = opened([statement for statement in statements if spellings(statement) != [";"]], work)
     value = with_commas(statements, work)
     if value is not None:
         return tokens[:opening] + value + tokens[close + 1:]
     return (as_block(tokens, opening, partner, statements, work) or as_branches(tokens, opening, partner, work)
             or as_value_branches(tokens, opening, partner, statements, work)
             or in_front(tokens, opening, close, partner, statements, work)
-            or behind_comma(tokens, opening, partner) or smaller(tokens, opening, close, statements))
+            or behind_comma(tokens, opening, partner)
+            or variables_in_front(tokens, opening, partner, statements, is_expression, work)
+            or smaller(tokens, opening, close, statements))
 
 
 def known_value(body, work):
@@ -77,6 +82,24 @@ def with_commas(statements, work):
     for before, statement in zip(statements, statements[1:]):
         result = result + [Token(",", before[-1].at)] + statement[:-1]
     return result
+
+
+def opened(statements, work):
+    """The statements, with the expressions of blocks, and of loops that run once, in place of those that hold nothing else."""
+    found = [expressions_of(statement, work) or [statement] for statement in statements]
+    return [statement for some in found for statement in some]
+
+
+def expressions_of(statement, work):
+    """The statements of a block, or of a loop that runs once, where all of them are expressions; else nothing."""
+    partner, body = partners(statement), []
+    loop = plain_loop(statement, 0, partner) if statement[0].text == "do" else None
+    if statement[0].text == "{" and partner.get(0) == len(statement) - 1:
+        body = statement[1:-1]
+    elif loop is not None and loop[1] == len(statement) - 1:
+        body = statement[2:loop[0]]
+    inner = opened([one for one in divided(body, work.names) if not is_empty(one)], work)
+    return inner if all(is_expression(one, work.names) for one in inner) else []
 
 
 def is_expression(statement, names):
@@ -134,13 +157,18 @@ def behind_comma(tokens, opening, partner):
     """`(a, ({ .. }))` as `({ a; .. })`, so that what stands before the comma doesn't keep the rest from a form that fits; or None."""
     close = partner[opening]
     first = partner.get(close + 2, NOWHERE) if text_at(tokens, close + 2) == ")" else NOWHERE
-    if first <= 0 or text_at(tokens, opening - 2) != "," or WORD.match(tokens[first - 1].text) or tokens[first - 1].text in (")", "]"):
+    if first <= 0 or text_at(tokens, opening - 2) != "," or is_called(tokens[first - 1].text):
         return None
     before = tokens[first + 1:opening - 2]
     if not before or before[0].text == "{":
         return None
     inside = [tokens[opening], *before, Token(";", tokens[opening - 2].at), *tokens[opening + 1:close + 1]]
     return tokens[:first + 1] + inside + tokens[close + 2:]
+
+
+def is_called(text):
+    """Whether the parenthesis behind a spelling may begin arguments, or an operand that isn't evaluated."""
+    return text in (")", "]") or WORD.match(text) is not None and text not in BEFORE_VALUE
 
 
 def arm_before(tokens, opening, partner):

@@ -10,12 +10,15 @@ NO_OPERAND = {")", ";", ",", "=", "]", "}"}
 
 def own_type(tokens, i, partner, work):
     """`(typeof(x) *)&x`, `(typeof(*p) *)p` and `(typeof(x))x` without the cast, also where the type is a `_Generic` of x that falls
-    back on x."""
+    back on x; and `x = (typeof(x))E`."""
     found = cast_to_typeof(tokens, i, partner)
     if found is None:
         return None
     expression, stars = found
     operand = partner[i] + 1
+    if not stars and is_assigned(tokens, i, operand, expression, partner):
+        work.count("own type")
+        return [], operand
     if stars == ["*"] and text_at(tokens, operand) == "&":
         operand += 1
     elif stars == ["*"] and text_at(expression, 0) == "*":
@@ -26,6 +29,12 @@ def own_type(tokens, i, partner, work):
         return None
     work.count("own type")
     return [], partner[i] + 1
+
+
+def is_assigned(tokens, i, operand, expression, partner):
+    """Whether the cast at i, with all that it is applied to, is assigned to the variable that is named in its type."""
+    assigned = len(expression) == 1 and spellings(tokens[i - 2:i]) == [expression[0].text, "="]
+    return assigned and text_at(tokens, behind_operand(tokens, operand, partner)) in (";", ",")
 
 
 def cast_to_typeof(tokens, i, partner):
