@@ -13,6 +13,11 @@ import unittest
 
 from program import ROOT, built
 
+sys.path.insert(0, os.path.join(ROOT, "tools", "lib"))
+
+from explain.graphs import transitions
+from explain.machine import Machine
+
 PROGRAM = os.environ["METALCHECK"] = built()
 READY = os.path.join(ROOT, "examples", "checkers")
 FREE = """sm m {
@@ -48,6 +53,21 @@ class Ready(unittest.TestCase):
         with open(os.path.join(ROOT, "docs", "CHECKERS.md"), encoding="utf-8") as file:
             told = re.findall(r"(?m)^### `([\w/]+)\.metal`", file.read())
         self.assertEqual(sorted(told), [os.path.relpath(checker, READY)[:-len(".metal")] for checker in self.checkers()])
+
+    def test_loops_that_are_not_left(self):
+        seen = 0
+        for checker in self.checkers():
+            with open(checker, encoding="utf-8") as file:
+                ways = list(transitions(Machine(file.read())))
+            states = {name for way in ways for name in (way[1], way[3])} - {"stop"}
+            # one that follows nothing has no path to end
+            for state in (one for one in states if "." not in one and len(states) > 1):
+                for constant, left in (("0", "true"), ("1", "false")):
+                    turns = {truth: target for _, source, asked, target, _ in ways for truth in ("true", "false")
+                             if source == state and asked == f"{truth}: {{ {constant} }}"}
+                    self.assertEqual(turns, {"true": state, "false": state, left: "stop"}, (checker, state))
+                seen += 1
+        self.assertGreater(seen, 30)
 
     @unittest.skipUnless(shutil.which("cc"), "there is no C compiler")
     def test_all_as_wanted(self):
