@@ -26,6 +26,7 @@ FREE = """sm m {
   v.freed: { kfree(v) } ==> v.stop, { err("%s is freed twice", mc_identifier(v)); };
 }
 """
+BINARY = os.path.realpath(sys.executable)  # a file that is no text
 TWICE = "void f(char *p)\n{\n    kfree(p);\n    kfree(p);  /* wants: p is freed twice */\n}\n"
 
 
@@ -273,6 +274,8 @@ class Judged(Box):
     def test_refusals(self):
         for text, words, said in (("wrong one m a.c:4\n", (), "judged:1: a line is `right PROGRAM CHECKER FILE:LINE REMARK`, `false ..`, or `ends PROGRAM"),
                                   ("", ("all", "none"), "none: not read: No such file or directory; an empty file will do"),
+                                  ("", ("all", "all/one"), "all/one: not read: Is a directory; an empty file will do"),
+                                  ("", ("all", BINARY), f"{BINARY}: no text; an empty file will do"),
                                   ("", ("nowhere", "judged"), "nowhere: there is no PROGRAM/preprocessed/*.i in this folder"),
                                   ("", ("--programs", "four", "all", "judged"), "all/four: there is no preprocessed/*.i in this folder"),
                                   ("", ("all", "judged", "no.metal"), "no.metal: not read"),
