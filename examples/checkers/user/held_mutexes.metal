@@ -1,11 +1,10 @@
-// A path that took a mutex has released it where it ends. Which one isn't asked: the path holds none, one, or two.
+// A mutex that the path took is forgotten by a return directly behind a test. Which one isn't asked: a path holds none, one, or two.
 sm held_mutexes {
   decl any_pointer p;
   decl any_fn_call call;
   decl any_arguments how;
   decl any_expr x, y;
 
-  // A path on which nothing is tested behind the lock is that of a function that hands it on, as queue_lock.
   start: { pthread_mutex_trylock(x) } || { pthread_mutex_timedlock(x, y) } ==> true=start, false=taken
        | { mtx_trylock(x) == thrd_success } ==> true=taken, false=start
        | { mtx_trylock(x) != thrd_success } ==> true=start, false=taken
@@ -28,6 +27,7 @@ sm held_mutexes {
        | { 0 } ==> true=stop, false=lent
        | { 1 } ==> true=lent, false=stop;
 
+  // A function that goes on to its end with the mutex hands it on, as queue_lock; one that ends where a test has come out forgets it.
   taken: { pthread_mutex_lock(x) } || { mtx_lock(x) != thrd_success } ==> true=start, false=taken
        | { mtx_lock(x) == thrd_success } ==> true=taken, false=start
        | { x = pthread_mutex_lock(y) } || { x = mtx_lock(y) } ==> lent
@@ -44,10 +44,11 @@ sm held_mutexes {
        | { exit(how) } || { _exit(how) } || { abort() } || { longjmp(how) } || { siglongjmp(how) } || { pthread_exit(how) } ==> stop
        | { 0 } ==> true=stop, false=held
        | { 1 } ==> true=held, false=stop
+       | { call(how) } || { x = y } || { x += y } || { x -= y } || { x |= y } || { x &= y } || { ++x } || { --x }
+             || { x++ } || { x-- } ==> taken
        | $end_of_path$ ==> start, { err("a mutex that was taken on this path is still held"); };
-  two:   { pthread_mutex_unlock(x) } || { mtx_unlock(x) } ==> held
+  two:   { pthread_mutex_unlock(x) } || { mtx_unlock(x) } ==> taken
        | { exit(how) } || { _exit(how) } || { abort() } || { longjmp(how) } || { siglongjmp(how) } || { pthread_exit(how) } ==> stop
        | { 0 } ==> true=stop, false=two
-       | { 1 } ==> true=two, false=stop
-       | $end_of_path$ ==> start, { err("two mutexes that were taken on this path are still held"); };
+       | { 1 } ==> true=two, false=stop;
 }

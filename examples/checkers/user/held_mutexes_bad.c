@@ -47,9 +47,9 @@ int both(struct queue *q)
     if (pthread_mutex_lock(&q->lock) != 0)
         return -1;
     if (pthread_mutex_trylock(&a) == 0) {
-        if (q->closed)
-            return -1;                  /* wants: two mutexes that were taken on this path are still held */
         pthread_mutex_unlock(&a);
+        if (q->closed)
+            return -1;                  /* wants: a mutex that was taken on this path is still held */
     }
     pthread_mutex_unlock(&q->lock);
     return 0;

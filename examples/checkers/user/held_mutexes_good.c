@@ -33,6 +33,14 @@ void queue_lock(struct queue *q)
 }
 void queue_unlock(struct queue *q) { pthread_mutex_unlock(&q->lock); }
 
+void begin(struct queue *q)
+{
+    pthread_mutex_lock(&q->lock);
+    if (q->length > 100)
+        abort();
+    q->threads++;
+}
+
 void put(struct queue *q)
 {
     queue_lock(q);
