@@ -267,6 +267,14 @@ class Judged(Box):
         words = ("--programs", "one", "all", "judged", "m.metal")
         self.assertEqual(self.judge("", *words)[1].count("?"), 1)
         self.assertEqual(self.judge("ends one give_up die\n", *words)[1].count("?"), 0)
+        self.write("m.metal", """sm m {
+  decl any_arguments how;
+  start: { kfree(how) } ==> gone | { exit(how) } ==> stop;
+  gone:  { kfree(how) } ==> start, { err("freed twice"); } | { exit(how) } ==> stop;
+}
+""")
+        self.assertEqual(self.judge("", *words)[1].count("?"), 1)
+        self.assertEqual(self.judge("ends one give_up die\n", *words)[1].count("?"), 0)
 
     def test_programs(self):
         self.assertEqual(self.judge("", "--programs", "three", "all", "judged", "m.metal")[1].count("?"), 1)

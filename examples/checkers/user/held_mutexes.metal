@@ -18,6 +18,7 @@ sm held_mutexes {
 
   // What is taken first of all where a flag is set is released where that is set, and no condition is known.
   flag:  { pthread_mutex_lock(x) } || { mtx_lock(x) } ==> lent
+       | { exit(how) } || { _exit(how) } || { abort() } || { longjmp(how) } || { siglongjmp(how) } || { pthread_exit(how) } ==> stop
        | { call(how) } || { x = y } ==> start
        | { 0 } ==> true=stop, false=flag
        | { 1 } ==> true=flag, false=stop
