@@ -1,4 +1,4 @@
-// A file that a function opened is open at its end, or closed twice.
+// A file that a function opened is open at its end, or closed twice. Run it with --depth 0.
 sm unclosed_file {
   state decl any_pointer f;
   decl any_fn_call other;
