@@ -13,6 +13,11 @@ import unittest
 
 from program import ROOT, built
 
+sys.path.insert(0, os.path.join(ROOT, "tools", "lib"))
+
+from explain.graphs import transitions
+from explain.machine import Machine
+
 PROGRAM = os.environ["METALCHECK"] = built()
 READY = os.path.join(ROOT, "examples", "checkers")
 FREE = """sm m {
@@ -21,6 +26,7 @@ FREE = """sm m {
   v.freed: { kfree(v) } ==> v.stop, { err("%s is freed twice", mc_identifier(v)); };
 }
 """
+BINARY = os.path.realpath(sys.executable)  # a file that is no text
 TWICE = "void f(char *p)\n{\n    kfree(p);\n    kfree(p);  /* wants: p is freed twice */\n}\n"
 
 
@@ -48,6 +54,21 @@ class Ready(unittest.TestCase):
         with open(os.path.join(ROOT, "docs", "CHECKERS.md"), encoding="utf-8") as file:
             told = re.findall(r"(?m)^### `([\w/]+)\.metal`", file.read())
         self.assertEqual(sorted(told), [os.path.relpath(checker, READY)[:-len(".metal")] for checker in self.checkers()])
+
+    def test_loops_that_are_not_left(self):
+        seen = 0
+        for checker in self.checkers():
+            with open(checker, encoding="utf-8") as file:
+                ways = list(transitions(Machine(file.read())))
+            states = {name for way in ways for name in (way[1], way[3])} - {"stop"}
+            # one that follows nothing has no path to end
+            for state in (one for one in states if "." not in one and len(states) > 1):
+                for constant, left in (("0", "true"), ("1", "false")):
+                    turns = {truth: target for _, source, asked, target, _ in ways for truth in ("true", "false")
+                             if source == state and asked == f"{truth}: {{ {constant} }}"}
+                    self.assertEqual(turns, {"true": state, "false": state, left: "stop"}, (checker, state))
+                seen += 1
+        self.assertGreater(seen, 30)
 
     @unittest.skipUnless(shutil.which("cc"), "there is no C compiler")
     def test_all_as_wanted(self):
@@ -255,6 +276,14 @@ class Judged(Box):
         words = ("--programs", "one", "all", "judged", "m.metal")
         self.assertEqual(self.judge("", *words)[1].count("?"), 1)
         self.assertEqual(self.judge("ends one give_up die\n", *words)[1].count("?"), 0)
+        self.write("m.metal", """sm m {
+  decl any_arguments how;
+  start: { kfree(how) } ==> gone | { exit(how) } ==> stop;
+  gone:  { kfree(how) } ==> start, { err("freed twice"); } | { exit(how) } ==> stop;
+}
+""")
+        self.assertEqual(self.judge("", *words)[1].count("?"), 1)
+        self.assertEqual(self.judge("ends one give_up die\n", *words)[1].count("?"), 0)
 
     def test_programs(self):
         self.assertEqual(self.judge("", "--programs", "three", "all", "judged", "m.metal")[1].count("?"), 1)
@@ -262,6 +291,8 @@ class Judged(Box):
     def test_refusals(self):
         for text, words, said in (("wrong one m a.c:4\n", (), "judged:1: a line is `right PROGRAM CHECKER FILE:LINE REMARK`, `false ..`, or `ends PROGRAM"),
                                   ("", ("all", "none"), "none: not read: No such file or directory; an empty file will do"),
+                                  ("", ("all", "all/one"), "all/one: not read: Is a directory; an empty file will do"),
+                                  ("", ("all", BINARY), f"{BINARY}: no text; an empty file will do"),
                                   ("", ("nowhere", "judged"), "nowhere: there is no PROGRAM/preprocessed/*.i in this folder"),
                                   ("", ("--programs", "four", "all", "judged"), "all/four: there is no preprocessed/*.i in this folder"),
                                   ("", ("all", "judged", "no.metal"), "no.metal: not read"),

@@ -58,6 +58,14 @@ class Hints(unittest.TestCase):
         self.assertIn("no rule leads to v.b, so no rule of it is ever taken; states that are led to: v.a", found[0][1])
         self.assertEqual(self.told("start: { f(v) } ==> v.a; v.a: { g(v) } ==> v.stop;"), [])
 
+    def test_states_that_lead_to_each_other_alone(self):
+        found = self.told("start: { f(v) } ==> v.a; v.b: { f(v) } ==> v.b | { g(v) } ==> v.stop;")
+        self.assertIn("no way leads from start to v.b, so no rule of it is ever taken; states that are led to: v.a", [it[1] for it in found])
+        found = self.told("start: { f(v) } ==> v.stop; v.c: { f(v) } ==> v.b; v.b: { f(v) } ==> v.c;")
+        self.assertEqual([says.split(",")[0] for _, says in found], ["no way leads from start to v.c"])
+        found = self.told("start: { f(v) } ==> v.stop; v.c: { f(v) } ==> v.stop; v.b: { f(v) } ==> v.c;")
+        self.assertEqual([says.split(",")[0] for _, says in found], ["no rule leads to v.b"])
+
     def test_unused_hole(self):
         rules = "start: { f(v) } ==> v.stop;"
         self.assertEqual(self.told(rules, declared="state decl any_pointer v; decl any_expr x;"), [("x", "the hole x stands in no rule")])

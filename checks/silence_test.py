@@ -266,6 +266,14 @@ class Check(Folder):
         self.assertIn("missing.h", done.stderr)
         self.assertIn("check: b.c isn't preprocessed (cc ended with status 1): give the options", done.stderr)
 
+    def test_what_fails_while_it_is_read(self):
+        for name, words in (("m.metal", ["m.metal", "--", "b.i"]), ("c.i", [FREE, "--", "c.i"])):
+            self.write("b.i", "int n;\n")
+            os.symlink("/proc/self/mem", os.path.join(self.folder, name))
+            done = self.check(*words)
+            self.assertEqual((done.returncode, done.stdout), (4, ""))
+            self.assertEqual(done.stderr, f"{name}: not read\n  {name} is there and can't be read: look at its rights\n")
+
     def test_without_a_compiler(self):
         done = self.check(FREE, "--", "a.c", CC="no-such-cc")
         self.assertEqual((done.returncode, done.stdout), (2, ""))

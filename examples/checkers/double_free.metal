@@ -8,18 +8,23 @@ sm double_free {
   start:    { kmalloc(how) } || { kzalloc(how) } || { kcalloc(how) } ==> got_kmem
           | { vmalloc(how) } || { vzalloc(how) } ==> got_vmem
           | { kfree(v) } || { vfree(v) } || { kvfree(v) } || { free(v) } ==> v.freed
+          | { exit(how) } || { _exit(how) } || { abort() } || { longjmp(how) } || { panic(how) } ==> stop
           | { 0 } ==> true=stop, false=start
           | { 1 } ==> true=start, false=stop;
   got_kmem: { v = x } ==> v.kmem
           | { kmalloc(how) } || { kzalloc(how) } || { kcalloc(how) } ==> got_kmem
           | { vmalloc(how) } || { vzalloc(how) } ==> got_vmem
           | { kfree(v) } || { vfree(v) } || { kvfree(v) } || { free(v) } ==> v.freed
+          | { 0 } ==> true=stop, false=got_kmem
+          | { 1 } ==> true=got_kmem, false=stop
           | { x } ==> true=start, false=start
           | { y = x } || { other(how) } ==> start;
   got_vmem: { v = x } ==> v.vmem
           | { kmalloc(how) } || { kzalloc(how) } || { kcalloc(how) } ==> got_kmem
           | { vmalloc(how) } || { vzalloc(how) } ==> got_vmem
           | { kfree(v) } || { vfree(v) } || { kvfree(v) } || { free(v) } ==> v.freed
+          | { 0 } ==> true=stop, false=got_vmem
+          | { 1 } ==> true=got_vmem, false=stop
           | { x } ==> true=start, false=start
           | { y = x } || { other(how) } ==> start;
 

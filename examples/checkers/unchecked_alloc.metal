@@ -7,10 +7,13 @@ sm unchecked_alloc {
   decl any_expr x, y;
 
   start:   { kmalloc(how) } || { kzalloc(how) } || { vmalloc(how) } || { malloc(how) } || { calloc(how) } ==> got
+         | { exit(how) } || { _exit(how) } || { abort() } || { longjmp(how) } || { panic(how) } ==> stop
          | { 0 } ==> true=stop, false=start
          | { 1 } ==> true=start, false=stop;
   got:     { v = x } ==> v.untested
          | { kmalloc(how) } || { kzalloc(how) } || { vmalloc(how) } || { malloc(how) } || { calloc(how) } ==> got
+         | { 0 } ==> true=stop, false=got
+         | { 1 } ==> true=got, false=stop
          | { x } ==> true=start, false=start
          | { y = x } || { other(how) } ==> start;
 

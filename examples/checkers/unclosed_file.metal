@@ -1,4 +1,4 @@
-// A file that a function opened is open at its end, or closed twice.
+// A file that a function opened is open at its end, or closed twice. Run it with --depth 0.
 sm unclosed_file {
   state decl any_pointer f;
   decl any_fn_call other;
@@ -6,6 +6,7 @@ sm unclosed_file {
   decl any_expr name, mode, x, y, z;
 
   start:    { f = fopen(name, mode) } && ${ mc_is_local(f) } ==> f.open
+          | { exit(how) } || { _exit(how) } || { abort() } || { longjmp(how) } ==> stop
           | { 0 } ==> true=stop, false=start
           | { 1 } ==> true=start, false=stop;
 

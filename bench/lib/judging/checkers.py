@@ -29,14 +29,14 @@ def checker(path):
 
 
 def told_of(path, functions, folder):
-    """The checker of a file, told of functions that don't come back: with them it is another file, in this folder."""
+    """The checker of a file, told of functions that don't come back, in each rule with `exit`: with them it is another file, in this folder."""
     with open(path, encoding="utf-8") as file:
         text = file.read()
     if not functions or EXIT not in text:
         return checker(path)
     os.makedirs(folder, exist_ok=True)
     copy = os.path.join(folder, os.path.basename(path))
-    kept.write(copy, text.replace(EXIT, " || ".join([EXIT, *(f"{{ {name}(how) }}" for name in functions)]), 1).encode())
+    kept.write(copy, text.replace(EXIT, " || ".join([EXIT, *(f"{{ {name}(how) }}" for name in functions)])).encode())
     return checker(copy)
 
 

@@ -10,7 +10,7 @@ sm chroot_without_chdir {
 
   inside: { chroot(x) } || { chroot(x) < 0 } || { chroot(x) == -1 } ==> true=start, false=inside
         | { chroot(x) != -1 } || { chroot(x) >= 0 } ==> true=inside, false=start
-        | { chdir(x) } || { fchdir(x) } ==> start
+        | { chdir(x) } || { fchdir(x) } || { xchdir(x) } ==> start
         | { exit(how) } || { _exit(how) } || { abort() } || { err(how) } || { errx(how) } ==> stop
         | { 0 } ==> true=stop, false=inside
         | { 1 } ==> true=inside, false=stop

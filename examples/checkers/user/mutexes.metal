@@ -1,4 +1,4 @@
-// A mutex is released on each path, neither taken nor released twice, and not destroyed while it is held.
+// A mutex is neither taken nor released twice, and isn't destroyed while it is held. That it is released: held_mutexes.metal.
 sm mutexes {
   state decl any_pointer m;
   decl any_arguments how;
@@ -18,8 +18,7 @@ sm mutexes {
         | { mtx_lock(m) != thrd_success } ==> true=m.stop, false=m.held
         | { pthread_mutex_lock(m) } || { mtx_lock(m) } ==> m.held, { err("%s is taken twice", mc_identifier(m)); }
         | { pthread_mutex_unlock(m) } || { mtx_unlock(m) } ==> m.free
-        | { pthread_mutex_destroy(m) } || { mtx_destroy(m) } ==> m.gone, { err("%s is destroyed while it is held", mc_identifier(m)); }
-        | $end_of_path$ ==> m.stop, { err("%s is still held at the end", mc_identifier(m)); };
+        | { pthread_mutex_destroy(m) } || { mtx_destroy(m) } ==> m.gone, { err("%s is destroyed while it is held", mc_identifier(m)); };
 
   m.free: { pthread_mutex_unlock(m) } || { mtx_unlock(m) } ==> m.stop, { err("%s is released twice", mc_identifier(m)); }
         | { pthread_cond_wait(x, m) } || { pthread_cond_timedwait(x, m, y) } || { cnd_wait(x, m) }

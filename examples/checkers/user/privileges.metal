@@ -10,7 +10,9 @@ sm privileges {
        | { 1 } ==> true=start, false=stop;
 
   // what the call stands in comes behind it, and only constants come between; every other name is read by another statement
-  asked: { x } ==> true=start, false=start
+  asked: { 0 } ==> true=stop, false=asked
+       | { 1 } ==> true=asked, false=stop
+       | { x } ==> true=start, false=start
        | { x == y } || { x != y } || { x < y } || { x > y } || { x <= y } || { x >= y } || { x = y } || { x | y } || { x |= y } || { x + y }
              || { (void)x } || { x ? y : z } || { !x } ==> start
        | { -x } || { x } && ${ mc_is_const(x) } ==> asked

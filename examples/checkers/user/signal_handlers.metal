@@ -17,7 +17,9 @@ sm signal_handlers {
            || ${ mc_in_function("handle_alarm") } && { x } || ${ mc_in_function("handle_chld") } && { x }
            || ${ mc_in_function("handle_term") } && { x } || ${ mc_in_function("handle_hup") } && { x }
            || ${ mc_in_function("handle_usr1") } && { x }
-              ==> inside;
+              ==> inside
+        | { 0 } ==> true=stop, false=start
+        | { 1 } ==> true=start, false=stop;
 
   inside: { call(how) } && ${ mc_name_is(call, "printf") } || { call(how) } && ${ mc_name_is(call, "fprintf") }
            || { call(how) } && ${ mc_name_is(call, "vfprintf") } || { call(how) } && ${ mc_name_is(call, "puts") }

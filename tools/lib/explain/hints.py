@@ -38,17 +38,33 @@ def dotted(name):
 
 
 def unreached(machine):
-    """States with rules to which no rule leads."""
-    led = {target.name for rule in machine.rules for target in rule.targets} | {("start",)}
-    told = set()
-    for rule in machine.rules:
-        name = rule.source.name
-        if name in led or name in told:
+    """States with rules to which no way leads from start. Of those that lead to each other one is told."""
+    steps = steps_of(machine.rules)
+    led = {target for source, targets in steps for target in targets if target != source} | {("start",)}
+    known = closure({("start",)}, steps)
+    # a state that another one leads to comes last: it is mended with that one
+    for source in sorted((rule.source for rule in machine.rules), key=lambda state: state.name in led):
+        if source.name in known:
             continue
-        told.add(name)
-        others = sorted(dotted(other) for other in led if len(other) == len(name) and other[-1] not in ("stop", "start"))
+        others = sorted(dotted(other) for other in led if len(other) == len(source.name) and other[-1] not in ("stop", "start"))
         rest = f"; states that are led to: {', '.join(others)}" if others else ""
-        yield rule.source.at, f"no rule leads to {dotted(name)}, so no rule of it is ever taken{rest}"
+        way = "no way leads from start" if any(source.name in targets for _, targets in steps) else "no rule leads"
+        yield source.at, f"{way} to {dotted(source.name)}, so no rule of it is ever taken{rest}"
+        known |= closure({source.name}, steps)
+
+
+def steps_of(rules):
+    """The states between which these rules lead: pairs of a source and its targets."""
+    return [(rule.source.name, {target.name for target in rule.targets}) for rule in rules]
+
+
+def closure(states, steps):
+    """These states and all to which the steps lead from them."""
+    found, more = set(), set(states)
+    while more - found:
+        found |= more
+        more = {target for source, targets in steps if source in found for target in targets}
+    return found
 
 
 def unleft(machine):
@@ -122,13 +138,7 @@ def lacking(machine, rule, words):
 
 def reached(machine, words):
     """The states to which rules lead that can be taken over files with these words."""
-    steps = [(rule.source.name, {target.name for target in rule.targets}) for rule in machine.rules
-             if not all(lacking(machine, rule, words))]
-    found, more = set(), {("start",)}
-    while more - found:
-        found |= more
-        more = {target for source, targets in steps if source in found for target in targets}
-    return found
+    return closure({("start",)}, steps_of(rule for rule in machine.rules if not all(lacking(machine, rule, words))))
 
 
 def nothing_begins(machine, words):

@@ -49,15 +49,19 @@ def check(words, folder):
     paths = preprocessed(words, folder)
     command = [*words.options, *words.checkers, *paths]
     run = run_program(command)
+    left, told = shown(run, words, paths) if run.returncode in ANSWERS else ([], [])
+    sys.stderr.buffer.write(named(run.stderr, words.files, paths))
+    sys.stderr.buffer.write(named(as_bytes(explanation(run, command, kept=False)), words.files, paths))
+    write(told, sys.stderr.buffer)
+    return run.returncode if run.returncode not in ANSWERS else 1 if left else 0
+
+
+def shown(run, words, paths):
+    """Writes the reports of an answer that no comment silences; gives them, and the last lines: comments without an effect, and the count."""
     silencer = Silencer(checker_names(words.checkers), [one for path in paths for one in commented_files(path)])
     left = [line for line in run.stdout.splitlines(keepends=True) if silencer.keeps(plain(line))]
     show_reports(left, paths)
-    sys.stderr.buffer.write(named(run.stderr, words.files, paths))
-    sys.stderr.buffer.write(named(as_bytes(explanation(run, command, kept=False)), words.files, paths))
-    if run.returncode not in ANSWERS:
-        return run.returncode
-    write([*silencer.told(), f"check: {len(left)} reports{silencer.counted()}"], sys.stderr.buffer)
-    return 1 if left else 0
+    return left, [*silencer.told(), f"check: {len(left)} reports{silencer.counted()}"]
 
 
 def named(said, files, paths):
