@@ -235,6 +235,17 @@ class Broken(Folder):
             self.assertEqual(done.returncode, 2)
             self.assertIn("out: File exists; name another folder", done.stderr)
 
+    def test_lists_that_are_not_read(self):
+        ways = {"x.json": "not read: No such file or directory; bear", "bad.json": "Expecting value", "odd.json": "it is no list of compile commands; bear"}
+        program = self.write("program", "#!/bin/sh\n")
+        os.chmod(program, 0o755)
+        self.write("bad.json", "no list")
+        self.write("odd.json", "{}")
+        for name, why in ways.items():
+            done = subprocess.run([sys.executable, TOOL, FREE, self.path(name)], env={**os.environ, "METALCHECK": program}, capture_output=True, text=True)
+            self.assertEqual((done.returncode, done.stdout), (2, ""))
+            self.assertTrue(done.stderr.startswith(f"check_commands: {self.path(name)}: {why}"), done.stderr)
+
     def test_program_that_fails(self):
         path = self.write("broken", "#!/bin/sh\necho no memory >&2\nexit 6\n")
         os.chmod(path, 0o755)
@@ -255,6 +266,14 @@ class Readable(Project):
         done = self.check(["macro.c", "plain.c"], "--readable")
         self.assertEqual((done.returncode, done.stdout), (1, FREED + HEADER))
         self.assertTrue(done.stderr.endswith("check_commands: 2 files checked, 0 not, 2 reports\n"))
+
+    def test_output_that_nobody_takes(self):
+        self.list_files(["plain.c"])
+        line = f"METALCHECK='{built()}' '{TOOL}' '{FREE}' commands.json > /dev/full; echo $?"
+        done = subprocess.run(["sh", "-c", line], capture_output=True, text=True, cwd=self.folder)
+        self.assertEqual(done.stdout, "5\n")
+        self.assertTrue(done.stderr.endswith("check_commands: not all could be written: No space left on device\n"), done.stderr)
+        self.assertNotIn("Traceback", done.stderr)
 
     def test_unread_function(self):
         done = self.check(["jump.c"], "--readable")

@@ -4,6 +4,7 @@ import glob
 import os
 import re
 import shutil
+import stat
 import subprocess
 import sys
 import tempfile
@@ -266,6 +267,14 @@ class Files(Folder):
                       ["--fast", "a.i", "-o", "b"]):
             self.assertEqual(self.run_tool(*words).returncode, 2, words)
         self.assertEqual(self.read("a.i"), "int x;\n")
+
+    def test_place_that_is_no_file(self):
+        """What isn't a file stays what it is."""
+        self.write("a.i", "int x;\n")
+        os.mkfifo(os.path.join(self.folder, "pipe"))
+        done = self.run_tool("a.i", "-o", "pipe")
+        self.assertEqual((done.returncode, done.stderr), (2, "readable: pipe is no file, and a text would take its place; name another one behind -o\n"))
+        self.assertTrue(stat.S_ISFIFO(os.stat(os.path.join(self.folder, "pipe")).st_mode))
 
     def test_no_program(self):
         self.write("a.i", "int x;\n")

@@ -41,7 +41,8 @@ def listed(path):
             raise ValueError("it is no list of compile commands")
         return found
     except (OSError, ValueError) as fault:
-        print(f"check_commands: {path}: {fault}", file=sys.stderr)
+        why = f"not read: {fault.strerror}" if isinstance(fault, OSError) else fault
+        print(f"check_commands: {path}: {why}; bear, cmake, meson and ninja write one (docs/CI.md)", file=sys.stderr)
         raise SystemExit(2)
 
 

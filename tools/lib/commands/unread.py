@@ -51,7 +51,8 @@ def known_functions(path):
         with open(path, encoding="utf-8") as file:
             lines = file.read().splitlines()
     except (OSError, ValueError) as fault:
-        print(f"check_commands: {path}: {fault}", file=sys.stderr)
+        why = f"not read: {fault.strerror}" if isinstance(fault, OSError) else "no text"
+        print(f"check_commands: {path}: {why}; an empty file will do to begin with", file=sys.stderr)
         raise SystemExit(2)
     known = set()
     for number, line in enumerate(lines, 1):

@@ -46,6 +46,9 @@ def clash(files, places, out):
         return f"{out} is no folder, and {len(files)} files go there"
     inputs = {os.path.realpath(file) for file in files}
     over = next((place for place in places if os.path.realpath(place) in inputs), None)
+    odd = next((place for place in places if os.path.exists(place) and not os.path.isfile(place)), None)
+    if odd:
+        return f"{odd} is no file, and a text would take its place; name another one behind -o"
     return f"{over} is one of the files that are read; name another place behind -o" if over else None
 
 
