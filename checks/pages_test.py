@@ -13,6 +13,7 @@ import tempfile
 import unittest
 
 from program import ROOT, built
+from public_calls import can_refuse, may_change, public_calls, rooms
 from textmate import Grammar
 
 PROGRAM = built()
@@ -298,6 +299,38 @@ class Links(unittest.TestCase):
                 lost += [] if os.path.exists(os.path.join(ROOT, path)) else [path]
         self.assertEqual(lost, [])
         self.assertGreater(found, 80)
+
+
+class Refusals(unittest.TestCase):
+    """docs/REFUSALS.md, against the public calls of the rooms."""
+
+    @classmethod
+    def setUpClass(cls):
+        cls.calls = {(call.room, call.name): call for room in rooms() for call in public_calls(room) if can_refuse(call)}
+
+    def changing(self):
+        """The rows of the calls that may change what they are handed, with the room and the call in each."""
+        room = name = ""
+        for row in rows(section(page("docs/REFUSALS.md"), "## Calls that may change what they are handed"))[1:]:
+            room, name = row[0].strip("`") or room, row[1].strip("`") or name
+            yield room, name, re.findall(r"`(\w+)`", row[4])
+
+    def others(self):
+        """All other calls, each with its room and the clauses behind it."""
+        for room, *cells in rows(section(page("docs/REFUSALS.md"), "## All other calls"))[1:]:
+            for name, clauses in re.findall(r"`([\w:]+)`(?: \(((?:`\w+`(?:, )?)+)\))?", ", ".join(cells)):
+                yield room.strip("`"), name, re.findall(r"\w+", clauses)
+
+    def test_calls(self):
+        self.assertGreater(len(self.calls), 150)
+        for found, is_changing in ((self.changing(), True), (self.others(), False)):
+            wanted = {key for key, call in self.calls.items() if may_change(call) == is_changing}
+            self.assertEqual({(room, name) for room, name, _ in found}, wanted)
+
+    def test_clauses(self):
+        lost = [(room, name, clause) for found in (self.changing(), self.others()) for room, name, clauses in found
+                for clause in clauses if clause not in self.calls[room, name].clauses]
+        self.assertEqual(lost, [])
 
 
 if __name__ == "__main__":
