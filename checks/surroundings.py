@@ -183,14 +183,14 @@ def words_that_are_no_text(room):
 
 
 def many_names(room):
-    """Thousands of names of types are hidden in a block, and are in force again behind it."""
-    names = [b"t%d" % at for at in range(2000)]
+    """A thousand names of types are hidden in a block, and are in force again behind it."""
+    names = [b"t%d" % at for at in range(1000)]
     types = b"".join(b"typedef int %s;\n" % it for it in names)
     hidden = b"void f(void){ {\n" + b"".join(b"int %s;\n" % it for it in names) + b"".join(b"%s = 1;\n" % it for it in names) + b"}\n"
     room.put("a.c", types + hidden + b"".join(b"{ %s x; }\n" % it for it in names) + b"}\n")
     wrong = differs(room.over("a.c"), Run(0, b"", b""))
-    room.put("a.c", types + hidden + b"t1998 = 1; }\n")
-    return wrong + differs(room.over("a.c"), Run(3, b"", b"a.c:2001: refused: Syntax\n"))
+    room.put("a.c", types + hidden + b"t998 = 1; }\n")
+    return wrong + differs(room.over("a.c"), Run(3, b"", b"a.c:1001: refused: Syntax\n"))
 
 
 def file_without_end(room):
