@@ -363,6 +363,17 @@ class Times(InWorkspace):
         self.assertEqual(len(seconds), 1)
         self.assertGreater(seconds[0], 0.5)
 
+    def test_stopped(self):
+        """A signal ends the command too, and what was taken until then is written."""
+        script(f"{self.room}/lasting", "import time; print('begun', flush=True); time.sleep(60)")
+        watching = subprocess.Popen([os.path.join(ROOT, "checks", "times"), "--watch", "gate.log", "./lasting"], cwd=self.room, stdout=subprocess.PIPE, text=True)
+        with watching:
+            self.assertEqual(watching.stdout.readline(), "begun\n")
+            watching.send_signal(signal.SIGTERM)
+            self.assertNotEqual(watching.wait(timeout=30), 0)
+        with open(f"{self.room}/gate.log", encoding="utf-8") as file:
+            self.assertRegex(file.read(), r"\nbegun\ntimes: all [0-9.]+ s, by the clock [0-9.]+ s, [0-9]+ processors\n\Z")
+
     def test_page_of_the_repository(self):
         with open(os.path.join(ROOT, "docs", "TIMES.md"), encoding="utf-8") as file:
             text = file.read()

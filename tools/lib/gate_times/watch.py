@@ -1,6 +1,7 @@
 """Runs a command and measures what the prover takes for each crate and kind. `rt ci` prints no times, so the processes are looked at."""
 import os
 import resource
+import signal
 import subprocess
 import threading
 import time
@@ -87,11 +88,14 @@ def tell(watch, begun, taken):
 
 
 def run(words, log):
-    """Runs the command; its lines go to standard output and the log, and the times behind them to the log. Returns its status."""
+    """Runs the command; its lines go to standard output and the log, and the times behind them to the log. Returns its status. A signal that
+    ends it ends the command, and the times until then are written."""
     begun, usage = time.time(), resource.getrusage(resource.RUSAGE_CHILDREN)
     log.write(f"times: begun {time.strftime('%Y-%m-%d %H:%M UTC', time.gmtime())}: {' '.join(words)}\n")
     ran = subprocess.Popen(words, stdin=subprocess.DEVNULL, stdout=subprocess.PIPE, stderr=subprocess.STDOUT, text=True, errors="replace")
     watch, ended = Watch(ran.pid), threading.Event()
+    for number in (signal.SIGTERM, signal.SIGHUP):
+        signal.signal(number, lambda number, _: ran.send_signal(number))
 
     def look_on():
         while not ended.wait(EACH):
