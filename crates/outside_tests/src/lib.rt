@@ -1,17 +1,9 @@
-//! Tests of the rooms round the program that stand on little: names, files and sinks, styles of reports, words, and trees.
+//! Tests of the rooms round the program that stand on little: trees, words, and styles of reports.
 #![tactic(auto)]
 
 // what is expected
 #[cfg(test)]
 mod expected;
-
-// names, files and sinks
-#[cfg(test)]
-mod files;
-#[cfg(test)]
-mod names;
-#[cfg(test)]
-mod sinks;
 
 // trees that are compared, copied and spelled
 #[cfg(test)]
