@@ -9,13 +9,13 @@ import tempfile
 import unittest
 
 from program import ROOT, built
+from scripts import cases
 
 PROGRAM = os.environ["METALCHECK"] = built()
 sys.path.insert(0, os.path.join(ROOT, "tools", "lib"))
 
 from explain import command, ways
 from explain.machine import Machine
-from cases_runner import cases
 from refusals import FORMS, WRONG_CHECKERS, WRONG_FILES
 
 HAS_COMPILER = shutil.which("cc")

@@ -8,11 +8,11 @@ import tempfile
 import unittest
 
 from program import ROOT, built
+from scripts import cases
 
 os.environ["METALCHECK"] = built()
 sys.path.insert(0, os.path.join(ROOT, "tools", "lib"))
 
-from cases_runner import cases
 from commands.entries import FLAGS
 from explain import command
 from explain.hints import hints_of

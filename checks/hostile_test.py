@@ -1,7 +1,5 @@
 """The tests of checks/fuzz, checks/strange, checks/refused_memory and bench/stack. checks/tools runs them. The program's part is played
 by small shell scripts that answer wrongly in one way each."""
-import importlib.machinery
-import importlib.util
 import os
 import random
 import shutil
@@ -13,6 +11,7 @@ import unittest
 from hostile import Run, USAGE, fault_of
 from mutants import CHANGES, TOKEN, corpus, run_of
 from program import ROOT
+from scripts import as_module
 
 CLEAN = "exit 0"
 # asks twice for memory, and then writes a report
@@ -32,14 +31,6 @@ int main(void) {
 }
 """
 REPORTS = "echo 'a.c:1:28: free_checker: using p after free!'; exit 1"
-
-
-def module_of(path):
-    """A script of this repository, as a module."""
-    loader = importlib.machinery.SourceFileLoader(os.path.basename(path), os.path.join(ROOT, path))
-    module = importlib.util.module_from_spec(importlib.util.spec_from_loader(loader.name, loader))
-    loader.exec_module(module)
-    return module
 
 
 class WithProgram(unittest.TestCase):
@@ -170,7 +161,7 @@ class RefusedMemory(WithProgram):
         self.assertIn("memory 2 refused: it came to (7, b'', b'')", lines[1])
 
     def test_finds_what_is_wrong(self):
-        check = module_of("checks/refused_memory")
+        check = as_module("checks/refused_memory")
         case = check.Case("first/use_after_free", self.room, "", "")
         own = case.own
         self.assertEqual((own.status, case.words), (1, ["free.metal", "a.c"]))
@@ -193,7 +184,7 @@ class Stack(WithProgram):
         self.assertEqual(self.call(need, "bench/stack", "--most", "175", "unary operators")[0], 1)
 
     def test_kinds_are_texts(self):
-        stack = module_of("bench/stack")
+        stack = as_module("bench/stack")
         self.assertTrue(stack.text_of("blocks", 3).endswith("void f(void){ { { { ; } } } }\n"))
         self.assertTrue(stack.text_of("labels", 2).endswith("l0: l1: ; }\n"))
         self.assertTrue(stack.text_of("type names", 2).endswith("(int (*(*)(void))(void))0; }\n"))

@@ -1,13 +1,12 @@
 """Texts that nobody would write: those of cases/ and examples/, changed token by token as a seed has it."""
 import collections
 import glob
-import importlib.machinery
-import importlib.util
 import os
 import random
 import re
 
 from program import ROOT
+from scripts import cases
 
 MOST_BYTES = 20_000  # of a text that is changed
 MOST_MADE = 200_000  # of one that comes out
@@ -29,24 +28,16 @@ WORDS = [[], [], [], ["--depth", "0"], ["--depth=8"], ["--format", "table"], ["-
 ODD_WORDS = [["--depth", "9"], ["--stats"], ["--format", "xml"], ["-"], ["none.c"], ["."], ["--generate", "3"], ["--", "--"]]
 
 
-def cases_module():
-    """checks/cases as a module."""
-    loader = importlib.machinery.SourceFileLoader("cases", os.path.join(ROOT, "checks", "cases"))
-    module = importlib.util.module_from_spec(importlib.util.spec_from_loader("cases", loader))
-    loader.exec_module(module)
-    return module
-
-
 def texts_of_cases():
     """The case, the name and the bytes of the files of all cases, those of rows too."""
-    cases = cases_module()
-    for case in (it for it in cases.all_cases() if not it.startswith(LARGE)):
-        for title, text in cases.sections(os.path.join(cases.CASES, case + ".case")):
+    runner = cases()
+    for case in (it for it in runner.all_cases() if not it.startswith(LARGE)):
+        for title, text in runner.sections(os.path.join(runner.CASES, case + ".case")):
             kind, *name = title.split()
             if kind == "file":
-                yield case, name[0], cases.contents(name[1:], text)
+                yield case, name[0], runner.contents(name[1:], text)
             elif kind == "rows":
-                yield from ((case, name[0], cases.spelled(line.partition(": ")[2])) for line in text.splitlines())
+                yield from ((case, name[0], runner.spelled(line.partition(": ")[2])) for line in text.splitlines())
 
 
 def texts_of_examples():
