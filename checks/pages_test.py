@@ -251,10 +251,9 @@ class Promises(unittest.TestCase):
         source = page("crates/metalcheck/src/styles.rt")
         clauses = re.findall(r"(?m)^    ensures (\w+) \{", source[source.index("fn run_in_styles"):])
         told = section(page("README.md"), "## What is promised")
-        found = table(told, "The promise")
-        rest = re.search(r"`--generate`.*", told)[0]
-        self.assertEqual(len(found), 10)
-        self.assertEqual({name for text in [rest, *(row[1] for row in found)] for name in re.findall(r"`(\w+)`", text)}, set(clauses))
+        promises = re.findall(r"(?ms)^- (.*?)(?=^- |^$)", told)
+        self.assertEqual(len(promises), 4)
+        self.assertEqual({name for text in promises for name in re.findall(r"`(\w+)`", text)}, set(clauses))
 
 
 class Links(unittest.TestCase):
