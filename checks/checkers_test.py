@@ -254,6 +254,20 @@ class Judged(Box):
         self.assertEqual(self.judge("", *words)[1].count("?"), 1)
         self.assertEqual(self.judge("", "--prune", *words)[1].count("?"), 0)
 
+    def test_unended(self):
+        """A checker that doesn't end on a file in its time is told, and the others are run without it."""
+        self.write("slow.metal", FREE.replace("sm m", "sm slow"))
+        self.write("program", f'#!/bin/bash\ncase "$*" in *slow.metal*) exec sleep 60; esac\nexec {os.environ["METALCHECK"]} "$@"\n')
+        os.chmod(os.path.join(self.box.name, "program"), 0o755)
+        os.environ["METALCHECK"], before = os.path.join(self.box.name, "program"), os.environ["METALCHECK"]
+        try:
+            words = ("--seconds", "2", "--programs", "one", "all", "judged", "slow.metal", "m.metal")
+            status, out, errs = self.judge("right one m a.c:4\nright one m a.c:9\n", *words)
+        finally:
+            os.environ["METALCHECK"] = before
+        self.assertEqual((status, out), (1, self.HEAD + "| `m` | one | 2 | 2 | 0 | 0 |  |\n"), errs)
+        self.assertIn("all/one/preprocessed/a.i: slow doesn't end in 2 seconds\n", errs)
+
     def test_what_is_kept(self):
         self.assertEqual(self.judge("")[1].count("?"), 3)
         for name in ("one/a.json", "three/a.i"):

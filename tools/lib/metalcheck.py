@@ -23,10 +23,15 @@ def start(words, program, **environment):
         raise NoProgram(f"{program}: {fault.strerror}; METALCHECK names the program") from fault
 
 
-def run_proved(words, program=PROGRAM):
-    """One of many runs, which want the proved program or none: an unproved answer is compiled anew for each."""
+def run_proved(words, program=PROGRAM, seconds=None):
+    """One of many runs, which want the proved program or none: an unproved answer is compiled anew for each. One that doesn't end in so
+    many seconds is stopped, and subprocess.TimeoutExpired is raised."""
     with start(words, program, METALCHECK_UNPROVED="no") as child:
-        out, errors = child.communicate()
+        try:
+            out, errors = child.communicate(timeout=seconds)
+        except subprocess.TimeoutExpired:
+            child.kill()
+            raise
     return subprocess.CompletedProcess(child.args, child.returncode, out, errors)
 
 
