@@ -1,4 +1,5 @@
-// A handler of a signal calls a function that isn't safe there. Handlers are the functions that the first rule names: write yours there.
+// A handler of a signal calls a function that isn't safe there. Handlers are the functions that the first two rules name: write yours
+// there. What the second one names isn't followed where it is called, so a handler that the program calls too is looked at by itself.
 sm signal_handlers {
   decl any_fn_call call;
   decl any_arguments how;
@@ -18,6 +19,12 @@ sm signal_handlers {
            || ${ mc_in_function("handle_term") } && { x } || ${ mc_in_function("handle_hup") } && { x }
            || ${ mc_in_function("handle_usr1") } && { x }
               ==> inside
+        | { handler(how) } || { sig_handler(how) } || { sighandler(how) } || { signal_handler(how) } || { handle_signal(how) }
+           || { on_signal(how) } || { onsig(how) } || { onintr(how) } || { catch_signal(how) } || { sigint_handler(how) }
+           || { sigterm_handler(how) } || { sighup_handler(how) } || { sigchld_handler(how) } || { sigalrm_handler(how) }
+           || { sigsegv_handler(how) } || { alarm_handler(how) } || { handle_sigint(how) } || { handle_sigterm(how) }
+           || { handle_sighup(how) } || { handle_sigchld(how) } || { handle_alarm(how) } || { handle_chld(how) }
+           || { handle_term(how) } || { handle_hup(how) } || { handle_usr1(how) } ==> start
         | { 0 } ==> true=stop, false=start
         | { 1 } ==> true=start, false=stop;
 
