@@ -48,16 +48,16 @@ pub no-parse : (nonterminal : Nonterminal) (names : Names) (ts : List Symbol) �
 no-parse nonterminal names ts reads h = none nonterminal names ts reads (whole-none nonterminal names ts h)
 
 pub kept-parsed : (nonterminal : Nonterminal) (names : Names) (ts : List Symbol) (r : Read) (result : Result (Bor Tree) ExprFault) → ParsesAreRead
-    → read 1000 nonterminal names ts ≡ Some (view r.tree, symbols_of r.rest.now) → IfOk result (λ tree. (tree.now ≡ r.tree) × (length r.rest.now ≡ 0))
+    → read 1000 nonterminal names ts ≡ Some (view r.tree.now, symbols_of r.rest.now) → IfOk result (λ tree. (tree.now ≡ r.tree.now) × (length r.rest.now ≡ 0))
     → IfOk result (λ tree. IsTheParse nonterminal names (view tree.now) ts)
-kept-parsed nonterminal names ts r (Ok tree) reads h k = subst (λ t. IsTheParse nonterminal names (view t) ts) (sym k.0) (the-parse nonterminal names ts (view r.tree) r.rest.now reads k.1 h)
+kept-parsed nonterminal names ts r (Ok tree) reads h k = subst (λ t. IsTheParse nonterminal names (view t) ts) (sym k.0) (the-parse nonterminal names ts (view r.tree.now) r.rest.now reads k.1 h)
 kept-parsed nonterminal names ts r (Err e) reads h k = tt
 
 pub left-refused : (nonterminal : Nonterminal) (names : Names) (ts : List Symbol) (r : Read) (result : Result (Bor Tree) ExprFault) → ParsesAreRead
-    → read 1000 nonterminal names ts ≡ Some (view r.tree, symbols_of r.rest.now) → IfErr result (λ fault. fault ≡ NoTree → 0 < length r.rest.now)
+    → read 1000 nonterminal names ts ≡ Some (view r.tree.now, symbols_of r.rest.now) → IfErr result (λ fault. fault ≡ NoTree → 0 < length r.rest.now)
     → IfErr result (λ fault. fault ≡ NoTree → HasNoParse nonterminal names ts)
 left-refused nonterminal names ts r (Ok tree) reads h k = tt
-left-refused nonterminal names ts r (Err e) reads h k = λ n. no-parse-before nonterminal names ts (view r.tree) r.rest.now reads (k n) h
+left-refused nonterminal names ts r (Err e) reads h k = λ n. no-parse-before nonterminal names ts (view r.tree.now) r.rest.now reads (k n) h
 
 pub fault-refused : (nonterminal : Nonterminal) (names : Names) (ts : List Symbol) (fault : ExprFault) (result : Result (Bor Tree) ExprFault) → ParsesAreRead
     → (fault ≡ NoTree → read 1000 nonterminal names ts ≡ None) → IsErrAnd result (λ e. e ≡ fault) → IfErr result (λ fault. fault ≡ NoTree → HasNoParse nonterminal names ts)
@@ -68,7 +68,7 @@ empty : (ts : List Token) → length ts ≡ 0 → ts ≡ []
 empty [] h = refl
 empty (t ∷ ts) h = absurd (omega (arith, h))
 
-pub kept-stands : (low high : ℕ) (ts : List Token) (r : Read) (result : Result (Bor Tree) ExprFault) → StandsOver (node_of r.tree) low high ts r.rest.now
-    → IfOk result (λ tree. (tree.now ≡ r.tree) × (length r.rest.now ≡ 0)) → IfOk result (λ tree. StandsOver (node_of tree.now) low high ts [])
-kept-stands low high ts r (Ok tree) s k = subst (λ t. StandsOver (node_of t) low high ts []) (sym k.0) (subst (λ us. StandsOver (node_of r.tree) low high ts us) (empty r.rest.now k.1) s)
+pub kept-stands : (low high : ℕ) (ts : List Token) (r : Read) (result : Result (Bor Tree) ExprFault) → StandsOver (node_of r.tree.now) low high ts r.rest.now
+    → IfOk result (λ tree. (tree.now ≡ r.tree.now) × (length r.rest.now ≡ 0)) → IfOk result (λ tree. StandsOver (node_of tree.now) low high ts [])
+kept-stands low high ts r (Ok tree) s k = subst (λ t. StandsOver (node_of t) low high ts []) (sym k.0) (subst (λ us. StandsOver (node_of r.tree.now) low high ts us) (empty r.rest.now k.1) s)
 kept-stands low high ts r (Err e) s k = tt

@@ -59,19 +59,15 @@ whole : (n : Node) (first : Place) (shape : Shape) (low middle high : ℕ) (ts r
 whole n first shape low middle high ts rest a s e h = rw (e, h) (OfBoth (OfBoth a s) OfNumber)
 
 pub made_part : (r : Read) (first : Place) (shape : Shape) (low old new : ℕ) (ts rest : List Token)
-    → IsMade r old new first shape rest → Stands (at first) low low ts ts → Stands (shape_line shape) low old ts rest → StandsOver (node_of r.tree) low new ts r.rest.now
+    → IsMade r old new first shape rest → Stands (at first) low low ts ts → Stands (shape_line shape) low old ts rest → StandsOver (node_of r.tree.now) low new ts r.rest.now
 made_part r first shape low old new ts rest m a s =
-    let h = whole (node_of r.tree) first shape low old new ts rest a s m.0 m.1 in
-    subst (λ us. StandsOver (node_of r.tree) low new ts us) (sym m.2) h
+    let h = whole (node_of r.tree.now) first shape low old new ts rest a s m.0 m.1 in
+    subst (λ us. StandsOver (node_of r.tree.now) low new ts us) (sym m.2) h
 
 pub made : (r : Result Read ExprFault) (first : Place) (shape : Shape) (low old new : ℕ) (ts rest : List Token)
     → Makes r old new first shape rest → Stands (at first) low low ts ts → Stands (shape_line shape) low old ts rest → Over r low new ts
 made (Ok r) first shape low old new ts rest m a s = made_part r first shape low old new ts rest m a s
 made (Err e) first shape low old new ts rest m a s = tt
-
--- a tree that is kept in the arena stands where it was read
-pub in_arena : (tree copy : Tree) (low high : ℕ) (ts rest : List Token) → copy ≡ tree → StandsOver (node_of tree) low high ts rest → StandsOver (node_of copy) low high ts rest
-in_arena tree copy low high ts rest e s = subst (λ t. StandsOver (node_of t) low high ts rest) (sym e) s
 
 -- the token in front, and those behind it
 pub front-passes : (s : Symbol) (ts : List Token) (d : Token) → 0 < length ts → symbol_of (get_or ts 0 d) ≡ s → Passes s ts (take (length ts - 1) (drop 1 ts))

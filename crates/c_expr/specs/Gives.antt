@@ -14,7 +14,7 @@ use Rattle.c_expr.specs.declared.nodes.ReadList.{ReadList}
 
 -- a tree and what follows it, or no tree; where memory runs out, nothing is said
 abbrev pub Gives : Result Read ExprFault → Option Found → Type 0
-Gives (Ok r) found = (found ≡ Some (view r.tree, symbols_of r.rest.now)) × (r.height ≡ height_of (view r.tree))
+Gives (Ok r) found = (found ≡ Some (view r.tree.now, symbols_of r.rest.now)) × (r.height ≡ height_of (view r.tree.now))
 Gives (Err e) found = e ≡ NoTree → found ≡ None
 
 abbrev pub GivesList : Result ReadList ExprFault → Option (Syntaxes × List Symbol) → Type 0

@@ -16,7 +16,7 @@ use Rattle.c_expr.specs.declared.params.ReadParams.{ReadParams}
 
 -- What was read stands over these tokens up to its rest; its numbers are at least `low` and below `high`.
 abbrev pub Over : Result Read ExprFault → ℕ → ℕ → List Token → Type 0
-Over (Ok r) low high ts = StandsOver (node_of r.tree) low high ts r.rest.now
+Over (Ok r) low high ts = StandsOver (node_of r.tree.now) low high ts r.rest.now
 Over (Err e) low high ts = Unit {0}
 
 -- The same of a tree that begins with this one, which stands up to `rest`.
@@ -44,7 +44,7 @@ OverParams (Err e) low high ts = Unit {0}
 
 -- A node of this shape, with the next number, was made in front of `rest`.
 abbrev pub IsMade : Read → ℕ → ℕ → Place → Shape → List Token → Type 0
-IsMade r old new first shape rest = (node_of r.tree ≡ node old first shape) × (new ≡ old + 1) × (r.rest.now ≡ rest)
+IsMade r old new first shape rest = (node_of r.tree.now ≡ node old first shape) × (new ≡ old + 1) × (r.rest.now ≡ rest)
 
 abbrev pub Makes : Result Read ExprFault → ℕ → ℕ → Place → Shape → List Token → Type 0
 Makes (Ok r) old new first shape rest = IsMade r old new first shape rest

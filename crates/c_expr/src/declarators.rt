@@ -22,7 +22,7 @@ ghost use Rattle.c_expr.specs.Forms.{form_of};
 
 use crate::expressions::expression_in_front;
 use crate::fault::ExprFault;
-use crate::nodes::{Read, ReadList, keep, list_of, node, part};
+use crate::nodes::{Read, ReadList, list_of, node, part};
 use crate::operators::ASSIGNMENT_LEVEL;
 use crate::params::read_param_list;
 use crate::specifier_words::begins_specifiers;
@@ -172,7 +172,7 @@ fn read_bound<'a>(
 {
     if let Some(rest) = after_sign(Punctuator::CloseBracket, tokens) {
         let kind = Kind::Part(Part::ArrayBound { words, bound: None });
-        return Ok(part(kind, first, 0, rest, next));
+        return part(arena, kind, first, 0, rest, next);
     }
     let bound = expression_in_front(arena, ASSIGNMENT_LEVEL, tokens, names, room - 1, next)?;
     let Some(rest) = after_sign(Punctuator::CloseBracket, bound.rest) else {
@@ -180,9 +180,9 @@ fn read_bound<'a>(
     };
     let kind = Kind::Part(Part::ArrayBound {
         words,
-        bound: Some(keep(arena, bound.tree)?),
+        bound: Some(bound.tree),
     });
-    Ok(part(kind, first, bound.height, rest, next))
+    part(arena, kind, first, bound.height, rest, next)
 }
 
 /// A bound in brackets (6.5.4.2) or parameters in parentheses (6.5.4.3).
@@ -240,7 +240,7 @@ fn read_suffixes<'a>(
         fuel -= 1;
         let suffix = read_suffix(arena, rest, names, room, next)?;
         highest = suffix.height.max(highest);
-        all.push(suffix.tree)?;
+        all.push(*suffix.tree)?;
         rest = suffix.rest;
     }
     Ok(ReadList {
@@ -275,7 +275,15 @@ fn read_named<'a>(
         name,
         suffixes: suffixes.trees,
     });
-    node(kind, first, suffixes.height, suffixes.rest, room, next)
+    node(
+        arena,
+        kind,
+        first,
+        suffixes.height,
+        suffixes.rest,
+        room,
+        next,
+    )
 }
 
 /// A declarator in parentheses, with the suffixes behind it.
@@ -288,20 +296,20 @@ fn nested_of<'a>(
     room: u32,
     next: &mut u32,
 ) -> Result<Read<'a>, ExprFault>
-    requires inner { inner.height ≡ height_of (view inner.tree) }
+    requires inner { inner.height ≡ height_of (view inner.tree.now) }
     requires suffixes { suffixes.height ≡ height_in (list_view suffixes.trees) }
     requires ids { next.old + 1 < 2 ^ 32 }
-    ensures found { Gives result (made room (kinds.Declarator (kinds.Nested (symbols_of pointers.now) (view inner.entry.tree) (list_view suffixes.entry.trees))) (symbols_of suffixes.entry.rest.now)) }
-    ensures node { Makes result next.old next.new first (nodes.Declarator (nodes.Nested pointers.now (node_of inner.entry.tree) (nodes_of suffixes.entry.trees))) suffixes.entry.rest.now }
+    ensures found { Gives result (made room (kinds.Declarator (kinds.Nested (symbols_of pointers.now) (view inner.entry.tree.now) (list_view suffixes.entry.trees))) (symbols_of suffixes.entry.rest.now)) }
+    ensures node { Makes result next.old next.new first (nodes.Declarator (nodes.Nested pointers.now (node_of inner.entry.tree.now) (nodes_of suffixes.entry.trees))) suffixes.entry.rest.now }
     ensures ids { (next.old ≤ next.new) × (next.new ≤ next.old + 1) × (left result ≤ length suffixes.entry.rest.now) }
 {
     let highest = inner.height.max(suffixes.height);
     let kind = Kind::Declarator(Declarator::Nested {
         pointers,
-        inner: keep(arena, inner.tree)?,
+        inner: inner.tree,
         suffixes: suffixes.trees,
     });
-    node(kind, first, highest, suffixes.rest, room, next)
+    node(arena, kind, first, highest, suffixes.rest, room, next)
 }
 
 /// What follows the pointers and the parenthesis of a declarator.
@@ -361,7 +369,15 @@ fn read_unnamed<'a>(
         pointers,
         suffixes: suffixes.trees,
     });
-    node(kind, first, suffixes.height, suffixes.rest, room, next)
+    node(
+        arena,
+        kind,
+        first,
+        suffixes.height,
+        suffixes.rest,
+        room,
+        next,
+    )
 }
 
 /// What follows the pointers of a declarator.

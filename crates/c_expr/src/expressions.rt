@@ -19,7 +19,7 @@ ghost use Rattle.c_expr.specs.Standing.{Makes, Over, OverBehind, Passes, IsFirst
 ghost use Rattle.c_expr.specs.Gives.{Gives, AsBefore, left, Spends};
 
 use crate::fault::ExprFault;
-use crate::nodes::{Read, keep, node};
+use crate::nodes::{Read, node};
 use crate::operators::{
     ASSIGNMENT_LEVEL, CAST_LEVEL, COMMA_LEVEL, CONDITIONAL_LEVEL, UNARY_LEVEL, grade,
     operand_level, take_assign, take_binary, take_prefix,
@@ -57,17 +57,17 @@ pub(crate) fn unary_of<'a>(
     room: u32,
     next: &mut u32,
 ) -> Result<Read<'a>, ExprFault>
-    requires height { operand.height ≡ height_of (view operand.tree) }
+    requires height { operand.height ≡ height_of (view operand.tree.now) }
     requires ids { next.old + 1 < 2 ^ 32 }
-    ensures found { Gives result (made room (kinds.Operation (kinds.Unary op (view operand.entry.tree))) (symbols_of rest.now)) }
-    ensures node { Makes result next.old next.new first (nodes.Operation (nodes.Unary op (node_of operand.entry.tree))) rest.now }
+    ensures found { Gives result (made room (kinds.Operation (kinds.Unary op (view operand.entry.tree.now))) (symbols_of rest.now)) }
+    ensures node { Makes result next.old next.new first (nodes.Operation (nodes.Unary op (node_of operand.entry.tree.now))) rest.now }
     ensures ids { (next.old ≤ next.new) × (next.new ≤ next.old + 1) × (left result ≤ length rest.now) }
 {
     let kind = Kind::Operation(Operation::Unary {
         op,
-        operand: keep(arena, operand.tree)?,
+        operand: operand.tree,
     });
-    node(kind, first, operand.height, rest, room, next)
+    node(arena, kind, first, operand.height, rest, room, next)
 }
 
 /// A cast of its operand.
@@ -79,19 +79,19 @@ fn cast_of<'a>(
     room: u32,
     next: &mut u32,
 ) -> Result<Read<'a>, ExprFault>
-    requires to { to.height ≡ height_of (view to.tree) }
-    requires operand { operand.height ≡ height_of (view operand.tree) }
+    requires to { to.height ≡ height_of (view to.tree.now) }
+    requires operand { operand.height ≡ height_of (view operand.tree.now) }
     requires ids { next.old + 1 < 2 ^ 32 }
-    ensures found { Gives result (made room (kinds.Operation (kinds.Cast (view to.entry.tree) (view operand.entry.tree))) (symbols_of operand.entry.rest.now)) }
-    ensures node { Makes result next.old next.new first (nodes.Operation (nodes.Cast (node_of to.entry.tree) (node_of operand.entry.tree))) operand.entry.rest.now }
+    ensures found { Gives result (made room (kinds.Operation (kinds.Cast (view to.entry.tree.now) (view operand.entry.tree.now))) (symbols_of operand.entry.rest.now)) }
+    ensures node { Makes result next.old next.new first (nodes.Operation (nodes.Cast (node_of to.entry.tree.now) (node_of operand.entry.tree.now))) operand.entry.rest.now }
     ensures ids { (next.old ≤ next.new) × (next.new ≤ next.old + 1) × (left result ≤ length operand.entry.rest.now) }
 {
     let highest = to.height.max(operand.height);
     let kind = Kind::Operation(Operation::Cast {
-        to: keep(arena, to.tree)?,
-        operand: keep(arena, operand.tree)?,
+        to: to.tree,
+        operand: operand.tree,
     });
-    node(kind, first, highest, operand.rest, room, next)
+    node(arena, kind, first, highest, operand.rest, room, next)
 }
 
 /// Two operands with their operator.
@@ -103,20 +103,28 @@ fn binary_of<'a>(
     room: u32,
     next: &mut u32,
 ) -> Result<Read<'a>, ExprFault>
-    requires before { before.height ≡ height_of (view before.tree) }
-    requires right { right.height ≡ height_of (view right.tree) }
+    requires before { before.height ≡ height_of (view before.tree.now) }
+    requires right { right.height ≡ height_of (view right.tree.now) }
     requires ids { next.old + 1 < 2 ^ 32 }
-    ensures found { Gives result (made room (kinds.Operation (kinds.Binary op (view before.entry.tree) (view right.entry.tree))) (symbols_of right.entry.rest.now)) }
-    ensures node { Makes result next.old next.new before.entry.tree.first (nodes.Operation (nodes.Binary op (node_of before.entry.tree) (node_of right.entry.tree))) right.entry.rest.now }
+    ensures found { Gives result (made room (kinds.Operation (kinds.Binary op (view before.entry.tree.now) (view right.entry.tree.now))) (symbols_of right.entry.rest.now)) }
+    ensures node { Makes result next.old next.new before.entry.tree.now.first (nodes.Operation (nodes.Binary op (node_of before.entry.tree.now) (node_of right.entry.tree.now))) right.entry.rest.now }
     ensures ids { (next.old ≤ next.new) × (next.new ≤ next.old + 1) × (left result ≤ length right.entry.rest.now) }
 {
     let highest = before.height.max(right.height);
     let kind = Kind::Operation(Operation::Binary {
         op,
-        left: keep(arena, before.tree)?,
-        right: keep(arena, right.tree)?,
+        left: before.tree,
+        right: right.tree,
     });
-    node(kind, before.tree.first, highest, right.rest, room, next)
+    node(
+        arena,
+        kind,
+        before.tree.first,
+        highest,
+        right.rest,
+        room,
+        next,
+    )
 }
 
 /// An assignment.
@@ -128,20 +136,20 @@ fn assignment_of<'a>(
     room: u32,
     next: &mut u32,
 ) -> Result<Read<'a>, ExprFault>
-    requires to { to.height ≡ height_of (view to.tree) }
-    requires value { value.height ≡ height_of (view value.tree) }
+    requires to { to.height ≡ height_of (view to.tree.now) }
+    requires value { value.height ≡ height_of (view value.tree.now) }
     requires ids { next.old + 1 < 2 ^ 32 }
-    ensures found { Gives result (made room (kinds.Operation (kinds.Assign op (view to.entry.tree) (view value.entry.tree))) (symbols_of value.entry.rest.now)) }
-    ensures node { Makes result next.old next.new to.entry.tree.first (nodes.Operation (nodes.Assign op (node_of to.entry.tree) (node_of value.entry.tree))) value.entry.rest.now }
+    ensures found { Gives result (made room (kinds.Operation (kinds.Assign op (view to.entry.tree.now) (view value.entry.tree.now))) (symbols_of value.entry.rest.now)) }
+    ensures node { Makes result next.old next.new to.entry.tree.now.first (nodes.Operation (nodes.Assign op (node_of to.entry.tree.now) (node_of value.entry.tree.now))) value.entry.rest.now }
     ensures ids { (next.old ≤ next.new) × (next.new ≤ next.old + 1) × (left result ≤ length value.entry.rest.now) }
 {
     let highest = to.height.max(value.height);
     let kind = Kind::Operation(Operation::Assign {
         op,
-        left: keep(arena, to.tree)?,
-        right: keep(arena, value.tree)?,
+        left: to.tree,
+        right: value.tree,
     });
-    node(kind, to.tree.first, highest, value.rest, room, next)
+    node(arena, kind, to.tree.first, highest, value.rest, room, next)
 }
 
 /// A conditional expression.
@@ -153,21 +161,22 @@ fn conditional_of<'a>(
     room: u32,
     next: &mut u32,
 ) -> Result<Read<'a>, ExprFault>
-    requires condition { condition.height ≡ height_of (view condition.tree) }
-    requires yes { then.height ≡ height_of (view then.tree) }
-    requires no { otherwise.height ≡ height_of (view otherwise.tree) }
+    requires condition { condition.height ≡ height_of (view condition.tree.now) }
+    requires yes { then.height ≡ height_of (view then.tree.now) }
+    requires no { otherwise.height ≡ height_of (view otherwise.tree.now) }
     requires ids { next.old + 1 < 2 ^ 32 }
-    ensures found { Gives result (made room (kinds.Operation (kinds.Cond (view condition.entry.tree) (view then.entry.tree) (view otherwise.entry.tree))) (symbols_of otherwise.entry.rest.now)) }
-    ensures node { Makes result next.old next.new condition.entry.tree.first (nodes.Operation (nodes.Cond (node_of condition.entry.tree) (node_of then.entry.tree) (node_of otherwise.entry.tree))) otherwise.entry.rest.now }
+    ensures found { Gives result (made room (kinds.Operation (kinds.Cond (view condition.entry.tree.now) (view then.entry.tree.now) (view otherwise.entry.tree.now))) (symbols_of otherwise.entry.rest.now)) }
+    ensures node { Makes result next.old next.new condition.entry.tree.now.first (nodes.Operation (nodes.Cond (node_of condition.entry.tree.now) (node_of then.entry.tree.now) (node_of otherwise.entry.tree.now))) otherwise.entry.rest.now }
     ensures ids { (next.old ≤ next.new) × (next.new ≤ next.old + 1) × (left result ≤ length otherwise.entry.rest.now) }
 {
     let highest = condition.height.max(then.height).max(otherwise.height);
     let kind = Kind::Operation(Operation::Cond {
-        condition: keep(arena, condition.tree)?,
-        then: keep(arena, then.tree)?,
-        otherwise: keep(arena, otherwise.tree)?,
+        condition: condition.tree,
+        then: then.tree,
+        otherwise: otherwise.tree,
     });
     node(
+        arena,
         kind,
         condition.tree.first,
         highest,
@@ -210,10 +219,8 @@ fn read_sizeof<'a>(
     let Some(rest) = after_sign(Punctuator::CloseParen, of.rest) else {
         return Err(ExprFault::NoTree);
     };
-    let kind = Kind::Operation(Operation::SizeofType {
-        of: keep(arena, of.tree)?,
-    });
-    node(kind, first, of.height, rest, room, next)
+    let kind = Kind::Operation(Operation::SizeofType { of: of.tree });
+    node(arena, kind, first, of.height, rest, room, next)
 }
 
 /// A unary expression (6.3.3).
@@ -283,10 +290,10 @@ fn read_chain<'a>(
 ) -> Result<Read<'a>, ExprFault>
     requires positive { 0 < room }
     requires level { 0 < level }
-    requires height { first.height ≡ height_of (view first.tree) }
+    requires height { first.height ≡ height_of (view first.tree.now) }
     requires ids { next.old + 16 * length first.rest.now < 2 ^ 32 }
-    ensures found { Gives result (steps.read_chain (read (room - 1)) room names.old.now level room (view first.entry.tree) (symbols_of first.entry.rest.now)) }
-    ensures stands { OverBehind result (node_of first.entry.tree) next.old next.new first.entry.rest.now }
+    ensures found { Gives result (steps.read_chain (read (room - 1)) room names.old.now level room (view first.entry.tree.now) (symbols_of first.entry.rest.now)) }
+    ensures stands { OverBehind result (node_of first.entry.tree.now) next.old next.new first.entry.rest.now }
     ensures names { AsBefore names.new names.old }
     ensures ids { Spends next.old next.new (length first.entry.rest.now) (left result) }
 {
@@ -377,7 +384,7 @@ fn read_assignment<'a>(
     let Some((op, rest)) = take_assign(to.rest) else {
         return Ok(to);
     };
-    if grade(&to.tree) > UNARY_LEVEL {
+    if grade(to.tree) > UNARY_LEVEL {
         return Err(ExprFault::NoTree);
     }
     let value = expression_in_front(arena, ASSIGNMENT_LEVEL, rest, names, room - 1, next)?;

@@ -28,7 +28,7 @@ mod reading;
 pub use declarators::{Form, declarator_in_front};
 pub use expressions::expression_in_front;
 pub use fault::ExprFault;
-pub use nodes::{Read, ReadList, keep, list_of, node, part};
+pub use nodes::{Read, ReadList, list_of, node, part};
 pub use operators::{
     ASSIGNMENT_LEVEL, CAST_LEVEL, COMMA_LEVEL, CONDITIONAL_LEVEL, POSTFIX_LEVEL, UNARY_LEVEL,
 };

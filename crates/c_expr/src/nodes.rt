@@ -1,14 +1,13 @@
 //! Nodes and lists of nodes that were read.
 
-ghost use Rattle.std.specs.Prelude.{◌≡◌, ◌+◌, ◌*◌, ◌<◌, ◌≤◌, ◌^◌, length, MatchResult};
+ghost use Rattle.std.specs.Prelude.{◌≡◌, ◌+◌, ◌*◌, ◌<◌, ◌≤◌, ◌^◌, Some, length};
 ghost use Rattle.c_tree.specs.Symbol.{symbols_of};
 ghost use Rattle.c_tree.specs.Height.{height_of};
-ghost use Rattle.c_tree.specs.Forget.{view, view_all, list_view, kind_view};
+ghost use Rattle.c_tree.specs.Forget.{view_all, list_view, kind_view};
 ghost use Rattle.c_grammar.specs.Found.{made};
 ghost use Rattle.c_tree.specs.Views.{shape_of, nodes_of, nodes_in};
-ghost use Rattle.c_expr.specs.Gives.{Gives, left, Spends};
-ghost use Rattle.c_expr.specs.Standing.{IsMade, Makes};
-ghost use Rattle.c_expr.specs.declared.fault.ExprFault.TheVariants.{NoMemory};
+ghost use Rattle.c_expr.specs.Gives.{Gives, left};
+ghost use Rattle.c_expr.specs.Standing.{Makes};
 
 use crate::fault::ExprFault;
 use bumpalo::collections::into_bump_slice;
@@ -17,7 +16,8 @@ use c_tree::{Arena, Kind, Place, Token, Tree, Trees};
 /// A tree that was read.
 #[derive(Clone, Copy)]
 pub struct Read<'a> {
-    pub tree: Tree<'a>,
+    /// It stands in the arena.
+    pub tree: &'a Tree<'a>,
     /// The tokens behind it.
     pub rest: &'a [Token],
     /// Its height.
@@ -34,13 +34,6 @@ pub struct ReadList<'a> {
     pub height: u32,
 }
 
-/// A node in the arena.
-pub fn keep<'a>(arena: &'a Arena, tree: Tree<'a>) -> Result<&'a Tree<'a>, ExprFault>
-    ensures { MatchResult result (λ kept. kept.now ≡ tree.entry) (λ e. e ≡ NoMemory) }
-{
-    Ok(arena.try_alloc(tree)?)
-}
-
 /// Nodes side by side in the arena.
 #[tactic(auto, using(crate::proofs::Lists::lists))]
 pub fn list_of<'a>(all: Vec<Tree<'a>, &'a Arena>) -> Trees<'a>
@@ -52,8 +45,30 @@ pub fn list_of<'a>(all: Vec<Tree<'a>, &'a Arena>) -> Trees<'a>
     }
 }
 
+/// A part, which is no node of its own for the height, or a leaf.
+pub fn part<'a>(
+    arena: &'a Arena,
+    kind: Kind<'a>,
+    first: Place,
+    height: u32,
+    rest: &'a [Token],
+    next: &mut u32,
+) -> Result<Read<'a>, ExprFault>
+    requires height { height_of (kind_view kind) ≡ height }
+    requires ids { next.old + 1 < 2 ^ 32 }
+    ensures found { Gives result (Some (kind_view kind.entry, symbols_of rest.now)) }
+    ensures ids { (next.old ≤ next.new) × (next.new ≤ next.old + 1) × (left result ≤ length rest.now) }
+    ensures node { Makes result next.old next.new first (shape_of kind.entry) rest.now }
+{
+    let id = *next;
+    let tree = arena.try_alloc(Tree { id, first, kind })?;
+    *next += 1;
+    Ok(Read { tree, rest, height })
+}
+
 /// A node of height at most `room`, whose highest child has this height.
 pub fn node<'a>(
+    arena: &'a Arena,
     kind: Kind<'a>,
     first: Place,
     highest: u32,
@@ -70,36 +85,5 @@ pub fn node<'a>(
     if room <= highest {
         return Err(ExprFault::NoTree);
     }
-    let id = *next;
-    *next += 1;
-    Ok(Read {
-        tree: Tree { id, first, kind },
-        rest,
-        height: highest + 1,
-    })
-}
-
-/// A part, which is no node of its own for the height, or a leaf.
-pub fn part<'a>(
-    kind: Kind<'a>,
-    first: Place,
-    height: u32,
-    rest: &'a [Token],
-    next: &mut u32,
-) -> Read<'a>
-    requires height { height_of (kind_view kind) ≡ height }
-    requires ids { next.old + 1 < 2 ^ 32 }
-    ensures tree { view result.tree ≡ kind_view kind.entry }
-    ensures height { result.height ≡ height }
-    ensures rest { result.rest.now ≡ rest.now }
-    ensures ids { next.new ≡ next.old + 1 }
-    ensures node { IsMade result next.old next.new first (shape_of kind.entry) rest.now }
-{
-    let id = *next;
-    *next += 1;
-    Read {
-        tree: Tree { id, first, kind },
-        rest,
-        height,
-    }
+    part(arena, kind, first, highest + 1, rest, next)
 }

@@ -22,7 +22,7 @@ ghost use Rattle.c_expr.specs.ParamLists.{GivesParams, left_by_params, done_by_p
 
 use crate::declarators::{Form, begins_declarator, declarator_in_front};
 use crate::fault::ExprFault;
-use crate::nodes::{Read, keep, list_of, node, part};
+use crate::nodes::{Read, list_of, node, part};
 use crate::specifier_words::SpecifierPlace;
 use crate::specifiers::specifiers_in_front;
 use crate::symbols::{after_keyword, after_sign};
@@ -110,17 +110,25 @@ fn plain_of<'a>(
     room: u32,
     next: &mut u32,
 ) -> Result<Read<'a>, ExprFault>
-    requires height { specs.height ≡ height_of (view specs.tree) }
+    requires height { specs.height ≡ height_of (view specs.tree.now) }
     requires ids { next.old + 1 < 2 ^ 32 }
-    ensures found { Gives result (made room (kinds.Specifier (kinds.Param (view specs.entry.tree) kinds.absent)) (symbols_of specs.entry.rest.now)) }
-    ensures node { Makes result next.old next.new specs.entry.tree.first (nodes.Specifier (nodes.Param (node_of specs.entry.tree) nodes.absent)) specs.entry.rest.now }
+    ensures found { Gives result (made room (kinds.Specifier (kinds.Param (view specs.entry.tree.now) kinds.absent)) (symbols_of specs.entry.rest.now)) }
+    ensures node { Makes result next.old next.new specs.entry.tree.now.first (nodes.Specifier (nodes.Param (node_of specs.entry.tree.now) nodes.absent)) specs.entry.rest.now }
     ensures ids { (next.old ≤ next.new) × (next.new ≤ next.old + 1) × (left result ≤ length specs.entry.rest.now) }
 {
     let kind = Kind::Specifier(Specifier::Param {
-        specs: keep(arena, specs.tree)?,
+        specs: specs.tree,
         declarator: None,
     });
-    node(kind, specs.tree.first, specs.height, specs.rest, room, next)
+    node(
+        arena,
+        kind,
+        specs.tree.first,
+        specs.height,
+        specs.rest,
+        room,
+        next,
+    )
 }
 
 /// A parameter with its declarator.
@@ -131,19 +139,27 @@ fn declared_of<'a>(
     room: u32,
     next: &mut u32,
 ) -> Result<Read<'a>, ExprFault>
-    requires specs { specs.height ≡ height_of (view specs.tree) }
-    requires declarator { declarator.height ≡ height_of (view declarator.tree) }
+    requires specs { specs.height ≡ height_of (view specs.tree.now) }
+    requires declarator { declarator.height ≡ height_of (view declarator.tree.now) }
     requires ids { next.old + 1 < 2 ^ 32 }
-    ensures found { Gives result (made room (kinds.Specifier (kinds.Param (view specs.entry.tree) (kinds.present (view declarator.entry.tree)))) (symbols_of declarator.entry.rest.now)) }
-    ensures node { Makes result next.old next.new specs.entry.tree.first (nodes.Specifier (nodes.Param (node_of specs.entry.tree) (nodes.present (node_of declarator.entry.tree)))) declarator.entry.rest.now }
+    ensures found { Gives result (made room (kinds.Specifier (kinds.Param (view specs.entry.tree.now) (kinds.present (view declarator.entry.tree.now)))) (symbols_of declarator.entry.rest.now)) }
+    ensures node { Makes result next.old next.new specs.entry.tree.now.first (nodes.Specifier (nodes.Param (node_of specs.entry.tree.now) (nodes.present (node_of declarator.entry.tree.now)))) declarator.entry.rest.now }
     ensures ids { (next.old ≤ next.new) × (next.new ≤ next.old + 1) × (left result ≤ length declarator.entry.rest.now) }
 {
     let highest = specs.height.max(declarator.height);
     let kind = Kind::Specifier(Specifier::Param {
-        specs: keep(arena, specs.tree)?,
-        declarator: Some(keep(arena, declarator.tree)?),
+        specs: specs.tree,
+        declarator: Some(declarator.tree),
     });
-    node(kind, specs.tree.first, highest, declarator.rest, room, next)
+    node(
+        arena,
+        kind,
+        specs.tree.first,
+        highest,
+        declarator.rest,
+        room,
+        next,
+    )
 }
 
 /// The parameter in front.
@@ -205,7 +221,7 @@ fn read_params<'a>(
         fuel -= 1;
         let param = param_in_front(arena, rest, names, room - 1, next)?;
         highest = param.height.max(highest);
-        all.push(param.tree)?;
+        all.push(*param.tree)?;
         let Some(after) = after_sign(Punctuator::Comma, param.rest) else {
             let Some(end) = after_sign(Punctuator::CloseParen, param.rest) else {
                 return Err(ExprFault::NoTree);
@@ -228,7 +244,7 @@ fn read_params<'a>(
                 height: highest,
             });
         }
-        declare_param(names, &param.tree)?;
+        declare_param(names, param.tree)?;
         rest = after;
     }
     Err(ExprFault::NoTree)
@@ -256,10 +272,11 @@ pub(crate) fn read_param_list<'a>(
             params: list_of(Vec::new(arena)),
             variadic: false,
         });
-        return Ok(part(kind, first, 0, rest, next));
+        return part(arena, kind, first, 0, rest, next);
     }
     if let Some(rest) = after_void(tokens) {
-        return Ok(part(Kind::Part(Part::VoidParams), first, 0, rest, next));
+        let kind = Kind::Part(Part::VoidParams);
+        return part(arena, kind, first, 0, rest, next);
     }
     names.open()?;
     let read = read_params(arena, tokens, names, room, next);
@@ -269,5 +286,5 @@ pub(crate) fn read_param_list<'a>(
         params: params.trees,
         variadic: params.variadic,
     });
-    Ok(part(kind, first, params.height, params.rest, next))
+    part(arena, kind, first, params.height, params.rest, next)
 }

@@ -19,7 +19,7 @@ ghost use Rattle.c_expr.specs.Postfixes.{indexed, called, member_of, arrow_of};
 
 use crate::expressions::{expression_in_front, unary_of};
 use crate::fault::ExprFault;
-use crate::nodes::{Read, ReadList, keep, list_of, node};
+use crate::nodes::{Read, ReadList, list_of, node};
 use crate::operators::{ASSIGNMENT_LEVEL, COMMA_LEVEL};
 use crate::primary::read_primary;
 use crate::symbols::{after_sign, place_of, take_word};
@@ -56,19 +56,19 @@ fn index_of<'a>(
     room: u32,
     next: &mut u32,
 ) -> Result<Read<'a>, ExprFault>
-    requires array { array.height ≡ height_of (view array.tree) }
-    requires index { index.height ≡ height_of (view index.tree) }
+    requires array { array.height ≡ height_of (view array.tree.now) }
+    requires index { index.height ≡ height_of (view index.tree.now) }
     requires ids { next.old + 1 < 2 ^ 32 }
-    ensures found { Gives result (made room (kinds.Operation (kinds.Index (view array.entry.tree) (view index.entry.tree))) (symbols_of rest.now)) }
-    ensures node { Makes result next.old next.new array.entry.tree.first (nodes.Operation (nodes.Index (node_of array.entry.tree) (node_of index.entry.tree))) rest.now }
+    ensures found { Gives result (made room (kinds.Operation (kinds.Index (view array.entry.tree.now) (view index.entry.tree.now))) (symbols_of rest.now)) }
+    ensures node { Makes result next.old next.new array.entry.tree.now.first (nodes.Operation (nodes.Index (node_of array.entry.tree.now) (node_of index.entry.tree.now))) rest.now }
     ensures ids { (next.old ≤ next.new) × (next.new ≤ next.old + 1) × (left result ≤ length rest.now) }
 {
     let highest = array.height.max(index.height);
     let kind = Kind::Operation(Operation::Index {
-        array: keep(arena, array.tree)?,
-        index: keep(arena, index.tree)?,
+        array: array.tree,
+        index: index.tree,
     });
-    node(kind, array.tree.first, highest, rest, room, next)
+    node(arena, kind, array.tree.first, highest, rest, room, next)
 }
 
 /// A call; `open` is the place of its parenthesis.
@@ -80,20 +80,28 @@ fn call_of<'a>(
     room: u32,
     next: &mut u32,
 ) -> Result<Read<'a>, ExprFault>
-    requires callee { callee.height ≡ height_of (view callee.tree) }
+    requires callee { callee.height ≡ height_of (view callee.tree.now) }
     requires arguments { arguments.height ≡ height_in (list_view arguments.trees) }
     requires ids { next.old + 1 < 2 ^ 32 }
-    ensures found { Gives result (made room (kinds.Operation (kinds.Call (view callee.entry.tree) (list_view arguments.entry.trees))) (symbols_of arguments.entry.rest.now)) }
-    ensures node { Makes result next.old next.new callee.entry.tree.first (nodes.Operation (nodes.Call (node_of callee.entry.tree) «open» (nodes_of arguments.entry.trees))) arguments.entry.rest.now }
+    ensures found { Gives result (made room (kinds.Operation (kinds.Call (view callee.entry.tree.now) (list_view arguments.entry.trees))) (symbols_of arguments.entry.rest.now)) }
+    ensures node { Makes result next.old next.new callee.entry.tree.now.first (nodes.Operation (nodes.Call (node_of callee.entry.tree.now) «open» (nodes_of arguments.entry.trees))) arguments.entry.rest.now }
     ensures ids { (next.old ≤ next.new) × (next.new ≤ next.old + 1) × (left result ≤ length arguments.entry.rest.now) }
 {
     let highest = callee.height.max(arguments.height);
     let kind = Kind::Operation(Operation::Call {
-        callee: keep(arena, callee.tree)?,
+        callee: callee.tree,
         open,
         arguments: arguments.trees,
     });
-    node(kind, callee.tree.first, highest, arguments.rest, room, next)
+    node(
+        arena,
+        kind,
+        callee.tree.first,
+        highest,
+        arguments.rest,
+        room,
+        next,
+    )
 }
 
 /// A member of a structure, behind its dot.
@@ -104,20 +112,28 @@ fn read_member<'a>(
     room: u32,
     next: &mut u32,
 ) -> Result<Read<'a>, ExprFault>
-    requires height { operand.height ≡ height_of (view operand.tree) }
+    requires height { operand.height ≡ height_of (view operand.tree.now) }
     requires ids { next.old + 16 * length tokens.now < 2 ^ 32 }
-    ensures found { Gives result (member_of room (view operand.entry.tree) (symbols_of tokens.now)) }
-    ensures stands { (before : List Token) → Passes (Sign marks.Dot) before tokens.now → OverBehind result (node_of operand.entry.tree) next.old next.new before }
+    ensures found { Gives result (member_of room (view operand.entry.tree.now) (symbols_of tokens.now)) }
+    ensures stands { (before : List Token) → Passes (Sign marks.Dot) before tokens.now → OverBehind result (node_of operand.entry.tree.now) next.old next.new before }
     ensures ids { Spends next.old next.new (length tokens.now) (left result) }
 {
     let Some((member, rest)) = take_word(tokens) else {
         return Err(ExprFault::NoTree);
     };
     let kind = Kind::Operation(Operation::Member {
-        operand: keep(arena, operand.tree)?,
+        operand: operand.tree,
         member,
     });
-    node(kind, operand.tree.first, operand.height, rest, room, next)
+    node(
+        arena,
+        kind,
+        operand.tree.first,
+        operand.height,
+        rest,
+        room,
+        next,
+    )
 }
 
 /// A member of a structure that is pointed to, behind its arrow.
@@ -128,20 +144,28 @@ fn read_arrow<'a>(
     room: u32,
     next: &mut u32,
 ) -> Result<Read<'a>, ExprFault>
-    requires height { operand.height ≡ height_of (view operand.tree) }
+    requires height { operand.height ≡ height_of (view operand.tree.now) }
     requires ids { next.old + 16 * length tokens.now < 2 ^ 32 }
-    ensures found { Gives result (arrow_of room (view operand.entry.tree) (symbols_of tokens.now)) }
-    ensures stands { (before : List Token) → Passes (Sign marks.Arrow) before tokens.now → OverBehind result (node_of operand.entry.tree) next.old next.new before }
+    ensures found { Gives result (arrow_of room (view operand.entry.tree.now) (symbols_of tokens.now)) }
+    ensures stands { (before : List Token) → Passes (Sign marks.Arrow) before tokens.now → OverBehind result (node_of operand.entry.tree.now) next.old next.new before }
     ensures ids { Spends next.old next.new (length tokens.now) (left result) }
 {
     let Some((member, rest)) = take_word(tokens) else {
         return Err(ExprFault::NoTree);
     };
     let kind = Kind::Operation(Operation::Arrow {
-        operand: keep(arena, operand.tree)?,
+        operand: operand.tree,
         member,
     });
-    node(kind, operand.tree.first, operand.height, rest, room, next)
+    node(
+        arena,
+        kind,
+        operand.tree.first,
+        operand.height,
+        rest,
+        room,
+        next,
+    )
 }
 
 /// Arguments up to the parenthesis, at least one.
@@ -169,7 +193,7 @@ fn read_more_arguments<'a>(
         fuel -= 1;
         let argument = expression_in_front(arena, ASSIGNMENT_LEVEL, rest, names, room - 1, next)?;
         highest = argument.height.max(highest);
-        all.push(argument.tree)?;
+        all.push(*argument.tree)?;
         match after_sign(Punctuator::Comma, argument.rest) {
             Some(after) => rest = after,
             None => {
@@ -224,10 +248,10 @@ fn read_index<'a>(
     next: &mut u32,
 ) -> Result<Read<'a>, ExprFault>
     requires positive { 0 < room }
-    requires height { operand.height ≡ height_of (view operand.tree) }
+    requires height { operand.height ≡ height_of (view operand.tree.now) }
     requires ids { next.old + 16 * length tokens.now < 2 ^ 32 }
-    ensures found { Gives result (indexed (read (room - 1)) room names.old.now (view operand.entry.tree) (symbols_of tokens.now)) }
-    ensures stands { (before : List Token) → Passes (Sign marks.OpenBracket) before tokens.now → OverBehind result (node_of operand.entry.tree) next.old next.new before }
+    ensures found { Gives result (indexed (read (room - 1)) room names.old.now (view operand.entry.tree.now) (symbols_of tokens.now)) }
+    ensures stands { (before : List Token) → Passes (Sign marks.OpenBracket) before tokens.now → OverBehind result (node_of operand.entry.tree.now) next.old next.new before }
     ensures names { AsBefore names.new names.old }
     ensures ids { Spends next.old next.new (length tokens.now) (left result) }
 {
@@ -248,10 +272,10 @@ fn read_postfix_operator<'a>(
     next: &mut u32,
 ) -> Result<Read<'a>, ExprFault>
     requires positive { 0 < room }
-    requires height { operand.height ≡ height_of (view operand.tree) }
+    requires height { operand.height ≡ height_of (view operand.tree.now) }
     requires ids { next.old + 16 * length operand.rest.now < 2 ^ 32 }
-    ensures found { Gives result (steps.read_postfix_operator (read (room - 1)) room names.old.now (view operand.entry.tree) (symbols_of operand.entry.rest.now)) }
-    ensures stands { OverBehind result (node_of operand.entry.tree) next.old next.new operand.entry.rest.now }
+    ensures found { Gives result (steps.read_postfix_operator (read (room - 1)) room names.old.now (view operand.entry.tree.now) (symbols_of operand.entry.rest.now)) }
+    ensures stands { OverBehind result (node_of operand.entry.tree.now) next.old next.new operand.entry.rest.now }
     ensures names { AsBefore names.new names.old }
     ensures ids { Spends next.old next.new (length operand.entry.rest.now) (left result) }
 {

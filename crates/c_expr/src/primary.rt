@@ -19,7 +19,7 @@ ghost use Rattle.c_expr.specs.Gives.{Gives, GivesList, AsBefore, left, left_by_l
 
 use crate::expressions::expression_in_front;
 use crate::fault::ExprFault;
-use crate::nodes::{Read, ReadList, keep, list_of, node, part};
+use crate::nodes::{Read, ReadList, list_of, node, part};
 use crate::operators::{ASSIGNMENT_LEVEL, COMMA_LEVEL};
 use crate::symbols::{Run, after_sign, place_of, split_run, take_word};
 use crate::type_names::TypeNames;
@@ -28,6 +28,7 @@ use c_tree::{Arena, Keyword, Kind, Part, Place, Primary, Punctuator, Token, Toke
 
 /// A string literal with those that follow it (6.1.4).
 fn read_strings<'a>(
+    arena: &'a Arena,
     first: Place,
     tokens: &'a [Token],
     room: u32,
@@ -40,14 +41,8 @@ fn read_strings<'a>(
     ensures ids { Spends next.old next.new (length tokens.now) (left result) }
 {
     let (literals, rest) = split_run(Run::Strings, tokens);
-    node(
-        Kind::Primary(Primary::StrConst { literals }),
-        first,
-        0,
-        rest,
-        room,
-        next,
-    )
+    let kind = Kind::Primary(Primary::StrConst { literals });
+    node(arena, kind, first, 0, rest, room, next)
 }
 
 /// `__builtin_va_arg` of these.
@@ -60,19 +55,19 @@ fn va_arg_of<'a>(
     room: u32,
     next: &mut u32,
 ) -> Result<Read<'a>, ExprFault>
-    requires list { list.height ≡ height_of (view list.tree) }
-    requires of { of.height ≡ height_of (view of.tree) }
+    requires list { list.height ≡ height_of (view list.tree.now) }
+    requires of { of.height ≡ height_of (view of.tree.now) }
     requires ids { next.old + 1 < 2 ^ 32 }
-    ensures found { Gives result (made room (kinds.Primary (kinds.VaArg (view list.entry.tree) (view of.entry.tree))) (symbols_of rest.now)) }
-    ensures node { Makes result next.old next.new first (nodes.Primary (nodes.VaArg (node_of list.entry.tree) (node_of of.entry.tree))) rest.now }
+    ensures found { Gives result (made room (kinds.Primary (kinds.VaArg (view list.entry.tree.now) (view of.entry.tree.now))) (symbols_of rest.now)) }
+    ensures node { Makes result next.old next.new first (nodes.Primary (nodes.VaArg (node_of list.entry.tree.now) (node_of of.entry.tree.now))) rest.now }
     ensures ids { (next.old ≤ next.new) × (next.new ≤ next.old + 1) × (left result ≤ length rest.now) }
 {
     let highest = list.height.max(of.height);
     let kind = Kind::Primary(Primary::VaArg {
-        list: keep(arena, list.tree)?,
-        of: keep(arena, of.tree)?,
+        list: list.tree,
+        of: of.tree,
     });
-    node(kind, first, highest, rest, room, next)
+    node(arena, kind, first, highest, rest, room, next)
 }
 
 /// `__builtin_offsetof` of these.
@@ -85,20 +80,20 @@ fn offsetof_of<'a>(
     room: u32,
     next: &mut u32,
 ) -> Result<Read<'a>, ExprFault>
-    requires of { of.height ≡ height_of (view of.tree) }
+    requires of { of.height ≡ height_of (view of.tree.now) }
     requires path { path.height ≡ height_in (list_view path.trees) }
     requires ids { next.old + 1 < 2 ^ 32 }
-    ensures found { Gives result (made room (kinds.Primary (kinds.Offsetof (view of.entry.tree) (symbol_of member.now) (list_view path.entry.trees))) (symbols_of path.entry.rest.now)) }
-    ensures node { Makes result next.old next.new first (nodes.Primary (nodes.Offsetof (node_of of.entry.tree) member.now (nodes_of path.entry.trees))) path.entry.rest.now }
+    ensures found { Gives result (made room (kinds.Primary (kinds.Offsetof (view of.entry.tree.now) (symbol_of member.now) (list_view path.entry.trees))) (symbols_of path.entry.rest.now)) }
+    ensures node { Makes result next.old next.new first (nodes.Primary (nodes.Offsetof (node_of of.entry.tree.now) member.now (nodes_of path.entry.trees))) path.entry.rest.now }
     ensures ids { (next.old ≤ next.new) × (next.new ≤ next.old + 1) × (left result ≤ length path.entry.rest.now) }
 {
     let highest = of.height.max(path.height);
     let kind = Kind::Primary(Primary::Offsetof {
-        of: keep(arena, of.tree)?,
+        of: of.tree,
         member,
         path: path.trees,
     });
-    node(kind, first, highest, path.rest, room, next)
+    node(arena, kind, first, highest, path.rest, room, next)
 }
 
 /// A member or an index behind the first member of an offset.
@@ -122,13 +117,8 @@ fn read_designator<'a>(
         let Some((member, rest)) = take_word(rest) else {
             return Err(ExprFault::NoTree);
         };
-        return Ok(part(
-            Kind::Part(Part::MemberDesignator { member }),
-            first,
-            0,
-            rest,
-            next,
-        ));
+        let kind = Kind::Part(Part::MemberDesignator { member });
+        return part(arena, kind, first, 0, rest, next);
     }
     let Some(inside) = after_sign(Punctuator::OpenBracket, tokens) else {
         return Err(ExprFault::NoTree);
@@ -137,10 +127,8 @@ fn read_designator<'a>(
     let Some(rest) = after_sign(Punctuator::CloseBracket, index.rest) else {
         return Err(ExprFault::NoTree);
     };
-    let kind = Kind::Part(Part::IndexDesignator {
-        index: keep(arena, index.tree)?,
-    });
-    Ok(part(kind, first, index.height, rest, next))
+    let kind = Kind::Part(Part::IndexDesignator { index: index.tree });
+    part(arena, kind, first, index.height, rest, next)
 }
 
 /// Designators up to the parenthesis.
@@ -175,7 +163,7 @@ fn read_path<'a>(
         fuel -= 1;
         let designator = read_designator(arena, rest, names, room, next)?;
         highest = designator.height.max(highest);
-        all.push(designator.tree)?;
+        all.push(*designator.tree)?;
         rest = designator.rest;
     }
     Err(ExprFault::NoTree)
@@ -266,10 +254,16 @@ fn read_paren<'a>(
     let Some(rest) = after_sign(Punctuator::CloseParen, inner.rest) else {
         return Err(ExprFault::NoTree);
     };
-    let kind = Kind::Primary(Primary::Paren {
-        inner: keep(arena, inner.tree)?,
-    });
-    node(kind, place_of(tokens), inner.height, rest, room, next)
+    let kind = Kind::Primary(Primary::Paren { inner: inner.tree });
+    node(
+        arena,
+        kind,
+        place_of(tokens),
+        inner.height,
+        rest,
+        room,
+        next,
+    )
 }
 
 /// A name that is no type here, a constant, string literals, an expression in parentheses, or a built-in form.
@@ -298,20 +292,14 @@ pub(crate) fn read_primary<'a>(
                     if names.is_type(front.name) {
                         return Err(ExprFault::NoTree);
                     }
-                    node(
-                        Kind::Primary(Primary::Ident { name: front }),
-                        first,
-                        0,
-                        rest,
-                        room,
-                        next,
-                    )
+                    let kind = Kind::Primary(Primary::Ident { name: front });
+                    node(arena, kind, first, 0, rest, room, next)
                 }
                 TokenKind::Int { .. } | TokenKind::Float(_) | TokenKind::Char { .. } => {
                     let kind = Kind::Primary(Primary::Constant { token: front });
-                    node(kind, first, 0, rest, room, next)
+                    node(arena, kind, first, 0, rest, room, next)
                 }
-                TokenKind::Str { .. } => read_strings(first, tokens, room, next),
+                TokenKind::Str { .. } => read_strings(arena, first, tokens, room, next),
                 TokenKind::Punct(_) => read_paren(arena, tokens, names, room, next),
                 TokenKind::Keyword(word) => match word {
                     Keyword::BuiltinVaArg => read_va_arg(arena, first, rest, names, room, next),

@@ -16,7 +16,7 @@ ghost use Rattle.c_expr.specs.declared.fault.ExprFault.TheVariants.{NoTree};
 use crate::declarators::{Form, declarator_in_front};
 use crate::expressions::expression_in_front;
 use crate::fault::ExprFault;
-use crate::nodes::{Read, keep};
+use crate::nodes::Read;
 use crate::operators::COMMA_LEVEL;
 use crate::specifier_words::SpecifierPlace;
 use crate::specifiers::specifiers_in_front;
@@ -28,14 +28,14 @@ use c_tree::{Arena, Token, Tree};
 const MOST_HEIGHT: u32 = 1000;
 
 /// What was read, where nothing is left over.
-fn at_end<'a>(arena: &'a Arena, read: Read<'a>) -> Result<&'a Tree<'a>, ExprFault>
-    ensures kept { IfOk result (λ tree. (tree.now ≡ read.entry.tree) × (length read.entry.rest.now ≡ 0)) }
+fn at_end<'a>(read: Read<'a>) -> Result<&'a Tree<'a>, ExprFault>
+    ensures kept { IfOk result (λ tree. (tree.now ≡ read.entry.tree.now) × (length read.entry.rest.now ≡ 0)) }
     ensures refused { IfErr result (λ fault. fault ≡ NoTree → 0 < length read.entry.rest.now) }
 {
     if !read.rest.is_empty() {
         return Err(ExprFault::NoTree);
     }
-    keep(arena, read.tree)
+    Ok(read.tree)
 }
 
 /// The one expression that these tokens are, with the names in force (ISO 9899:1990, 6.3).
@@ -57,7 +57,7 @@ pub fn read_expr<'a>(
 {
     parses_are_read();
     let read = expression_in_front(arena, COMMA_LEVEL, tokens, names, MOST_HEIGHT, next)?;
-    at_end(arena, read)
+    at_end(read)
 }
 
 /// The specifiers that these tokens are, as they may stand in a declaration, without a body (6.5).
@@ -85,7 +85,7 @@ pub fn read_specs<'a>(
         MOST_HEIGHT,
         next,
     )?;
-    at_end(arena, read)
+    at_end(read)
 }
 
 /// The declarator of this form that these tokens are (6.5.4, 6.5.5).
@@ -107,5 +107,5 @@ pub fn read_declarator<'a>(
 {
     parses_are_read();
     let read = declarator_in_front(arena, form, tokens, names, MOST_HEIGHT, next)?;
-    at_end(arena, read)
+    at_end(read)
 }

@@ -25,6 +25,7 @@ use c_tree::{Arena, Keyword, Kind, Part, Place, Specifier, StructOrUnion, Token,
 
 /// The tag behind `struct` or `union`.
 fn read_struct_tag<'a>(
+    arena: &'a Arena,
     which: StructOrUnion,
     first: Place,
     tokens: &'a [Token],
@@ -38,17 +39,13 @@ fn read_struct_tag<'a>(
     let Some((tag, rest)) = take_word(tokens) else {
         return Err(ExprFault::NoTree);
     };
-    Ok(part(
-        Kind::Specifier(Specifier::StructTag { which, tag }),
-        first,
-        1,
-        rest,
-        next,
-    ))
+    let kind = Kind::Specifier(Specifier::StructTag { which, tag });
+    part(arena, kind, first, 1, rest, next)
 }
 
 /// The tag behind `enum`.
 fn read_enum_tag<'a>(
+    arena: &'a Arena,
     first: Place,
     tokens: &'a [Token],
     next: &mut u32,
@@ -61,17 +58,17 @@ fn read_enum_tag<'a>(
     let Some((tag, rest)) = take_word(tokens) else {
         return Err(ExprFault::NoTree);
     };
-    Ok(part(
-        Kind::Specifier(Specifier::EnumTag { tag }),
-        first,
-        1,
-        rest,
-        next,
-    ))
+    let kind = Kind::Specifier(Specifier::EnumTag { tag });
+    part(arena, kind, first, 1, rest, next)
 }
 
 /// A tag without a body (6.5.2.3), with its word in front.
-fn read_tag<'a>(front: &Token, tokens: &'a [Token], next: &mut u32) -> Result<Read<'a>, ExprFault>
+fn read_tag<'a>(
+    arena: &'a Arena,
+    front: &Token,
+    tokens: &'a [Token],
+    next: &mut u32,
+) -> Result<Read<'a>, ExprFault>
     requires { next.old + 16 * length tokens.now < 2 ^ 32 }
     ensures found { Gives result (steps.read_tag (symbol_of front.now ∷ symbols_of tokens.now)) }
     ensures stands { Over result next.old next.new (front.now ∷ tokens.now) }
@@ -80,9 +77,9 @@ fn read_tag<'a>(front: &Token, tokens: &'a [Token], next: &mut u32) -> Result<Re
     let first = front.place;
     match front.kind {
         TokenKind::Keyword(word) => match word {
-            Keyword::Struct => read_struct_tag(StructOrUnion::Struct, first, tokens, next),
-            Keyword::Union => read_struct_tag(StructOrUnion::Union, first, tokens, next),
-            Keyword::Enum => read_enum_tag(first, tokens, next),
+            Keyword::Struct => read_struct_tag(arena, StructOrUnion::Struct, first, tokens, next),
+            Keyword::Union => read_struct_tag(arena, StructOrUnion::Union, first, tokens, next),
+            Keyword::Enum => read_enum_tag(arena, first, tokens, next),
             _ => Err(ExprFault::NoTree),
         },
         _ => Err(ExprFault::NoTree),
@@ -91,6 +88,7 @@ fn read_tag<'a>(front: &Token, tokens: &'a [Token], next: &mut u32) -> Result<Re
 
 /// The specifier that begins with the token in front.
 fn read_item<'a>(
+    arena: &'a Arena,
     front: &'a Token,
     tokens: &'a [Token],
     next: &mut u32,
@@ -101,15 +99,10 @@ fn read_item<'a>(
     ensures ids { (next.old ≤ next.new) × (next.new + 16 * left result ≤ next.old + 16 * length tokens.now + 1) }
 {
     if begins_tag(front) {
-        return read_tag(front, tokens, next);
+        return read_tag(arena, front, tokens, next);
     }
-    Ok(part(
-        Kind::Part(Part::SpecWord { word: front }),
-        front.place,
-        0,
-        tokens,
-        next,
-    ))
+    let kind = Kind::Part(Part::SpecWord { word: front });
+    part(arena, kind, front.place, 0, tokens, next)
 }
 
 /// The token in front that goes on with specifiers, and what follows it.
@@ -155,10 +148,10 @@ fn read_items<'a>(
             return Err(ExprFault::NoTree);
         }
         fuel -= 1;
-        let item = read_item(front, behind, next)?;
-        typed |= says_type(&item.tree);
+        let item = read_item(arena, front, behind, next)?;
+        typed |= says_type(item.tree);
         highest = item.height.max(highest);
-        all.push(item.tree)?;
+        all.push(*item.tree)?;
         rest = item.rest;
     }
     Ok(ReadList {
@@ -191,5 +184,13 @@ pub fn specifiers_in_front<'a>(
         return Err(ExprFault::NoTree);
     }
     let kind = Kind::Specifier(Specifier::Specs { items: items.trees });
-    node(kind, place_of(tokens), items.height, items.rest, room, next)
+    node(
+        arena,
+        kind,
+        place_of(tokens),
+        items.height,
+        items.rest,
+        room,
+        next,
+    )
 }

@@ -15,7 +15,7 @@ ghost use Rattle.c_expr.specs.Gives.{Gives, AsBefore, left, Spends};
 
 use crate::declarators::{Form, begins_declarator, declarator_in_front};
 use crate::fault::ExprFault;
-use crate::nodes::{Read, keep, node};
+use crate::nodes::{Read, node};
 use crate::specifier_words::SpecifierPlace;
 use crate::specifiers::specifiers_in_front;
 use crate::type_names::TypeNames;
@@ -28,17 +28,25 @@ fn plain_of<'a>(
     room: u32,
     next: &mut u32,
 ) -> Result<Read<'a>, ExprFault>
-    requires height { specs.height ≡ height_of (view specs.tree) }
+    requires height { specs.height ≡ height_of (view specs.tree.now) }
     requires ids { next.old + 1 < 2 ^ 32 }
-    ensures found { Gives result (made room (kinds.Specifier (kinds.TypeName (view specs.entry.tree) kinds.absent)) (symbols_of specs.entry.rest.now)) }
-    ensures node { Makes result next.old next.new specs.entry.tree.first (nodes.Specifier (nodes.TypeName (node_of specs.entry.tree) nodes.absent)) specs.entry.rest.now }
+    ensures found { Gives result (made room (kinds.Specifier (kinds.TypeName (view specs.entry.tree.now) kinds.absent)) (symbols_of specs.entry.rest.now)) }
+    ensures node { Makes result next.old next.new specs.entry.tree.now.first (nodes.Specifier (nodes.TypeName (node_of specs.entry.tree.now) nodes.absent)) specs.entry.rest.now }
     ensures ids { (next.old ≤ next.new) × (next.new ≤ next.old + 1) × (left result ≤ length specs.entry.rest.now) }
 {
     let kind = Kind::Specifier(Specifier::TypeName {
-        specs: keep(arena, specs.tree)?,
+        specs: specs.tree,
         declarator: None,
     });
-    node(kind, specs.tree.first, specs.height, specs.rest, room, next)
+    node(
+        arena,
+        kind,
+        specs.tree.first,
+        specs.height,
+        specs.rest,
+        room,
+        next,
+    )
 }
 
 /// A type name with its declarator.
@@ -49,19 +57,27 @@ fn declared_of<'a>(
     room: u32,
     next: &mut u32,
 ) -> Result<Read<'a>, ExprFault>
-    requires specs { specs.height ≡ height_of (view specs.tree) }
-    requires declarator { declarator.height ≡ height_of (view declarator.tree) }
+    requires specs { specs.height ≡ height_of (view specs.tree.now) }
+    requires declarator { declarator.height ≡ height_of (view declarator.tree.now) }
     requires ids { next.old + 1 < 2 ^ 32 }
-    ensures found { Gives result (made room (kinds.Specifier (kinds.TypeName (view specs.entry.tree) (kinds.present (view declarator.entry.tree)))) (symbols_of declarator.entry.rest.now)) }
-    ensures node { Makes result next.old next.new specs.entry.tree.first (nodes.Specifier (nodes.TypeName (node_of specs.entry.tree) (nodes.present (node_of declarator.entry.tree)))) declarator.entry.rest.now }
+    ensures found { Gives result (made room (kinds.Specifier (kinds.TypeName (view specs.entry.tree.now) (kinds.present (view declarator.entry.tree.now)))) (symbols_of declarator.entry.rest.now)) }
+    ensures node { Makes result next.old next.new specs.entry.tree.now.first (nodes.Specifier (nodes.TypeName (node_of specs.entry.tree.now) (nodes.present (node_of declarator.entry.tree.now)))) declarator.entry.rest.now }
     ensures ids { (next.old ≤ next.new) × (next.new ≤ next.old + 1) × (left result ≤ length declarator.entry.rest.now) }
 {
     let highest = specs.height.max(declarator.height);
     let kind = Kind::Specifier(Specifier::TypeName {
-        specs: keep(arena, specs.tree)?,
-        declarator: Some(keep(arena, declarator.tree)?),
+        specs: specs.tree,
+        declarator: Some(declarator.tree),
     });
-    node(kind, specs.tree.first, highest, declarator.rest, room, next)
+    node(
+        arena,
+        kind,
+        specs.tree.first,
+        highest,
+        declarator.rest,
+        room,
+        next,
+    )
 }
 
 /// The type name in front.

@@ -1,5 +1,5 @@
 -- A unit is read chunk by chunk.
-use Rattle.std.proofs.Common.{◌≡◌, ℕ, zero, suc, ◌+◌, ◌-◌, ◌≤◌, ◌<◌, ◌⊎◌, inl, inr, Bool, true, false, IsTrue, ◌↔◌, List, [], ◌∷◌, ◌++◌, drop, take, length, Option, Some, None, Result, Ok, Err, IfOk, IfErr, IsErrAnd, slice_get, refl, sym, ap, ◌∙◌, subst, arith}
+use Rattle.std.proofs.Common.{◌≡◌, ℕ, zero, suc, ◌+◌, ◌-◌, ◌≤◌, ◌<◌, ◌⊎◌, inl, inr, Bool, true, false, IsTrue, ◌↔◌, Bor, List, [], ◌∷◌, ◌++◌, drop, take, length, Option, Some, None, Result, Ok, Err, IfOk, IfErr, IsErrAnd, slice_get, refl, sym, ap, ◌∙◌, subst, arith}
 use Rattle.std.proofs.lemmas.Bool.{cases_lt}
 use Rattle.std.proofs.lemmas.List.{drop_all}
 use Rattle.c_tree.specs.declared.place.Place.{Place}
@@ -142,19 +142,19 @@ HasNone names ts = (e : Syntax) → IsParse names e ts → ⊥
 none : (names : Names) (ts : List Symbol) → ChunksAreRead → chunk names ts ≡ None → HasNone names ts
 none names ts reads w e p = let s : Some e ≡ None = sym ((reads names ts e).1 p) ∙ w in cc
 
-pub kept-parsed : (names : Names) (ts : List Symbol) (r : Read) (result : Result Tree ExprFault) → ChunksAreRead
-    → read_chunk (read_expressions 999) (read 999) 1000 names ts ≡ Some (view r.tree, symbols_of r.rest.now) → IfOk result (λ tree. (tree ≡ r.tree) × (length r.rest.now ≡ 0))
-    → IfOk result (λ tree. IsParse names (view tree) ts)
-kept-parsed names ts r (Ok tree) reads h k = subst (λ t. IsParse names (view t) ts) (sym k.0) ((reads names ts (view r.tree)).0 (chunk_ended names ts (view r.tree) r.rest.now k.1 h))
+pub kept-parsed : (names : Names) (ts : List Symbol) (r : Read) (result : Result (Bor Tree) ExprFault) → ChunksAreRead
+    → read_chunk (read_expressions 999) (read 999) 1000 names ts ≡ Some (view r.tree.now, symbols_of r.rest.now) → IfOk result (λ tree. (tree.now ≡ r.tree.now) × (length r.rest.now ≡ 0))
+    → IfOk result (λ tree. IsParse names (view tree.now) ts)
+kept-parsed names ts r (Ok tree) reads h k = subst (λ t. IsParse names (view t) ts) (sym k.0) ((reads names ts (view r.tree.now)).0 (chunk_ended names ts (view r.tree.now) r.rest.now k.1 h))
 kept-parsed names ts r (Err e) reads h k = tt
 
-pub left-refused : (names : Names) (ts : List Symbol) (r : Read) (result : Result Tree ExprFault) → ChunksAreRead
-    → read_chunk (read_expressions 999) (read 999) 1000 names ts ≡ Some (view r.tree, symbols_of r.rest.now) → IfErr result (λ fault. fault ≡ NoTree → 0 < length r.rest.now)
+pub left-refused : (names : Names) (ts : List Symbol) (r : Read) (result : Result (Bor Tree) ExprFault) → ChunksAreRead
+    → read_chunk (read_expressions 999) (read 999) 1000 names ts ≡ Some (view r.tree.now, symbols_of r.rest.now) → IfErr result (λ fault. fault ≡ NoTree → 0 < length r.rest.now)
     → IfErr result (λ fault. fault ≡ NoTree → HasNone names ts)
 left-refused names ts r (Ok tree) reads h k = tt
-left-refused names ts r (Err e) reads h k = λ n. none names ts reads (chunk_more names ts (view r.tree) r.rest.now (k n) h)
+left-refused names ts r (Err e) reads h k = λ n. none names ts reads (chunk_more names ts (view r.tree.now) r.rest.now (k n) h)
 
-pub fault-refused : (names : Names) (ts : List Symbol) (fault : ExprFault) (result : Result Tree ExprFault) → ChunksAreRead
+pub fault-refused : (names : Names) (ts : List Symbol) (fault : ExprFault) (result : Result (Bor Tree) ExprFault) → ChunksAreRead
     → (fault ≡ NoTree → read_chunk (read_expressions 999) (read 999) 1000 names ts ≡ None) → IsErrAnd result (λ e. e ≡ fault)
     → IfErr result (λ fault. fault ≡ NoTree → HasNone names ts)
 fault-refused names ts fault (Ok tree) reads h k = tt
@@ -164,13 +164,13 @@ empty : (ts : List Token) → length ts ≡ 0 → ts ≡ []
 empty [] h = refl
 empty (t ∷ ts) h = absurd (omega (arith, h))
 
-pub kept-stands : (low high : ℕ) (ts : List Token) (r : Read) (result : Result Tree ExprFault) → StandsOver (node_of r.tree) low high ts r.rest.now
-    → IfOk result (λ tree. (tree ≡ r.tree) × (length r.rest.now ≡ 0)) → IfOk result (λ tree. StandsOver (node_of tree) low high ts [])
-kept-stands low high ts r (Ok tree) s k = subst (λ t. StandsOver (node_of t) low high ts []) (sym k.0) (subst (λ us. StandsOver (node_of r.tree) low high ts us) (empty r.rest.now k.1) s)
+pub kept-stands : (low high : ℕ) (ts : List Token) (r : Read) (result : Result (Bor Tree) ExprFault) → StandsOver (node_of r.tree.now) low high ts r.rest.now
+    → IfOk result (λ tree. (tree.now ≡ r.tree.now) × (length r.rest.now ≡ 0)) → IfOk result (λ tree. StandsOver (node_of tree.now) low high ts [])
+kept-stands low high ts r (Ok tree) s k = subst (λ t. StandsOver (node_of t) low high ts []) (sym k.0) (subst (λ us. StandsOver (node_of r.tree.now) low high ts us) (empty r.rest.now k.1) s)
 kept-stands low high ts r (Err e) s k = tt
 
-pub kept-declared : (old new : Names) (r : Read) (result : Result Tree ExprFault) → new ≡ declared (view r.tree) old
-    → IfOk result (λ tree. (tree ≡ r.tree) × (length r.rest.now ≡ 0)) → IfOk result (λ tree. new ≡ declared (view tree) old)
+pub kept-declared : (old new : Names) (r : Read) (result : Result (Bor Tree) ExprFault) → new ≡ declared (view r.tree.now) old
+    → IfOk result (λ tree. (tree.now ≡ r.tree.now) × (length r.rest.now ≡ 0)) → IfOk result (λ tree. new ≡ declared (view tree.now) old)
 kept-declared old new r (Ok tree) h k = subst (λ t. new ≡ declared (view t) old) (sym k.0) h
 kept-declared old new r (Err e) h k = tt
 

@@ -34,8 +34,8 @@ named : (n : Node) (token : Token) (found : Option Token) (old new : ℕ) (ts : 
 named n token found old new ts f e h = rw (f, e, h) OfName
 
 pub name-stands : (r : Read) (token : Token) (found : Option Token) (old new : ℕ) (ts rest : List Token) → found ≡ Some token → IsMade r old new token.place (nodes.Primary (nodes.Ident token)) rest
-    → Stands (names found (node_of r.tree)) old new ts ts
-name-stands r token found old new ts rest f m = named (node_of r.tree) token found old new ts f m.0 m.1
+    → Stands (names found (node_of r.tree.now)) old new ts ts
+name-stands r token found old new ts rest f m = named (node_of r.tree.now) token found old new ts f m.0 m.1
 
 -- one more declarator, a comma, and the declarator behind it
 pub led-next : (all pushed : List Tree) (d item next : Tree) (low a b c : ℕ) (ts us vs ws rest : List Token) → pushed ≡ all ++ (item ∷ [])
@@ -78,14 +78,14 @@ function-stands result specs d body old middle new us rest m b low ts s =
 
 -- what a node that was made declares
 pub declares : (result : Result Read ExprFault) (old new : ℕ) (first : Place) (shape : Shape) (rest : List Token) (now before : Names) → Makes result old new first shape rest
-    → now ≡ declared (shape_syntax shape) before → IfOk result (λ r. now ≡ declared (view r.tree) before)
+    → now ≡ declared (shape_syntax shape) before → IfOk result (λ r. now ≡ declared (view r.tree.now) before)
 declares (Ok r) old new first shape rest now before m e = e ∙ sym (ap (λ x. declared x before) (ap syntax_of m.0))
 declares (Err x) old new first shape rest now before m e = tt
 
 -- what a declarator with its initial value declares
 pub initialized-declares : (result : Result Read ExprFault) (old new : ℕ) (first : Place) (name d e : Node) (rest : List Token) (type : Bool) (word : ℕ) (before inside now : Names)
     → Makes result old new first (nodes.Initializer (nodes.Init name d e)) rest → name_of (syntax_of d) ≡ Some word → inside ≡ with_name (declared_name (syntax_of d)) type before → now ≡ inside
-    → IfOk result (λ r. now ≡ with_name (declared_name (view r.tree)) type before)
+    → IfOk result (λ r. now ≡ with_name (declared_name (view r.tree.now)) type before)
 initialized-declares (Ok r) old new first name d e rest type word before inside now m h i k =
     k ∙ i ∙ ap (λ x. with_name x type before) (named-declared (syntax_of d) word h ∙ sym h ∙ sym (ap (λ n. declared_name (syntax_of n)) m.0))
 initialized-declares (Err x) old new first name d e rest type word before inside now m h i k = tt

@@ -89,6 +89,11 @@ initialized-lost (Err e) fault reader inner type names inside d word ts behind a
     let lost : read_initial reader inner ((word, type) ∷ names) behind ≡ None = sym (ap (λ x. read_initial reader inner x behind) (in_force d word type names inside h n)) ∙ l (sym i ∙ k) in
     rw (a, h, lost) refl
 
+-- a part is refused for want of memory alone
+pub part-refused : (result : Result Read ExprFault) (fault : ExprFault) (part : Found) (found : Option Found) → (fault ≡ NoTree → Some part ≡ None) → IsErrAnd result (λ e. e ≡ fault) → Gives result found
+part-refused (Ok r) fault part found l i = absurd i
+part-refused (Err e) fault part found l i = λ k. let apart : Some part ≡ None = l (sym i ∙ k) in cc
+
 both-declared : (type : Bool) (all : List Tree) (t : Tree) (names : Names) → with_declarators type (view_all (all ++ (t ∷ []))) names ≡ with_name (declared_name (view t)) type (with_declarators type (view_all all) names)
 both-declared type [] t names = refl
 both-declared type (a ∷ all) t names = both-declared type all t (with_name (declared_name (view a)) type names)

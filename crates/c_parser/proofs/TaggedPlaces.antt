@@ -1,5 +1,5 @@
 -- Where structures, unions, enumerations and members stand.
-use Rattle.std.proofs.Common.{ℕ, Bool, List, Option, None, Some}
+use Rattle.std.proofs.Common.{◌≡◌, ℕ, Bool, List, Option, None, Some, Result, sym, subst}
 use Rattle.c_tree.specs.declared.keyword.Keyword.{Keyword}
 use Rattle.c_tree.specs.declared.punctuator.Punctuator.TheVariants as marks
 use Rattle.c_tree.specs.declared.token.Token.{Token}
@@ -7,7 +7,9 @@ use Rattle.c_tree.specs.Symbol.{Sign, Reserved}
 use Rattle.c_tree.specs.Node.{Node, Nodes}
 use Rattle.c_grammar.specs.CPlaces.Lines.{sign, keyword, ◌⨾◌, line_of, row_line, list_line, comma_if, tag_if}
 use Rattle.c_grammar.specs.CPlaces.Stands.{Stands, OfNothing, OfBoth, StandsOver}
-use Rattle.c_expr.specs.Standing.{Passes, Keeps}
+use Rattle.c_expr.specs.declared.fault.ExprFault.{ExprFault}
+use Rattle.c_expr.specs.declared.nodes.Read.{Read}
+use Rattle.c_expr.specs.Standing.{Over, Passes, Keeps}
 use Rattle.c_parser.specs.Tags.{Opens}
 
 -- a brace with a tag before it or without one
@@ -31,3 +33,7 @@ enum-behind word tag ns comma low high ts us vs rest p o (OfBoth (OfBoth l k) c)
 -- declarators behind their specifiers
 pub list-behind : (specs : Node) (ns : Nodes) (low middle high : ℕ) (ts us rest : List Token) → StandsOver specs low middle ts us → Stands (list_line ns ⨾ sign marks.Semicolon) middle high us rest → Stands (line_of specs ⨾ list_line ns ⨾ sign marks.Semicolon) low high ts rest
 list-behind specs ns low middle high ts us rest s (OfBoth l c) = OfBoth (OfBoth s l) c
+
+-- what was read, over the same tokens
+pub stands-same : (r : Result Read ExprFault) (low high : ℕ) (ts us : List Token) → ts ≡ us → Over r low high us → Over r low high ts
+stands-same r low high ts us e s = subst (λ xs. Over r low high xs) (sym e) s

@@ -50,16 +50,16 @@ pub commas-start : (step : ℕ → Option (Syntaxes × Bool × List Symbol)) (al
 commas-start step all ts e = ap (λ l. commas_after l (step (length ts))) e ∙ none-behind (step (length ts)) ∙ ap step (as_long ts)
 
 -- what a node declares that was made
-pub made-declares : (r : Result Read ExprFault) (m : ℕ) (e : Syntax) (ts : List Symbol) (old new : Names) → Gives r (made m e ts) → new ≡ declared e old → IfOk r (λ x. new ≡ declared (view x.tree) old)
-made-declares (Ok x) m e ts old new g h = let q = made_some m e (view x.tree) ts (symbols_of x.rest.now) g.0 in h ∙ ap (λ y. declared y old) q.1
+pub made-declares : (r : Result Read ExprFault) (m : ℕ) (e : Syntax) (ts : List Symbol) (old new : Names) → Gives r (made m e ts) → new ≡ declared e old → IfOk r (λ x. new ≡ declared (view x.tree.now) old)
+made-declares (Ok x) m e ts old new g h = let q = made_some m e (view x.tree.now) ts (symbols_of x.rest.now) g.0 in h ∙ ap (λ y. declared y old) q.1
 made-declares (Err f) m e ts old new g h = tt
 
-pub made-adds : (r : Result Read ExprFault) (m : ℕ) (e s : Syntax) (ts : List Symbol) → Gives r (made m e ts) → ((before : Names) → declared e before ≡ declared s before) → IfOk r (λ x. (before : Names) → declared (view x.tree) before ≡ declared s before)
-made-adds (Ok x) m e s ts g h = let q = made_some m e (view x.tree) ts (symbols_of x.rest.now) g.0 in λ before. sym (ap (λ y. declared y before) q.1) ∙ h before
+pub made-adds : (r : Result Read ExprFault) (m : ℕ) (e s : Syntax) (ts : List Symbol) → Gives r (made m e ts) → ((before : Names) → declared e before ≡ declared s before) → IfOk r (λ x. (before : Names) → declared (view x.tree.now) before ≡ declared s before)
+made-adds (Ok x) m e s ts g h = let q = made_some m e (view x.tree.now) ts (symbols_of x.rest.now) g.0 in λ before. sym (ap (λ y. declared y before) q.1) ∙ h before
 made-adds (Err f) m e s ts g h = tt
 
 -- what a node declares as its specifiers do
-pub adds-declares : (r : Result Read ExprFault) (s : Syntax) (old middle new : Names) → IfOk r (λ x. (before : Names) → declared (view x.tree) before ≡ declared s before) → middle ≡ declared s old → new ≡ middle → IfOk r (λ x. new ≡ declared (view x.tree) old)
+pub adds-declares : (r : Result Read ExprFault) (s : Syntax) (old middle new : Names) → IfOk r (λ x. (before : Names) → declared (view x.tree.now) before ≡ declared s before) → middle ≡ declared s old → new ≡ middle → IfOk r (λ x. new ≡ declared (view x.tree.now) old)
 adds-declares (Ok x) s old middle new a h n = n ∙ h ∙ sym (a old)
 adds-declares (Err f) s old middle new a h n = tt
 

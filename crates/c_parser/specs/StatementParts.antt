@@ -16,5 +16,5 @@ done_by_maybe (Err e) = 0
 
 -- an expression in parentheses
 abbrev pub OverCondition : Result Read ExprFault → ℕ → ℕ → List Token → Type 0
-OverCondition (Ok r) low high ts = Stands (sign marks.OpenParen ⨾ line_of (node_of r.tree) ⨾ sign marks.CloseParen) low high ts r.rest.now
+OverCondition (Ok r) low high ts = Stands (sign marks.OpenParen ⨾ line_of (node_of r.tree.now) ⨾ sign marks.CloseParen) low high ts r.rest.now
 OverCondition (Err e) low high ts = Unit {0}

@@ -46,7 +46,7 @@ fn read_block_items<'a>(
         fuel -= 1;
         let declaration = declaration_in_front(arena, rest, names, room - 1, next)?;
         highest = declaration.height.max(highest);
-        all.push(declaration.tree)?;
+        all.push(*declaration.tree)?;
         rest = declaration.rest;
     }
     while fuel != 0 {
@@ -60,7 +60,7 @@ fn read_block_items<'a>(
         fuel -= 1;
         let statement = statement_in_front(arena, rest, names, room - 1, next)?;
         highest = statement.height.max(highest);
-        all.push(statement.tree)?;
+        all.push(*statement.tree)?;
         rest = statement.rest;
     }
     Err(ExprFault::NoTree)
@@ -87,7 +87,7 @@ pub(crate) fn read_block_rest<'a>(
     let read = read_block_items(arena, tokens, names, room, next);
     names.close();
     let items = read?;
-    block_of(first, items, room, next)
+    block_of(arena, first, items, room, next)
 }
 
 /// The block in front.

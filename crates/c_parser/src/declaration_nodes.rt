@@ -12,11 +12,12 @@ ghost use Rattle.c_expr.specs.Gives.{Gives, left};
 ghost use Rattle.c_expr.specs.Standing.{Makes};
 
 use crate::parts::ReadCommaList;
-use c_expr::{ExprFault, Read, ReadList, keep, node};
+use c_expr::{ExprFault, Read, ReadList, node};
 use c_tree::{Arena, Initializer, Kind, Outer, Place, Token};
 
 /// Initial values in braces (ISO 9899:1990, 6.5.7).
 pub(crate) fn braces_of<'a>(
+    arena: &'a Arena,
     first: Place,
     elements: ReadCommaList<'a>,
     room: u32,
@@ -32,7 +33,15 @@ pub(crate) fn braces_of<'a>(
         elements: elements.trees,
         comma: elements.comma,
     });
-    node(kind, first, elements.height, elements.rest, room, next)
+    node(
+        arena,
+        kind,
+        first,
+        elements.height,
+        elements.rest,
+        room,
+        next,
+    )
 }
 
 /// A declarator with its initial value; `name` is its declared name as an identifier (6.5.7).
@@ -44,21 +53,22 @@ pub(crate) fn init_of<'a>(
     room: u32,
     next: &mut u32,
 ) -> Result<Read<'a>, ExprFault>
-    requires name { name.height ≡ height_of (view name.tree) }
-    requires declarator { declarator.height ≡ height_of (view declarator.tree) }
-    requires initial { initial.height ≡ height_of (view initial.tree) }
+    requires name { name.height ≡ height_of (view name.tree.now) }
+    requires declarator { declarator.height ≡ height_of (view declarator.tree.now) }
+    requires initial { initial.height ≡ height_of (view initial.tree.now) }
     requires ids { next.old + 1 < 2 ^ 32 }
-    ensures found { Gives result (made room (kinds.Initializer (kinds.Init (view name.entry.tree) (view declarator.entry.tree) (view initial.entry.tree))) (symbols_of initial.entry.rest.now)) }
-    ensures node { Makes result next.old next.new declarator.entry.tree.first (nodes.Initializer (nodes.Init (node_of name.entry.tree) (node_of declarator.entry.tree) (node_of initial.entry.tree))) initial.entry.rest.now }
+    ensures found { Gives result (made room (kinds.Initializer (kinds.Init (view name.entry.tree.now) (view declarator.entry.tree.now) (view initial.entry.tree.now))) (symbols_of initial.entry.rest.now)) }
+    ensures node { Makes result next.old next.new declarator.entry.tree.now.first (nodes.Initializer (nodes.Init (node_of name.entry.tree.now) (node_of declarator.entry.tree.now) (node_of initial.entry.tree.now))) initial.entry.rest.now }
     ensures ids { (next.old ≤ next.new) × (next.new ≤ next.old + 1) × (left result ≤ length initial.entry.rest.now) }
 {
     let highest = name.height.max(declarator.height).max(initial.height);
     let kind = Kind::Initializer(Initializer::Init {
-        name: keep(arena, name.tree)?,
-        declarator: keep(arena, declarator.tree)?,
-        initial: keep(arena, initial.tree)?,
+        name: name.tree,
+        declarator: declarator.tree,
+        initial: initial.tree,
     });
     node(
+        arena,
         kind,
         declarator.tree.first,
         highest,
@@ -76,19 +86,20 @@ pub(crate) fn declaration_of<'a>(
     room: u32,
     next: &mut u32,
 ) -> Result<Read<'a>, ExprFault>
-    requires specs { specs.height ≡ height_of (view specs.tree) }
+    requires specs { specs.height ≡ height_of (view specs.tree.now) }
     requires declarators { declarators.height ≡ height_in (list_view declarators.trees) }
     requires ids { next.old + 1 < 2 ^ 32 }
-    ensures found { Gives result (made room (kinds.Outer (kinds.Declaration (view specs.entry.tree) (list_view declarators.entry.trees))) (symbols_of declarators.entry.rest.now)) }
-    ensures node { Makes result next.old next.new specs.entry.tree.first (nodes.Outer (nodes.Declaration (node_of specs.entry.tree) (nodes_of declarators.entry.trees))) declarators.entry.rest.now }
+    ensures found { Gives result (made room (kinds.Outer (kinds.Declaration (view specs.entry.tree.now) (list_view declarators.entry.trees))) (symbols_of declarators.entry.rest.now)) }
+    ensures node { Makes result next.old next.new specs.entry.tree.now.first (nodes.Outer (nodes.Declaration (node_of specs.entry.tree.now) (nodes_of declarators.entry.trees))) declarators.entry.rest.now }
     ensures ids { (next.old ≤ next.new) × (next.new ≤ next.old + 1) × (left result ≤ length declarators.entry.rest.now) }
 {
     let highest = specs.height.max(declarators.height);
     let kind = Kind::Outer(Outer::Declaration {
-        specs: keep(arena, specs.tree)?,
+        specs: specs.tree,
         declarators: declarators.trees,
     });
     node(
+        arena,
         kind,
         specs.tree.first,
         highest,
@@ -107,25 +118,34 @@ pub(crate) fn function_of<'a>(
     room: u32,
     next: &mut u32,
 ) -> Result<Read<'a>, ExprFault>
-    requires specs { specs.height ≡ height_of (view specs.tree) }
-    requires declarator { declarator.height ≡ height_of (view declarator.tree) }
-    requires body { body.height ≡ height_of (view body.tree) }
+    requires specs { specs.height ≡ height_of (view specs.tree.now) }
+    requires declarator { declarator.height ≡ height_of (view declarator.tree.now) }
+    requires body { body.height ≡ height_of (view body.tree.now) }
     requires ids { next.old + 1 < 2 ^ 32 }
-    ensures found { Gives result (made room (kinds.Outer (kinds.Function (view specs.entry.tree) (view declarator.entry.tree) (view body.entry.tree))) (symbols_of body.entry.rest.now)) }
-    ensures node { Makes result next.old next.new specs.entry.tree.first (nodes.Outer (nodes.Function (node_of specs.entry.tree) (node_of declarator.entry.tree) (node_of body.entry.tree))) body.entry.rest.now }
+    ensures found { Gives result (made room (kinds.Outer (kinds.Function (view specs.entry.tree.now) (view declarator.entry.tree.now) (view body.entry.tree.now))) (symbols_of body.entry.rest.now)) }
+    ensures node { Makes result next.old next.new specs.entry.tree.now.first (nodes.Outer (nodes.Function (node_of specs.entry.tree.now) (node_of declarator.entry.tree.now) (node_of body.entry.tree.now))) body.entry.rest.now }
     ensures ids { (next.old ≤ next.new) × (next.new ≤ next.old + 1) × (left result ≤ length body.entry.rest.now) }
 {
     let highest = specs.height.max(declarator.height).max(body.height);
     let kind = Kind::Outer(Outer::Function {
-        specs: keep(arena, specs.tree)?,
-        declarator: keep(arena, declarator.tree)?,
-        body: keep(arena, body.tree)?,
+        specs: specs.tree,
+        declarator: declarator.tree,
+        body: body.tree,
     });
-    node(kind, specs.tree.first, highest, body.rest, room, next)
+    node(
+        arena,
+        kind,
+        specs.tree.first,
+        highest,
+        body.rest,
+        room,
+        next,
+    )
 }
 
 /// A lone `;` (6.7).
 pub(crate) fn empty_of<'a>(
+    arena: &'a Arena,
     first: Place,
     rest: &'a [Token],
     room: u32,
@@ -136,5 +156,5 @@ pub(crate) fn empty_of<'a>(
     ensures node { Makes result next.old next.new first (nodes.Outer nodes.Empty) rest.now }
     ensures ids { (next.old ≤ next.new) × (next.new ≤ next.old + 1) × (left result ≤ length rest.now) }
 {
-    node(Kind::Outer(Outer::Empty), first, 0, rest, room, next)
+    node(arena, Kind::Outer(Outer::Empty), first, 0, rest, room, next)
 }

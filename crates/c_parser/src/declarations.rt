@@ -36,10 +36,10 @@ pub(crate) fn bare_declaration_of<'a>(
     room: u32,
     next: &mut u32,
 ) -> Result<Read<'a>, ExprFault>
-    requires specs { specs.height ≡ height_of (view specs.tree) }
+    requires specs { specs.height ≡ height_of (view specs.tree.now) }
     requires ids { next.old + 1 < 2 ^ 32 }
-    ensures found { Gives result (made room (kinds.Outer (kinds.Declaration (view specs.entry.tree) kinds.no_more)) (symbols_of rest.now)) }
-    ensures node { Makes result next.old next.new specs.entry.tree.first (nodes.Outer (nodes.Declaration (node_of specs.entry.tree) nodes.no_more)) rest.now }
+    ensures found { Gives result (made room (kinds.Outer (kinds.Declaration (view specs.entry.tree.now) kinds.no_more)) (symbols_of rest.now)) }
+    ensures node { Makes result next.old next.new specs.entry.tree.now.first (nodes.Outer (nodes.Declaration (node_of specs.entry.tree.now) nodes.no_more)) rest.now }
     ensures ids { (next.old ≤ next.new) × (next.new ≤ next.old + 1) × (left result ≤ length rest.now) }
 {
     let none = ReadList {
@@ -60,17 +60,17 @@ pub(crate) fn read_declaration_rest<'a>(
     next: &mut u32,
 ) -> Result<Read<'a>, ExprFault>
     requires positive { 0 < room }
-    requires specs { specs.height ≡ height_of (view specs.tree) }
-    requires declarator { declarator.height ≡ height_of (view declarator.tree) }
+    requires specs { specs.height ≡ height_of (view specs.tree.now) }
+    requires declarator { declarator.height ≡ height_of (view declarator.tree.now) }
     requires low { declarator.height < room }
     requires ids { next.old + 16 * length declarator.rest.now + 1 < 2 ^ 32 }
-    ensures found { Gives result (steps.read_declaration_rest (read_expressions (room - 1)) (read (room - 1)) room names.old.now (view specs.entry.tree) (view declarator.entry.tree) (symbols_of declarator.entry.rest.now)) }
-    ensures stands { OverBoth result (node_of specs.entry.tree) (node_of declarator.entry.tree) next.old next.new declarator.entry.rest.now }
-    ensures now { (before : Names) → names.old.now ≡ declared (view specs.entry.tree) before → IfOk result (λ r. names.new.now ≡ declared (view r.tree) before) }
+    ensures found { Gives result (steps.read_declaration_rest (read_expressions (room - 1)) (read (room - 1)) room names.old.now (view specs.entry.tree.now) (view declarator.entry.tree.now) (symbols_of declarator.entry.rest.now)) }
+    ensures stands { OverBoth result (node_of specs.entry.tree.now) (node_of declarator.entry.tree.now) next.old next.new declarator.entry.rest.now }
+    ensures now { (before : Names) → names.old.now ≡ declared (view specs.entry.tree.now) before → IfOk result (λ r. names.new.now ≡ declared (view r.tree.now) before) }
     ensures saved { names.new.saved ≡ names.old.saved }
     ensures ids { (next.old ≤ next.new) × (next.new + 16 * left result ≤ next.old + 16 * length declarator.entry.rest.now + 1) }
 {
-    let is_type = makes_types(&specs.tree);
+    let is_type = makes_types(specs.tree);
     let declarators = read_init_declarators(arena, declarator, is_type, names, room, next)?;
     declaration_of(arena, specs, declarators, room, next)
 }
@@ -87,7 +87,7 @@ pub(crate) fn declaration_in_front<'a>(
     requires ids { next.old + 16 * length tokens.now < 2 ^ 32 }
     ensures found { Gives result (read room BlockDeclaration names.old.now (symbols_of tokens.now)) }
     ensures stands { Over result next.old next.new tokens.now }
-    ensures now { IfOk result (λ r. names.new.now ≡ declared (view r.tree) names.old.now) }
+    ensures now { IfOk result (λ r. names.new.now ≡ declared (view r.tree.now) names.old.now) }
     ensures saved { names.new.saved ≡ names.old.saved }
     ensures ids { Spends next.old next.new (length tokens.now) (left result) }
 {

@@ -81,24 +81,24 @@ fn read_function<'a>(
     next: &mut u32,
 ) -> Result<Read<'a>, ExprFault>
     requires positive { 0 < room }
-    requires specs { specs.height ≡ height_of (view specs.tree) }
-    requires declarator { declarator.height ≡ height_of (view declarator.tree) }
+    requires specs { specs.height ≡ height_of (view specs.tree.now) }
+    requires declarator { declarator.height ≡ height_of (view declarator.tree.now) }
     requires ids { next.old + 16 * length declarator.rest.now + 1 < 2 ^ 32 }
-    ensures found { Gives result (steps.read_function (read (room - 1)) room names.old.now (view specs.entry.tree) (view declarator.entry.tree) (symbols_of declarator.entry.rest.now)) }
-    ensures stands { OverBoth result (node_of specs.entry.tree) (node_of declarator.entry.tree) next.old next.new declarator.entry.rest.now }
-    ensures now { (before : Names) → names.old.now ≡ declared (view specs.entry.tree) before → IfOk result (λ r. names.new.now ≡ declared (view r.tree) before) }
+    ensures found { Gives result (steps.read_function (read (room - 1)) room names.old.now (view specs.entry.tree.now) (view declarator.entry.tree.now) (symbols_of declarator.entry.rest.now)) }
+    ensures stands { OverBoth result (node_of specs.entry.tree.now) (node_of declarator.entry.tree.now) next.old next.new declarator.entry.rest.now }
+    ensures now { (before : Names) → names.old.now ≡ declared (view specs.entry.tree.now) before → IfOk result (λ r. names.new.now ≡ declared (view r.tree.now) before) }
     ensures saved { names.new.saved ≡ names.old.saved }
     ensures ids { (next.old ≤ next.new) × (next.new + 16 * left result ≤ next.old + 16 * length declarator.entry.rest.now + 1) }
 {
-    if !may_define(&specs.tree) {
+    if !may_define(specs.tree) {
         return Err(ExprFault::NoTree);
     }
-    let Some(params) = params_of(&declarator.tree) else {
+    let Some(params) = params_of(declarator.tree) else {
         return Err(ExprFault::NoTree);
     };
-    declare(names, name_of(&declarator.tree), false)?;
+    declare(names, name_of(declarator.tree), false)?;
     let body = read_body(arena, params, declarator.rest, names, room - 1, next)?;
-    if !is_controlled(alloc, &body.tree)? {
+    if !is_controlled(alloc, body.tree)? {
         return Err(ExprFault::NoTree);
     }
     function_of(arena, specs, declarator, body, room, next)
@@ -115,13 +115,13 @@ fn read_definition<'a>(
     next: &mut u32,
 ) -> Result<Read<'a>, ExprFault>
     requires positive { 0 < room }
-    requires specs { specs.height ≡ height_of (view specs.tree) }
-    requires declarator { declarator.height ≡ height_of (view declarator.tree) }
+    requires specs { specs.height ≡ height_of (view specs.tree.now) }
+    requires declarator { declarator.height ≡ height_of (view declarator.tree.now) }
     requires low { declarator.height < room }
     requires ids { next.old + 16 * length declarator.rest.now + 1 < 2 ^ 32 }
-    ensures found { Gives result (steps.read_definition (read_expressions (room - 1)) (read (room - 1)) room names.old.now (view specs.entry.tree) (view declarator.entry.tree) (symbols_of declarator.entry.rest.now)) }
-    ensures stands { OverBoth result (node_of specs.entry.tree) (node_of declarator.entry.tree) next.old next.new declarator.entry.rest.now }
-    ensures now { (before : Names) → names.old.now ≡ declared (view specs.entry.tree) before → IfOk result (λ r. names.new.now ≡ declared (view r.tree) before) }
+    ensures found { Gives result (steps.read_definition (read_expressions (room - 1)) (read (room - 1)) room names.old.now (view specs.entry.tree.now) (view declarator.entry.tree.now) (symbols_of declarator.entry.rest.now)) }
+    ensures stands { OverBoth result (node_of specs.entry.tree.now) (node_of declarator.entry.tree.now) next.old next.new declarator.entry.rest.now }
+    ensures now { (before : Names) → names.old.now ≡ declared (view specs.entry.tree.now) before → IfOk result (λ r. names.new.now ≡ declared (view r.tree.now) before) }
     ensures saved { names.new.saved ≡ names.old.saved }
     ensures ids { (next.old ≤ next.new) × (next.new + 16 * left result ≤ next.old + 16 * length declarator.entry.rest.now + 1) }
 {
@@ -144,12 +144,12 @@ pub(crate) fn read_chunk<'a>(
     requires ids { next.old + 16 * length tokens.now < 2 ^ 32 }
     ensures found { Gives result (steps.read_chunk (read_expressions (room - 1)) (read (room - 1)) room names.old.now (symbols_of tokens.now)) }
     ensures stands { Over result next.old next.new tokens.now }
-    ensures now { IfOk result (λ r. names.new.now ≡ declared (view r.tree) names.old.now) }
+    ensures now { IfOk result (λ r. names.new.now ≡ declared (view r.tree.now) names.old.now) }
     ensures saved { names.new.saved ≡ names.old.saved }
     ensures ids { Spends next.old next.new (length tokens.now) (left result) }
 {
     if let Some(rest) = after_sign(Punctuator::Semicolon, tokens) {
-        return empty_of(place_of(tokens), rest, room, next);
+        return empty_of(arena, place_of(tokens), rest, room, next);
     }
     let place = SpecifierPlace::InDeclaration;
     let specs = specifiers_in_front(arena, place, tokens, names, room - 1, next)?;

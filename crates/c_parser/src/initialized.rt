@@ -66,24 +66,24 @@ pub(crate) fn read_initialized<'a>(
     next: &mut u32,
 ) -> Result<Read<'a>, ExprFault>
     requires positive { 0 < room }
-    requires height { declarator.height ≡ height_of (view declarator.tree) }
+    requires height { declarator.height ≡ height_of (view declarator.tree.now) }
     requires low { declarator.height < room }
     requires ids { next.old + 16 * length declarator.rest.now < 2 ^ 32 }
-    ensures found { Gives result (steps.read_initialized (read_expressions (room - 1)) (read (room - 1)) is_type names.old.now (view declarator.entry.tree) (symbols_of declarator.entry.rest.now)) }
-    ensures stands { OverBehind result (node_of declarator.entry.tree) next.old next.new declarator.entry.rest.now }
-    ensures now { IfOk result (λ r. names.new.now ≡ with_name (declared_name (view r.tree)) is_type names.old.now) }
+    ensures found { Gives result (steps.read_initialized (read_expressions (room - 1)) (read (room - 1)) is_type names.old.now (view declarator.entry.tree.now) (symbols_of declarator.entry.rest.now)) }
+    ensures stands { OverBehind result (node_of declarator.entry.tree.now) next.old next.new declarator.entry.rest.now }
+    ensures now { IfOk result (λ r. names.new.now ≡ with_name (declared_name (view r.tree.now)) is_type names.old.now) }
     ensures saved { names.new.saved ≡ names.old.saved }
     ensures ids { Spends next.old next.new (length declarator.entry.rest.now) (left result) }
 {
-    declare(names, declared_name(&declarator.tree), is_type)?;
+    declare(names, declared_name(declarator.tree), is_type)?;
     let Some(rest) = after_sign(Punctuator::Assign, declarator.rest) else {
         return Ok(declarator);
     };
-    let Some(token) = declared_word(&declarator.tree) else {
+    let Some(token) = declared_word(declarator.tree) else {
         return Err(ExprFault::NoTree);
     };
     let kind = Kind::Primary(Primary::Ident { name: token });
-    let name = part(kind, token.place, 1, rest, next);
+    let name = part(arena, kind, token.place, 1, rest, next)?;
     let initial = read_initial(arena, rest, names, room, next)?;
     init_of(arena, name, declarator, initial, room, next)
 }
@@ -99,11 +99,11 @@ pub(crate) fn read_init_declarators<'a>(
     next: &mut u32,
 ) -> Result<ReadList<'a>, ExprFault>
     requires positive { 0 < room }
-    requires height { first.height ≡ height_of (view first.tree) }
+    requires height { first.height ≡ height_of (view first.tree.now) }
     requires low { first.height < room }
     requires ids { next.old + 16 * length first.rest.now < 2 ^ 32 }
-    ensures found { GivesList result (steps.read_init_declarators (read_expressions (room - 1)) (read (room - 1)) is_type names.old.now (length (symbols_of first.entry.rest.now)) (view first.entry.tree) (symbols_of first.entry.rest.now)) }
-    ensures stands { (low : ℕ) (ts : List Token) → StandsOver (node_of first.entry.tree) low next.old ts first.entry.rest.now → OverListUpTo result marks.Semicolon low next.new ts }
+    ensures found { GivesList result (steps.read_init_declarators (read_expressions (room - 1)) (read (room - 1)) is_type names.old.now (length (symbols_of first.entry.rest.now)) (view first.entry.tree.now) (symbols_of first.entry.rest.now)) }
+    ensures stands { (low : ℕ) (ts : List Token) → StandsOver (node_of first.entry.tree.now) low next.old ts first.entry.rest.now → OverListUpTo result marks.Semicolon low next.new ts }
     ensures now { IfOk result (λ r. names.new.now ≡ with_declarators is_type (list_view r.trees) names.old.now) }
     ensures saved { names.new.saved ≡ names.old.saved }
     ensures ids { Spends next.old next.new (length first.entry.rest.now) (left_by_list result) }
@@ -116,7 +116,7 @@ pub(crate) fn read_init_declarators<'a>(
         fuel -= 1;
         let item = read_initialized(arena, declarator, is_type, names, room, next)?;
         highest = item.height.max(highest);
-        all.push(item.tree)?;
+        all.push(*item.tree)?;
         let Some(after) = after_sign(Punctuator::Comma, item.rest) else {
             let Some(end) = after_sign(Punctuator::Semicolon, item.rest) else {
                 return Err(ExprFault::NoTree);

@@ -66,7 +66,7 @@ fn read_initials<'a>(
         fuel -= 1;
         let element = read_initial(arena, rest, names, room, next)?;
         highest = element.height.max(highest);
-        all.push(element.tree)?;
+        all.push(*element.tree)?;
         let Some(after) = after_sign(Punctuator::Comma, element.rest) else {
             let Some(end) = after_sign(Punctuator::CloseBrace, element.rest) else {
                 return Err(ExprFault::NoTree);
@@ -120,8 +120,8 @@ pub(crate) fn braces_in_front<'a>(
             rest,
             height: 0,
         };
-        return braces_of(place_of(tokens), none, room, next);
+        return braces_of(arena, place_of(tokens), none, room, next);
     }
     let elements = read_initials(arena, inside, names, room, next)?;
-    braces_of(place_of(tokens), elements, room, next)
+    braces_of(arena, place_of(tokens), elements, room, next)
 }

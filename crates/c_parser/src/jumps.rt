@@ -16,6 +16,7 @@ use c_tree::{Arena, Jump, Kind, Place, Punctuator, Token};
 
 /// What follows `goto` (6.6.6.1).
 pub(crate) fn read_goto<'a>(
+    arena: &'a Arena,
     first: Place,
     tokens: &'a [Token],
     room: u32,
@@ -32,11 +33,13 @@ pub(crate) fn read_goto<'a>(
     let Some(rest) = after_sign(Punctuator::Semicolon, end) else {
         return Err(ExprFault::NoTree);
     };
-    node(Kind::Jump(Jump::Goto { label }), first, 0, rest, room, next)
+    let kind = Kind::Jump(Jump::Goto { label });
+    node(arena, kind, first, 0, rest, room, next)
 }
 
 /// What follows `continue` (6.6.6.2).
 pub(crate) fn read_continue<'a>(
+    arena: &'a Arena,
     first: Place,
     tokens: &'a [Token],
     room: u32,
@@ -50,11 +53,13 @@ pub(crate) fn read_continue<'a>(
     let Some(rest) = after_sign(Punctuator::Semicolon, tokens) else {
         return Err(ExprFault::NoTree);
     };
-    node(Kind::Jump(Jump::Continue), first, 0, rest, room, next)
+    let kind = Kind::Jump(Jump::Continue);
+    node(arena, kind, first, 0, rest, room, next)
 }
 
 /// What follows `break` (6.6.6.3).
 pub(crate) fn read_break<'a>(
+    arena: &'a Arena,
     first: Place,
     tokens: &'a [Token],
     room: u32,
@@ -68,7 +73,8 @@ pub(crate) fn read_break<'a>(
     let Some(rest) = after_sign(Punctuator::Semicolon, tokens) else {
         return Err(ExprFault::NoTree);
     };
-    node(Kind::Jump(Jump::Break), first, 0, rest, room, next)
+    let kind = Kind::Jump(Jump::Break);
+    node(arena, kind, first, 0, rest, room, next)
 }
 
 /// What follows `return` (6.6.6.4).
@@ -88,5 +94,5 @@ pub(crate) fn read_return<'a>(
     ensures ids { Spends next.old next.new (length tokens.now) (left result) }
 {
     let value = read_maybe_expression(arena, Punctuator::Semicolon, tokens, names, room, next)?;
-    return_of(first, value, room, next)
+    return_of(arena, first, value, room, next)
 }

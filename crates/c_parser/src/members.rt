@@ -116,7 +116,7 @@ fn read_member_declarators<'a>(
         fuel -= 1;
         let member = read_member_declarator(arena, rest, names, room, next)?;
         highest = member.height.max(highest);
-        all.push(member.tree)?;
+        all.push(*member.tree)?;
         let Some(others) = after_sign(Punctuator::Comma, member.rest) else {
             let Some(end) = after_sign(Punctuator::Semicolon, member.rest) else {
                 return Err(ExprFault::NoTree);
@@ -141,16 +141,16 @@ fn read_declared_members<'a>(
     next: &mut u32,
 ) -> Result<Read<'a>, ExprFault>
     requires positive { 0 < room }
-    requires height { specs.height ≡ height_of (view specs.tree) }
+    requires height { specs.height ≡ height_of (view specs.tree.now) }
     requires ids { next.old + 16 * length specs.rest.now + 1 < 2 ^ 32 }
-    ensures found { Gives result (steps.read_declared_members (read_expressions (room - 1)) room names.old.now (view specs.entry.tree) (symbols_of specs.entry.rest.now)) }
-    ensures stands { OverBehind result (node_of specs.entry.tree) next.old next.new specs.entry.rest.now }
-    ensures adds { IfOk result (λ r. (before : Names) → declared (view r.tree) before ≡ declared (view specs.entry.tree) before) }
+    ensures found { Gives result (steps.read_declared_members (read_expressions (room - 1)) room names.old.now (view specs.entry.tree.now) (symbols_of specs.entry.rest.now)) }
+    ensures stands { OverBehind result (node_of specs.entry.tree.now) next.old next.new specs.entry.rest.now }
+    ensures adds { IfOk result (λ r. (before : Names) → declared (view r.tree.now) before ≡ declared (view specs.entry.tree.now) before) }
     ensures names { AsBefore names.new names.old }
     ensures ids { (next.old ≤ next.new) × (next.new + 16 * left result ≤ next.old + 16 * length specs.entry.rest.now + 1) }
 {
     if let Some(rest) = after_sign(Punctuator::Semicolon, specs.rest) {
-        if !makes_members(&specs.tree) {
+        if !makes_members(specs.tree) {
             return Err(ExprFault::NoTree);
         }
         let none = ReadList {
@@ -177,7 +177,7 @@ pub(crate) fn member_in_front<'a>(
     requires ids { next.old + 16 * length tokens.now < 2 ^ 32 }
     ensures found { Gives result (read room StructMember names.old.now (symbols_of tokens.now)) }
     ensures stands { Over result next.old next.new tokens.now }
-    ensures now { IfOk result (λ r. names.new.now ≡ declared (view r.tree) names.old.now) }
+    ensures now { IfOk result (λ r. names.new.now ≡ declared (view r.tree.now) names.old.now) }
     ensures saved { names.new.saved ≡ names.old.saved }
     ensures ids { Spends next.old next.new (length tokens.now) (left result) }
 {
@@ -185,14 +185,8 @@ pub(crate) fn member_in_front<'a>(
         return Err(ExprFault::NoTree);
     }
     if let Some(rest) = after_sign(Punctuator::Semicolon, tokens) {
-        return node(
-            Kind::Outer(Outer::Empty),
-            place_of(tokens),
-            0,
-            rest,
-            room,
-            next,
-        );
+        let kind = Kind::Outer(Outer::Empty);
+        return node(arena, kind, place_of(tokens), 0, rest, room, next);
     }
     let place = SpecifierPlace::InTypeName;
     let specs = specifiers_in_front(arena, place, tokens, names, room - 1, next)?;

@@ -65,20 +65,15 @@ fn read_item<'a>(
     requires ids { next.old + 16 * length tokens.now < 2 ^ 32 }
     ensures found { Gives result (steps.read_item (read (room - 1) TaggedType names.old.now) (symbol_of front.now) (symbols_of behind.now)) }
     ensures stands { Over result next.old next.new tokens.now }
-    ensures now { IfOk result (λ r. names.new.now ≡ declared (view r.tree) names.old.now) }
+    ensures now { IfOk result (λ r. names.new.now ≡ declared (view r.tree.now) names.old.now) }
     ensures saved { names.new.saved ≡ names.old.saved }
     ensures ids { (next.old ≤ next.new) × (next.new + 16 * left result + 15 * done result ≤ next.old + 16 * length tokens.now) }
 {
     if begins_tag(front) {
         return tagged_in_front(arena, tokens, names, room - 1, next);
     }
-    Ok(part(
-        Kind::Part(Part::SpecWord { word: front }),
-        front.place,
-        0,
-        behind,
-        next,
-    ))
+    let kind = Kind::Part(Part::SpecWord { word: front });
+    part(arena, kind, front.place, 0, behind, next)
 }
 
 /// One specifier after the other, as long as the next token goes on with them. No structure, union or enumeration stands behind
@@ -114,9 +109,9 @@ fn read_items<'a>(
         }
         fuel -= 1;
         let item = read_item(arena, front, behind, rest, names, room, next)?;
-        typed |= says_type(&item.tree);
+        typed |= says_type(item.tree);
         highest = item.height.max(highest);
-        all.push(item.tree)?;
+        all.push(*item.tree)?;
         rest = item.rest;
     }
     Ok(ReadList {
@@ -140,7 +135,7 @@ pub(crate) fn specifiers_in_front<'a>(
     requires ids { next.old + 16 * length tokens.now < 2 ^ 32 }
     ensures found { Gives result (read room (SpecifiersIn (place_of place)) names.old.now (symbols_of tokens.now)) }
     ensures stands { Over result next.old next.new tokens.now }
-    ensures now { IfOk result (λ r. names.new.now ≡ declared (view r.tree) names.old.now) }
+    ensures now { IfOk result (λ r. names.new.now ≡ declared (view r.tree.now) names.old.now) }
     ensures saved { names.new.saved ≡ names.old.saved }
     ensures ids { (next.old ≤ next.new) × (next.new + 16 * left result + 8 * done result ≤ next.old + 16 * length tokens.now) }
 {
@@ -152,5 +147,13 @@ pub(crate) fn specifiers_in_front<'a>(
         return Err(ExprFault::NoTree);
     }
     let kind = Kind::Specifier(Specifier::Specs { items: items.trees });
-    node(kind, place_of(tokens), items.height, items.rest, room, next)
+    node(
+        arena,
+        kind,
+        place_of(tokens),
+        items.height,
+        items.rest,
+        room,
+        next,
+    )
 }

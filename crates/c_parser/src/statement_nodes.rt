@@ -12,11 +12,12 @@ ghost use Rattle.c_expr.specs.Standing.{Makes};
 ghost use Rattle.c_expr.specs.Gives.{Gives, left};
 
 use crate::parts::MaybeRead;
-use c_expr::{ExprFault, Read, ReadList, keep, node};
+use c_expr::{ExprFault, Read, ReadList, node};
 use c_tree::{Arena, Iteration, Jump, Kind, Place, Statement, Token};
 
 /// `{ items }`, with its last brace (6.6.2).
 pub(crate) fn block_of<'a>(
+    arena: &'a Arena,
     first: Place,
     items: ReadList<'a>,
     room: u32,
@@ -29,11 +30,12 @@ pub(crate) fn block_of<'a>(
     ensures ids { (next.old ≤ next.new) × (next.new ≤ next.old + 1) × (left result ≤ length items.entry.rest.now) }
 {
     let kind = Kind::Statement(Statement::Block { items: items.trees });
-    node(kind, first, items.height, items.rest, room, next)
+    node(arena, kind, first, items.height, items.rest, room, next)
 }
 
 /// `value;` or `;` (6.6.3).
 pub(crate) fn expression_statement_of<'a>(
+    arena: &'a Arena,
     first: Place,
     value: MaybeRead<'a>,
     room: u32,
@@ -46,7 +48,7 @@ pub(crate) fn expression_statement_of<'a>(
     ensures ids { (next.old ≤ next.new) × (next.new ≤ next.old + 1) × (left result ≤ length value.entry.rest.now) }
 {
     let kind = Kind::Statement(Statement::ExprStmt { value: value.tree });
-    node(kind, first, value.height, value.rest, room, next)
+    node(arena, kind, first, value.height, value.rest, room, next)
 }
 
 /// `if (condition) then` (6.6.4.1).
@@ -58,20 +60,20 @@ pub(crate) fn if_of<'a>(
     room: u32,
     next: &mut u32,
 ) -> Result<Read<'a>, ExprFault>
-    requires condition { condition.height ≡ height_of (view condition.tree) }
-    requires then { then.height ≡ height_of (view then.tree) }
+    requires condition { condition.height ≡ height_of (view condition.tree.now) }
+    requires then { then.height ≡ height_of (view then.tree.now) }
     requires ids { next.old + 1 < 2 ^ 32 }
-    ensures found { Gives result (made room (kinds.Statement (kinds.If (view condition.entry.tree) (view then.entry.tree) kinds.absent)) (symbols_of then.entry.rest.now)) }
-    ensures node { Makes result next.old next.new first (nodes.Statement (nodes.If (node_of condition.entry.tree) (node_of then.entry.tree) nodes.absent)) then.entry.rest.now }
+    ensures found { Gives result (made room (kinds.Statement (kinds.If (view condition.entry.tree.now) (view then.entry.tree.now) kinds.absent)) (symbols_of then.entry.rest.now)) }
+    ensures node { Makes result next.old next.new first (nodes.Statement (nodes.If (node_of condition.entry.tree.now) (node_of then.entry.tree.now) nodes.absent)) then.entry.rest.now }
     ensures ids { (next.old ≤ next.new) × (next.new ≤ next.old + 1) × (left result ≤ length then.entry.rest.now) }
 {
     let highest = condition.height.max(then.height);
     let kind = Kind::Statement(Statement::If {
-        condition: keep(arena, condition.tree)?,
-        then: keep(arena, then.tree)?,
+        condition: condition.tree,
+        then: then.tree,
         otherwise: None,
     });
-    node(kind, first, highest, then.rest, room, next)
+    node(arena, kind, first, highest, then.rest, room, next)
 }
 
 /// `if (condition) then else otherwise` (6.6.4.1).
@@ -84,21 +86,21 @@ pub(crate) fn if_else_of<'a>(
     room: u32,
     next: &mut u32,
 ) -> Result<Read<'a>, ExprFault>
-    requires condition { condition.height ≡ height_of (view condition.tree) }
-    requires then { then.height ≡ height_of (view then.tree) }
-    requires otherwise { otherwise.height ≡ height_of (view otherwise.tree) }
+    requires condition { condition.height ≡ height_of (view condition.tree.now) }
+    requires then { then.height ≡ height_of (view then.tree.now) }
+    requires otherwise { otherwise.height ≡ height_of (view otherwise.tree.now) }
     requires ids { next.old + 1 < 2 ^ 32 }
-    ensures found { Gives result (made room (kinds.Statement (kinds.If (view condition.entry.tree) (view then.entry.tree) (kinds.present (view otherwise.entry.tree)))) (symbols_of otherwise.entry.rest.now)) }
-    ensures node { Makes result next.old next.new first (nodes.Statement (nodes.If (node_of condition.entry.tree) (node_of then.entry.tree) (nodes.present (node_of otherwise.entry.tree)))) otherwise.entry.rest.now }
+    ensures found { Gives result (made room (kinds.Statement (kinds.If (view condition.entry.tree.now) (view then.entry.tree.now) (kinds.present (view otherwise.entry.tree.now)))) (symbols_of otherwise.entry.rest.now)) }
+    ensures node { Makes result next.old next.new first (nodes.Statement (nodes.If (node_of condition.entry.tree.now) (node_of then.entry.tree.now) (nodes.present (node_of otherwise.entry.tree.now)))) otherwise.entry.rest.now }
     ensures ids { (next.old ≤ next.new) × (next.new ≤ next.old + 1) × (left result ≤ length otherwise.entry.rest.now) }
 {
     let highest = condition.height.max(then.height).max(otherwise.height);
     let kind = Kind::Statement(Statement::If {
-        condition: keep(arena, condition.tree)?,
-        then: keep(arena, then.tree)?,
-        otherwise: Some(keep(arena, otherwise.tree)?),
+        condition: condition.tree,
+        then: then.tree,
+        otherwise: Some(otherwise.tree),
     });
-    node(kind, first, highest, otherwise.rest, room, next)
+    node(arena, kind, first, highest, otherwise.rest, room, next)
 }
 
 /// `switch (value) body` (6.6.4.2).
@@ -110,19 +112,19 @@ pub(crate) fn switch_of<'a>(
     room: u32,
     next: &mut u32,
 ) -> Result<Read<'a>, ExprFault>
-    requires value { value.height ≡ height_of (view value.tree) }
-    requires body { body.height ≡ height_of (view body.tree) }
+    requires value { value.height ≡ height_of (view value.tree.now) }
+    requires body { body.height ≡ height_of (view body.tree.now) }
     requires ids { next.old + 1 < 2 ^ 32 }
-    ensures found { Gives result (made room (kinds.Statement (kinds.Switch (view value.entry.tree) (view body.entry.tree))) (symbols_of body.entry.rest.now)) }
-    ensures node { Makes result next.old next.new first (nodes.Statement (nodes.Switch (node_of value.entry.tree) (node_of body.entry.tree))) body.entry.rest.now }
+    ensures found { Gives result (made room (kinds.Statement (kinds.Switch (view value.entry.tree.now) (view body.entry.tree.now))) (symbols_of body.entry.rest.now)) }
+    ensures node { Makes result next.old next.new first (nodes.Statement (nodes.Switch (node_of value.entry.tree.now) (node_of body.entry.tree.now))) body.entry.rest.now }
     ensures ids { (next.old ≤ next.new) × (next.new ≤ next.old + 1) × (left result ≤ length body.entry.rest.now) }
 {
     let highest = value.height.max(body.height);
     let kind = Kind::Statement(Statement::Switch {
-        value: keep(arena, value.tree)?,
-        body: keep(arena, body.tree)?,
+        value: value.tree,
+        body: body.tree,
     });
-    node(kind, first, highest, body.rest, room, next)
+    node(arena, kind, first, highest, body.rest, room, next)
 }
 
 /// `case value: body` (6.6.1).
@@ -134,19 +136,19 @@ pub(crate) fn case_of<'a>(
     room: u32,
     next: &mut u32,
 ) -> Result<Read<'a>, ExprFault>
-    requires value { value.height ≡ height_of (view value.tree) }
-    requires body { body.height ≡ height_of (view body.tree) }
+    requires value { value.height ≡ height_of (view value.tree.now) }
+    requires body { body.height ≡ height_of (view body.tree.now) }
     requires ids { next.old + 1 < 2 ^ 32 }
-    ensures found { Gives result (made room (kinds.Statement (kinds.Case (view value.entry.tree) (view body.entry.tree))) (symbols_of body.entry.rest.now)) }
-    ensures node { Makes result next.old next.new first (nodes.Statement (nodes.Case (node_of value.entry.tree) (node_of body.entry.tree))) body.entry.rest.now }
+    ensures found { Gives result (made room (kinds.Statement (kinds.Case (view value.entry.tree.now) (view body.entry.tree.now))) (symbols_of body.entry.rest.now)) }
+    ensures node { Makes result next.old next.new first (nodes.Statement (nodes.Case (node_of value.entry.tree.now) (node_of body.entry.tree.now))) body.entry.rest.now }
     ensures ids { (next.old ≤ next.new) × (next.new ≤ next.old + 1) × (left result ≤ length body.entry.rest.now) }
 {
     let highest = value.height.max(body.height);
     let kind = Kind::Statement(Statement::Case {
-        value: keep(arena, value.tree)?,
-        body: keep(arena, body.tree)?,
+        value: value.tree,
+        body: body.tree,
     });
-    node(kind, first, highest, body.rest, room, next)
+    node(arena, kind, first, highest, body.rest, room, next)
 }
 
 /// `default: body` (6.6.1).
@@ -157,16 +159,14 @@ pub(crate) fn default_of<'a>(
     room: u32,
     next: &mut u32,
 ) -> Result<Read<'a>, ExprFault>
-    requires body { body.height ≡ height_of (view body.tree) }
+    requires body { body.height ≡ height_of (view body.tree.now) }
     requires ids { next.old + 1 < 2 ^ 32 }
-    ensures found { Gives result (made room (kinds.Statement (kinds.Default (view body.entry.tree))) (symbols_of body.entry.rest.now)) }
-    ensures node { Makes result next.old next.new first (nodes.Statement (nodes.Default (node_of body.entry.tree))) body.entry.rest.now }
+    ensures found { Gives result (made room (kinds.Statement (kinds.Default (view body.entry.tree.now))) (symbols_of body.entry.rest.now)) }
+    ensures node { Makes result next.old next.new first (nodes.Statement (nodes.Default (node_of body.entry.tree.now))) body.entry.rest.now }
     ensures ids { (next.old ≤ next.new) × (next.new ≤ next.old + 1) × (left result ≤ length body.entry.rest.now) }
 {
-    let kind = Kind::Statement(Statement::Default {
-        body: keep(arena, body.tree)?,
-    });
-    node(kind, first, body.height, body.rest, room, next)
+    let kind = Kind::Statement(Statement::Default { body: body.tree });
+    node(arena, kind, first, body.height, body.rest, room, next)
 }
 
 /// `label: body` (6.6.1).
@@ -177,17 +177,17 @@ pub(crate) fn label_of<'a>(
     room: u32,
     next: &mut u32,
 ) -> Result<Read<'a>, ExprFault>
-    requires body { body.height ≡ height_of (view body.tree) }
+    requires body { body.height ≡ height_of (view body.tree.now) }
     requires ids { next.old + 1 < 2 ^ 32 }
-    ensures found { Gives result (made room (kinds.Statement (kinds.Label (symbol_of label.now) (view body.entry.tree))) (symbols_of body.entry.rest.now)) }
-    ensures node { Makes result next.old next.new label.now.place (nodes.Statement (nodes.Label label.now (node_of body.entry.tree))) body.entry.rest.now }
+    ensures found { Gives result (made room (kinds.Statement (kinds.Label (symbol_of label.now) (view body.entry.tree.now))) (symbols_of body.entry.rest.now)) }
+    ensures node { Makes result next.old next.new label.now.place (nodes.Statement (nodes.Label label.now (node_of body.entry.tree.now))) body.entry.rest.now }
     ensures ids { (next.old ≤ next.new) × (next.new ≤ next.old + 1) × (left result ≤ length body.entry.rest.now) }
 {
     let kind = Kind::Statement(Statement::Label {
         label,
-        body: keep(arena, body.tree)?,
+        body: body.tree,
     });
-    node(kind, label.place, body.height, body.rest, room, next)
+    node(arena, kind, label.place, body.height, body.rest, room, next)
 }
 
 /// `while (condition) body` (6.6.5.1).
@@ -199,19 +199,19 @@ pub(crate) fn while_of<'a>(
     room: u32,
     next: &mut u32,
 ) -> Result<Read<'a>, ExprFault>
-    requires condition { condition.height ≡ height_of (view condition.tree) }
-    requires body { body.height ≡ height_of (view body.tree) }
+    requires condition { condition.height ≡ height_of (view condition.tree.now) }
+    requires body { body.height ≡ height_of (view body.tree.now) }
     requires ids { next.old + 1 < 2 ^ 32 }
-    ensures found { Gives result (made room (kinds.Iteration (kinds.While (view condition.entry.tree) (view body.entry.tree))) (symbols_of body.entry.rest.now)) }
-    ensures node { Makes result next.old next.new first (nodes.Iteration (nodes.While (node_of condition.entry.tree) (node_of body.entry.tree))) body.entry.rest.now }
+    ensures found { Gives result (made room (kinds.Iteration (kinds.While (view condition.entry.tree.now) (view body.entry.tree.now))) (symbols_of body.entry.rest.now)) }
+    ensures node { Makes result next.old next.new first (nodes.Iteration (nodes.While (node_of condition.entry.tree.now) (node_of body.entry.tree.now))) body.entry.rest.now }
     ensures ids { (next.old ≤ next.new) × (next.new ≤ next.old + 1) × (left result ≤ length body.entry.rest.now) }
 {
     let highest = condition.height.max(body.height);
     let kind = Kind::Iteration(Iteration::While {
-        condition: keep(arena, condition.tree)?,
-        body: keep(arena, body.tree)?,
+        condition: condition.tree,
+        body: body.tree,
     });
-    node(kind, first, highest, body.rest, room, next)
+    node(arena, kind, first, highest, body.rest, room, next)
 }
 
 /// `do body while (condition);` in front of `rest` (6.6.5.2).
@@ -224,19 +224,19 @@ pub(crate) fn do_of<'a>(
     room: u32,
     next: &mut u32,
 ) -> Result<Read<'a>, ExprFault>
-    requires body { body.height ≡ height_of (view body.tree) }
-    requires condition { condition.height ≡ height_of (view condition.tree) }
+    requires body { body.height ≡ height_of (view body.tree.now) }
+    requires condition { condition.height ≡ height_of (view condition.tree.now) }
     requires ids { next.old + 1 < 2 ^ 32 }
-    ensures found { Gives result (made room (kinds.Iteration (kinds.Do (view body.entry.tree) (view condition.entry.tree))) (symbols_of rest.now)) }
-    ensures node { Makes result next.old next.new first (nodes.Iteration (nodes.Do (node_of body.entry.tree) (node_of condition.entry.tree))) rest.now }
+    ensures found { Gives result (made room (kinds.Iteration (kinds.Do (view body.entry.tree.now) (view condition.entry.tree.now))) (symbols_of rest.now)) }
+    ensures node { Makes result next.old next.new first (nodes.Iteration (nodes.Do (node_of body.entry.tree.now) (node_of condition.entry.tree.now))) rest.now }
     ensures ids { (next.old ≤ next.new) × (next.new ≤ next.old + 1) × (left result ≤ length rest.now) }
 {
     let highest = body.height.max(condition.height);
     let kind = Kind::Iteration(Iteration::Do {
-        body: keep(arena, body.tree)?,
-        condition: keep(arena, condition.tree)?,
+        body: body.tree,
+        condition: condition.tree,
     });
-    node(kind, first, highest, rest, room, next)
+    node(arena, kind, first, highest, rest, room, next)
 }
 
 /// `for (start; condition; step) body` (6.6.5.3).
@@ -253,10 +253,10 @@ pub(crate) fn for_of<'a>(
     requires start { start.height ≡ height_maybe (maybe_view start.tree) }
     requires condition { condition.height ≡ height_maybe (maybe_view condition.tree) }
     requires step { step.height ≡ height_maybe (maybe_view step.tree) }
-    requires body { body.height ≡ height_of (view body.tree) }
+    requires body { body.height ≡ height_of (view body.tree.now) }
     requires ids { next.old + 1 < 2 ^ 32 }
-    ensures found { Gives result (made room (kinds.Iteration (kinds.For (maybe_view start.entry.tree) (maybe_view condition.entry.tree) (maybe_view step.entry.tree) (view body.entry.tree))) (symbols_of body.entry.rest.now)) }
-    ensures node { Makes result next.old next.new first (nodes.Iteration (nodes.For (option_node start.entry.tree) (option_node condition.entry.tree) (option_node step.entry.tree) (node_of body.entry.tree))) body.entry.rest.now }
+    ensures found { Gives result (made room (kinds.Iteration (kinds.For (maybe_view start.entry.tree) (maybe_view condition.entry.tree) (maybe_view step.entry.tree) (view body.entry.tree.now))) (symbols_of body.entry.rest.now)) }
+    ensures node { Makes result next.old next.new first (nodes.Iteration (nodes.For (option_node start.entry.tree) (option_node condition.entry.tree) (option_node step.entry.tree) (node_of body.entry.tree.now))) body.entry.rest.now }
     ensures ids { (next.old ≤ next.new) × (next.new ≤ next.old + 1) × (left result ≤ length body.entry.rest.now) }
 {
     let highest = start
@@ -268,13 +268,14 @@ pub(crate) fn for_of<'a>(
         first: start.tree,
         condition: condition.tree,
         step: step.tree,
-        body: keep(arena, body.tree)?,
+        body: body.tree,
     });
-    node(kind, first, highest, body.rest, room, next)
+    node(arena, kind, first, highest, body.rest, room, next)
 }
 
 /// `return value;` or `return;` (6.6.6.4).
 pub(crate) fn return_of<'a>(
+    arena: &'a Arena,
     first: Place,
     value: MaybeRead<'a>,
     room: u32,
@@ -287,5 +288,5 @@ pub(crate) fn return_of<'a>(
     ensures ids { (next.old ≤ next.new) × (next.new ≤ next.old + 1) × (left result ≤ length value.entry.rest.now) }
 {
     let kind = Kind::Jump(Jump::Return { value: value.tree });
-    node(kind, first, value.height, value.rest, room, next)
+    node(arena, kind, first, value.height, value.rest, room, next)
 }

@@ -17,9 +17,7 @@ use crate::loops::{read_do, read_for, read_while};
 use crate::parts::MaybeRead;
 use crate::selections::{read_case, read_default, read_if, read_label, read_switch};
 use crate::statement_nodes::expression_statement_of;
-use c_expr::{
-    COMMA_LEVEL, ExprFault, Read, TypeNames, after_sign, expression_in_front, keep, place_of,
-};
+use c_expr::{COMMA_LEVEL, ExprFault, Read, TypeNames, after_sign, expression_in_front, place_of};
 use c_tree::{Arena, Keyword, Punctuator, Token, TokenKind};
 
 /// An expression and this punctuator behind it, or the punctuator alone.
@@ -50,7 +48,7 @@ pub(crate) fn read_maybe_expression<'a>(
         return Err(ExprFault::NoTree);
     };
     Ok(MaybeRead {
-        tree: Some(keep(arena, value.tree)?),
+        tree: Some(value.tree),
         rest,
         height: value.height,
     })
@@ -101,7 +99,7 @@ fn read_expression_statement<'a>(
     ensures ids { Spends next.old next.new (length tokens.now) (left result) }
 {
     let value = read_maybe_expression(arena, Punctuator::Semicolon, tokens, names, room, next)?;
-    expression_statement_of(place_of(tokens), value, room, next)
+    expression_statement_of(arena, place_of(tokens), value, room, next)
 }
 
 /// The statement that this keyword begins; `rest` follows it. Where it begins none, it may begin an expression.
@@ -134,9 +132,9 @@ fn read_by_keyword<'a>(
         Keyword::While => read_while(arena, first, rest, names, room, next),
         Keyword::Do => read_do(arena, first, rest, names, room, next),
         Keyword::For => read_for(arena, first, rest, names, room, next),
-        Keyword::Goto => read_goto(first, rest, room, next),
-        Keyword::Continue => read_continue(first, rest, room, next),
-        Keyword::Break => read_break(first, rest, room, next),
+        Keyword::Goto => read_goto(arena, first, rest, room, next),
+        Keyword::Continue => read_continue(arena, first, rest, room, next),
+        Keyword::Break => read_break(arena, first, rest, room, next),
         Keyword::Return => read_return(arena, first, rest, names, room, next),
         _ => read_expression_statement(arena, tokens, names, room, next),
     }

@@ -26,7 +26,7 @@ use crate::parts::ReadCommaList;
 use crate::tagged_nodes::{enum_body_of, enum_tag_of, struct_body_of, struct_tag_of};
 use c_expr::{
     CONDITIONAL_LEVEL, ExprFault, Read, ReadList, TypeNames, after_keyword, after_sign,
-    expression_in_front, keep, list_of, part, place_of, take_word,
+    expression_in_front, list_of, part, place_of, take_word,
 };
 use c_tree::{Arena, Keyword, Kind, Part, Place, Punctuator, StructOrUnion, Token, TokenKind};
 use std::alloc::AllocError;
@@ -57,7 +57,7 @@ fn read_enumerator<'a>(
     requires ids { next.old + 16 * length tokens.now < 2 ^ 32 }
     ensures found { Gives result (steps.read_enumerator (read_expressions (room - 1)) names.old.now (symbols_of tokens.now)) }
     ensures stands { Over result next.old next.new tokens.now }
-    ensures now { IfOk result (λ r. names.new.now ≡ declared (view r.tree) names.old.now) }
+    ensures now { IfOk result (λ r. names.new.now ≡ declared (view r.tree.now) names.old.now) }
     ensures saved { names.new.saved ≡ names.old.saved }
     ensures ids { Spends next.old next.new (length tokens.now) (left result) }
 {
@@ -68,15 +68,15 @@ fn read_enumerator<'a>(
     let Some(after) = after_sign(Punctuator::Assign, rest) else {
         declare_enumerator(names, name)?;
         let kind = Kind::Part(Part::Enumerator { name, value: None });
-        return Ok(part(kind, first, 0, rest, next));
+        return part(arena, kind, first, 0, rest, next);
     };
     let value = expression_in_front(arena, CONDITIONAL_LEVEL, after, names, room - 1, next)?;
     declare_enumerator(names, name)?;
     let kind = Kind::Part(Part::Enumerator {
         name,
-        value: Some(keep(arena, value.tree)?),
+        value: Some(value.tree),
     });
-    Ok(part(kind, first, value.height, value.rest, next))
+    part(arena, kind, first, value.height, value.rest, next)
 }
 
 /// Enumerators up to the brace, at least one. They stay in force.
@@ -104,7 +104,7 @@ fn read_enumerators<'a>(
         fuel -= 1;
         let enumerator = read_enumerator(arena, rest, names, room, next)?;
         highest = enumerator.height.max(highest);
-        all.push(enumerator.tree)?;
+        all.push(*enumerator.tree)?;
         let Some(others) = after_sign(Punctuator::Comma, enumerator.rest) else {
             let Some(end) = after_sign(Punctuator::CloseBrace, enumerator.rest) else {
                 return Err(ExprFault::NoTree);
@@ -143,7 +143,7 @@ fn read_enum_body<'a>(
     requires ids { next.old + 16 * length tokens.now + 1 < 2 ^ 32 }
     ensures found { Gives result (steps.read_enum_body (read_expressions (room - 1)) room names.old.now (option_map symbol_of (maybe_token tag.entry)) (symbols_of tokens.now)) }
     ensures stands { (ts us : List Token) → IsFirst first ts → Passes (Reserved words.Enum) ts us → Opens (maybe_token tag.entry) us tokens.now → Over result next.old next.new ts }
-    ensures now { IfOk result (λ r. names.new.now ≡ declared (view r.tree) names.old.now) }
+    ensures now { IfOk result (λ r. names.new.now ≡ declared (view r.tree.now) names.old.now) }
     ensures saved { names.new.saved ≡ names.old.saved }
     ensures ids { (next.old ≤ next.new) × (next.new + 16 * left result ≤ next.old + 16 * length tokens.now + 1) }
 {
@@ -153,7 +153,7 @@ fn read_enum_body<'a>(
         rest: read.rest,
         height: read.height,
     };
-    enum_body_of(first, tag, enumerators, read.comma, room, next)
+    enum_body_of(arena, first, tag, enumerators, read.comma, room, next)
 }
 
 /// What follows `enum`, of which `first` is the place: a tag, a body, or both (6.5.2.2).
@@ -169,7 +169,7 @@ fn read_enum<'a>(
     requires ids { next.old + 16 * length tokens.now < 2 ^ 32 }
     ensures found { Gives result (steps.read_enum (read_expressions (room - 1)) room names.old.now (symbols_of tokens.now)) }
     ensures stands { (ts : List Token) → IsFirst first ts → Passes (Reserved words.Enum) ts tokens.now → Over result next.old next.new ts }
-    ensures now { IfOk result (λ r. names.new.now ≡ declared (view r.tree) names.old.now) }
+    ensures now { IfOk result (λ r. names.new.now ≡ declared (view r.tree.now) names.old.now) }
     ensures saved { names.new.saved ≡ names.old.saved }
     ensures ids { Spends next.old next.new (length tokens.now) (left result) }
 {
@@ -180,7 +180,7 @@ fn read_enum<'a>(
         return read_enum_body(arena, first, None, inside, names, room, next);
     };
     let Some(inside) = after_sign(Punctuator::OpenBrace, rest) else {
-        return enum_tag_of(first, tag, rest, room, next);
+        return enum_tag_of(arena, first, tag, rest, room, next);
     };
     read_enum_body(arena, first, Some(tag), inside, names, room, next)
 }
@@ -218,7 +218,7 @@ fn read_members<'a>(
         }
         let member = member_in_front(arena, rest, names, room - 1, next)?;
         highest = member.height.max(highest);
-        all.push(member.tree)?;
+        all.push(*member.tree)?;
         rest = member.rest;
     }
     Err(ExprFault::NoTree)
@@ -240,12 +240,12 @@ fn read_struct_body<'a>(
     requires ids { next.old + 16 * length tokens.now + 1 < 2 ^ 32 }
     ensures found { Gives result (steps.read_struct_body (read (room - 1)) room names.old.now which (option_map symbol_of (maybe_token tag.entry)) (symbols_of tokens.now)) }
     ensures stands { (ts us : List Token) → IsFirst first ts → Passes (Reserved (word_of which)) ts us → Opens (maybe_token tag.entry) us tokens.now → Over result next.old next.new ts }
-    ensures now { IfOk result (λ r. names.new.now ≡ declared (view r.tree) names.old.now) }
+    ensures now { IfOk result (λ r. names.new.now ≡ declared (view r.tree.now) names.old.now) }
     ensures saved { names.new.saved ≡ names.old.saved }
     ensures ids { (next.old ≤ next.new) × (next.new + 16 * left result ≤ next.old + 16 * length tokens.now + 1) }
 {
     let members = read_members(arena, tokens, names, room, next)?;
-    struct_body_of(first, which, tag, members, room, next)
+    struct_body_of(arena, first, which, tag, members, room, next)
 }
 
 /// What follows `struct` or `union`, of which `first` is the place: a tag, a body, or both (6.5.2.1).
@@ -263,7 +263,7 @@ fn read_struct<'a>(
     requires ids { next.old + 16 * length tokens.now < 2 ^ 32 }
     ensures found { Gives result (steps.read_struct (read (room - 1)) room names.old.now which (symbols_of tokens.now)) }
     ensures stands { (ts : List Token) → IsFirst first ts → Passes (Reserved (word_of which)) ts tokens.now → Over result next.old next.new ts }
-    ensures now { IfOk result (λ r. names.new.now ≡ declared (view r.tree) names.old.now) }
+    ensures now { IfOk result (λ r. names.new.now ≡ declared (view r.tree.now) names.old.now) }
     ensures saved { names.new.saved ≡ names.old.saved }
     ensures ids { Spends next.old next.new (length tokens.now) (left result) }
 {
@@ -274,7 +274,7 @@ fn read_struct<'a>(
         return read_struct_body(arena, first, which, None, inside, names, room, next);
     };
     let Some(inside) = after_sign(Punctuator::OpenBrace, rest) else {
-        return struct_tag_of(first, which, tag, rest, room, next);
+        return struct_tag_of(arena, first, which, tag, rest, room, next);
     };
     read_struct_body(arena, first, which, Some(tag), inside, names, room, next)
 }
@@ -292,7 +292,7 @@ pub(crate) fn tagged_in_front<'a>(
     requires ids { next.old + 16 * length tokens.now < 2 ^ 32 }
     ensures found { Gives result (read room TaggedType names.old.now (symbols_of tokens.now)) }
     ensures stands { Over result next.old next.new tokens.now }
-    ensures now { IfOk result (λ r. names.new.now ≡ declared (view r.tree) names.old.now) }
+    ensures now { IfOk result (λ r. names.new.now ≡ declared (view r.tree.now) names.old.now) }
     ensures saved { names.new.saved ≡ names.old.saved }
     ensures ids { (next.old ≤ next.new) × (next.new + 16 * left result + 16 * done result ≤ next.old + 16 * length tokens.now) }
 {

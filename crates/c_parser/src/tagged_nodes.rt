@@ -12,11 +12,12 @@ ghost use Rattle.c_grammar.specs.Found.{made};
 ghost use Rattle.c_expr.specs.Gives.{Gives, left};
 ghost use Rattle.c_expr.specs.Standing.{Makes};
 
-use c_expr::{ExprFault, Read, ReadList, keep, node, part};
+use c_expr::{ExprFault, Read, ReadList, node, part};
 use c_tree::{Arena, Kind, Place, Specifier, StructOrUnion, Token};
 
 /// A structure or union without a body (6.5.2.3).
 pub(crate) fn struct_tag_of<'a>(
+    arena: &'a Arena,
     first: Place,
     which: StructOrUnion,
     tag: &'a Token,
@@ -30,11 +31,12 @@ pub(crate) fn struct_tag_of<'a>(
     ensures ids { (next.old ≤ next.new) × (next.new ≤ next.old + 1) × (left result ≤ length rest.now) }
 {
     let kind = Kind::Specifier(Specifier::StructTag { which, tag });
-    node(kind, first, 0, rest, room, next)
+    node(arena, kind, first, 0, rest, room, next)
 }
 
 /// A structure or union with its members (6.5.2.1).
 pub(crate) fn struct_body_of<'a>(
+    arena: &'a Arena,
     first: Place,
     which: StructOrUnion,
     tag: Option<&'a Token>,
@@ -53,11 +55,12 @@ pub(crate) fn struct_body_of<'a>(
         tag,
         members: members.trees,
     });
-    node(kind, first, members.height, members.rest, room, next)
+    node(arena, kind, first, members.height, members.rest, room, next)
 }
 
 /// An enumeration without a body (6.5.2.3).
 pub(crate) fn enum_tag_of<'a>(
+    arena: &'a Arena,
     first: Place,
     tag: &'a Token,
     rest: &'a [Token],
@@ -70,11 +73,12 @@ pub(crate) fn enum_tag_of<'a>(
     ensures ids { (next.old ≤ next.new) × (next.new ≤ next.old + 1) × (left result ≤ length rest.now) }
 {
     let kind = Kind::Specifier(Specifier::EnumTag { tag });
-    node(kind, first, 0, rest, room, next)
+    node(arena, kind, first, 0, rest, room, next)
 }
 
 /// An enumeration with its enumerators (6.5.2.2); `comma` is a comma behind the last.
 pub(crate) fn enum_body_of<'a>(
+    arena: &'a Arena,
     first: Place,
     tag: Option<&'a Token>,
     enumerators: ReadList<'a>,
@@ -94,6 +98,7 @@ pub(crate) fn enum_body_of<'a>(
         comma,
     });
     node(
+        arena,
         kind,
         first,
         enumerators.height,
@@ -111,19 +116,20 @@ pub(crate) fn members_of<'a>(
     room: u32,
     next: &mut u32,
 ) -> Result<Read<'a>, ExprFault>
-    requires specs { specs.height ≡ height_of (view specs.tree) }
+    requires specs { specs.height ≡ height_of (view specs.tree.now) }
     requires declarators { declarators.height ≡ height_in (list_view declarators.trees) }
     requires ids { next.old + 1 < 2 ^ 32 }
-    ensures found { Gives result (made room (kinds.Specifier (kinds.StructDeclaration (view specs.entry.tree) (list_view declarators.entry.trees))) (symbols_of declarators.entry.rest.now)) }
-    ensures node { Makes result next.old next.new specs.entry.tree.first (nodes.Specifier (nodes.StructDeclaration (node_of specs.entry.tree) (nodes_of declarators.entry.trees))) declarators.entry.rest.now }
+    ensures found { Gives result (made room (kinds.Specifier (kinds.StructDeclaration (view specs.entry.tree.now) (list_view declarators.entry.trees))) (symbols_of declarators.entry.rest.now)) }
+    ensures node { Makes result next.old next.new specs.entry.tree.now.first (nodes.Specifier (nodes.StructDeclaration (node_of specs.entry.tree.now) (nodes_of declarators.entry.trees))) declarators.entry.rest.now }
     ensures ids { (next.old ≤ next.new) × (next.new ≤ next.old + 1) × (left result ≤ length declarators.entry.rest.now) }
 {
     let highest = specs.height.max(declarators.height);
     let kind = Kind::Specifier(Specifier::StructDeclaration {
-        specs: keep(arena, specs.tree)?,
+        specs: specs.tree,
         declarators: declarators.trees,
     });
     node(
+        arena,
         kind,
         specs.tree.first,
         highest,
@@ -140,18 +146,18 @@ pub(crate) fn bare_field_of<'a>(
     width: Read<'a>,
     next: &mut u32,
 ) -> Result<Read<'a>, ExprFault>
-    requires width { width.height ≡ height_of (view width.tree) }
+    requires width { width.height ≡ height_of (view width.tree.now) }
     requires low { width.height + 1 < 2 ^ 32 }
     requires ids { next.old + 1 < 2 ^ 32 }
-    ensures found { Gives result (Some (kinds.Specifier (kinds.BitField kinds.absent (view width.entry.tree)), symbols_of width.entry.rest.now)) }
-    ensures node { Makes result next.old next.new first (nodes.Specifier (nodes.BitField nodes.absent (node_of width.entry.tree))) width.entry.rest.now }
+    ensures found { Gives result (Some (kinds.Specifier (kinds.BitField kinds.absent (view width.entry.tree.now)), symbols_of width.entry.rest.now)) }
+    ensures node { Makes result next.old next.new first (nodes.Specifier (nodes.BitField nodes.absent (node_of width.entry.tree.now))) width.entry.rest.now }
     ensures ids { (next.old ≤ next.new) × (next.new ≤ next.old + 1) × (left result ≤ length width.entry.rest.now) }
 {
     let kind = Kind::Specifier(Specifier::BitField {
         declarator: None,
-        width: keep(arena, width.tree)?,
+        width: width.tree,
     });
-    Ok(part(kind, first, width.height + 1, width.rest, next))
+    part(arena, kind, first, width.height + 1, width.rest, next)
 }
 
 /// A bit-field with its declarator (6.5.2.1).
@@ -161,18 +167,25 @@ pub(crate) fn field_of<'a>(
     width: Read<'a>,
     next: &mut u32,
 ) -> Result<Read<'a>, ExprFault>
-    requires declarator { declarator.height ≡ height_of (view declarator.tree) }
-    requires width { width.height ≡ height_of (view width.tree) }
+    requires declarator { declarator.height ≡ height_of (view declarator.tree.now) }
+    requires width { width.height ≡ height_of (view width.tree.now) }
     requires low { (declarator.height + 1 < 2 ^ 32) × (width.height + 1 < 2 ^ 32) }
     requires ids { next.old + 1 < 2 ^ 32 }
-    ensures found { Gives result (Some (kinds.Specifier (kinds.BitField (kinds.present (view declarator.entry.tree)) (view width.entry.tree)), symbols_of width.entry.rest.now)) }
-    ensures node { Makes result next.old next.new declarator.entry.tree.first (nodes.Specifier (nodes.BitField (nodes.present (node_of declarator.entry.tree)) (node_of width.entry.tree))) width.entry.rest.now }
+    ensures found { Gives result (Some (kinds.Specifier (kinds.BitField (kinds.present (view declarator.entry.tree.now)) (view width.entry.tree.now)), symbols_of width.entry.rest.now)) }
+    ensures node { Makes result next.old next.new declarator.entry.tree.now.first (nodes.Specifier (nodes.BitField (nodes.present (node_of declarator.entry.tree.now)) (node_of width.entry.tree.now))) width.entry.rest.now }
     ensures ids { (next.old ≤ next.new) × (next.new ≤ next.old + 1) × (left result ≤ length width.entry.rest.now) }
 {
     let highest = declarator.height.max(width.height);
     let kind = Kind::Specifier(Specifier::BitField {
-        declarator: Some(keep(arena, declarator.tree)?),
-        width: keep(arena, width.tree)?,
+        declarator: Some(declarator.tree),
+        width: width.tree,
     });
-    Ok(part(kind, declarator.tree.first, highest + 1, width.rest, next))
+    part(
+        arena,
+        kind,
+        declarator.tree.first,
+        highest + 1,
+        width.rest,
+        next,
+    )
 }

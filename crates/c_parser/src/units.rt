@@ -31,8 +31,8 @@ use type_values::Unit;
 const MOST_HEIGHT: u32 = 1000;
 
 /// What was read, where nothing is left over.
-fn without_rest<'a>(read: Read<'a>) -> Result<Tree<'a>, ExprFault>
-    ensures kept { IfOk result (λ tree. (tree ≡ read.entry.tree) × (length read.entry.rest.now ≡ 0)) }
+fn without_rest<'a>(read: Read<'a>) -> Result<&'a Tree<'a>, ExprFault>
+    ensures kept { IfOk result (λ tree. (tree.now ≡ read.entry.tree.now) × (length read.entry.rest.now ≡ 0)) }
     ensures refused { IfErr result (λ fault. fault ≡ NoTree → 0 < length read.entry.rest.now) }
 {
     if !read.rest.is_empty() {
@@ -48,12 +48,12 @@ fn read_whole<'a>(
     tokens: &'a [Token],
     names: &mut TypeNames,
     next: &mut u32,
-) -> Result<Tree<'a>, ExprFault>
+) -> Result<&'a Tree<'a>, ExprFault>
     requires ids { next.old + 16 * length tokens.now < 2 ^ 32 }
-    ensures parsed { IfOk result (λ tree. IsParse names.old.now (view tree) (symbols_of tokens.now)) }
+    ensures parsed { IfOk result (λ tree. IsParse names.old.now (view tree.now) (symbols_of tokens.now)) }
     ensures refused { IfErr result (λ fault. fault ≡ NoTree → (e : Syntax) → IsParse names.old.now e (symbols_of tokens.now) → ⊥) }
-    ensures stands { IfOk result (λ tree. StandsOver (node_of tree) next.old next.new tokens.now []) }
-    ensures now { IfOk result (λ tree. names.new.now ≡ declared (view tree) names.old.now) }
+    ensures stands { IfOk result (λ tree. StandsOver (node_of tree.now) next.old next.new tokens.now []) }
+    ensures now { IfOk result (λ tree. names.new.now ≡ declared (view tree.now) names.old.now) }
     ensures ids { (next.old ≤ next.new) × (next.new ≤ next.old + 16 * length tokens.now) }
 {
     chunks_are_read();
@@ -71,15 +71,15 @@ fn read_between<'a>(
     cut: bool,
     names: &mut TypeNames,
     next: &mut u32,
-) -> Result<Tree<'a>, ParseFault>
+) -> Result<&'a Tree<'a>, ParseFault>
     requires chunk { IsChunk all.now from to }
     requires cut { IsTrue cut ↔ IsCut all.now }
     requires few { length all.now ≤ 16777216 }
     requires ids { next.old ≤ 16 * from }
-    ensures parsed { IfOk result (λ tree. IsParseIn all.now names.old.now (view tree) (from, to)) }
+    ensures parsed { IfOk result (λ tree. IsParseIn all.now names.old.now (view tree.now) (from, to)) }
     ensures refused { IfErr result (λ fault. (place : Place) → fault ≡ SyntaxAt place → IsFirst place (drop from all.now) × ((e : Syntax) → IsParseIn all.now names.old.now e (from, to) → ⊥)) }
-    ensures stands { IfOk result (λ tree. StandsOver (node_of tree) next.old next.new (drop from all.now) (drop to all.now)) }
-    ensures now { IfOk result (λ tree. names.new.now ≡ declared (view tree) names.old.now) }
+    ensures stands { IfOk result (λ tree. StandsOver (node_of tree.now) next.old next.new (drop from all.now) (drop to all.now)) }
+    ensures now { IfOk result (λ tree. names.new.now ≡ declared (view tree.now) names.old.now) }
     ensures ids { (next.old ≤ next.new) × (next.new ≤ 16 * to) }
 {
     let tokens = &all[from..to];
@@ -122,7 +122,7 @@ pub fn read_unit<'a>(
     'reading: while index < bounds.len() {
         let end = bounds[index].1 as usize;
         let tree = read_between(arena, alloc, all, start, end, cut, &mut names, &mut next)?;
-        trees.push(tree)?;
+        trees.push(*tree)?;
         start = end;
         index += 1;
     }

@@ -10,7 +10,7 @@ ghost use Rattle.metal_clauses.specs.MetalParts.Steps.{special_item};
 
 use crate::metal_parts::{behind_sign, has_sign, read_callout, take_word};
 use bumpalo::collections::into_bump_slice;
-use c_expr::{COMMA_LEVEL, ExprFault, TypeNames, after_sign, expression_in_front, keep};
+use c_expr::{COMMA_LEVEL, ExprFault, TypeNames, after_sign, expression_in_front};
 use c_tree::{Arena, Punctuator, Token};
 use metal_written::{WrittenAlternative, WrittenItem};
 use std::alloc::Global;
@@ -61,8 +61,11 @@ impl<'a> PatternReader<'a> {
         let Some(rest) = after_sign(Punctuator::CloseBrace, end) else {
             return Err(ExprFault::NoTree);
         };
-        let tree = keep(self.arena, read.tree)?;
-        Ok((WrittenItem::Pattern { tree, semicolon }, rest))
+        let pattern = WrittenItem::Pattern {
+            tree: read.tree,
+            semicolon,
+        };
+        Ok((pattern, rest))
     }
 
     /// The item in front.

@@ -112,24 +112,24 @@ decreases-declarators::read_bound l = l.room * 32 + 15
 
 abbrev pub invariant-expressions::read_binary-loop-done : goal.invariant-expressions::read_binary-loop-done
 invariant-expressions::read_binary-loop-done l = record {
-  found : read_binary (read (l.room - 1)) l.room l.fn.names.now l.done (symbols_of l.fn.tokens) ≡ Some (view l.before.tree, symbols_of l.before.rest.now);
-  height : l.before.height ≡ height_of (view l.before.tree);
+  found : read_binary (read (l.room - 1)) l.room l.fn.names.now l.done (symbols_of l.fn.tokens) ≡ Some (view l.before.tree.now, symbols_of l.before.rest.now);
+  height : l.before.height ≡ height_of (view l.before.tree.now);
   now : l.names.now ≡ l.fn.names.now;
   saved : l.names.saved ≡ l.fn.names.saved;
   rises : l.fn.next ≤ l.next;
   spent : l.next + 16 * length l.before.rest.now ≤ l.fn.next + 16 * length l.fn.tokens;
-  stands : StandsOver (node_of l.before.tree) l.fn.next l.next l.fn.tokens l.before.rest.now;
+  stands : StandsOver (node_of l.before.tree.now) l.fn.next l.next l.fn.tokens l.before.rest.now;
 }
 
 abbrev pub invariant-expressions::read_chain-loop-op : goal.invariant-expressions::read_chain-loop-op
 invariant-expressions::read_chain-loop-op l = record {
-  found : read_chain (read (l.room - 1)) l.room l.fn.names.now l.level l.fuel (view l.before.tree) (symbols_of l.before.rest.now) ≡ read_chain (read (l.room - 1)) l.room l.fn.names.now l.level l.room (view l.fn.first.tree) (symbols_of l.fn.first.rest.now);
-  height : l.before.height ≡ height_of (view l.before.tree);
+  found : read_chain (read (l.room - 1)) l.room l.fn.names.now l.level l.fuel (view l.before.tree.now) (symbols_of l.before.rest.now) ≡ read_chain (read (l.room - 1)) l.room l.fn.names.now l.level l.room (view l.fn.first.tree.now) (symbols_of l.fn.first.rest.now);
+  height : l.before.height ≡ height_of (view l.before.tree.now);
   now : l.names.now ≡ l.fn.names.now;
   saved : l.names.saved ≡ l.fn.names.saved;
   rises : l.fn.next ≤ l.next;
   spent : l.next + 16 * length l.before.rest.now ≤ l.fn.next + 16 * length l.fn.first.rest.now;
-  stands : (low : ℕ) (ts : List Token) → StandsOver (node_of l.fn.first.tree) low l.fn.next ts l.fn.first.rest.now → StandsOver (node_of l.before.tree) low l.next ts l.before.rest.now;
+  stands : (low : ℕ) (ts : List Token) → StandsOver (node_of l.fn.first.tree.now) low l.fn.next ts l.fn.first.rest.now → StandsOver (node_of l.before.tree.now) low l.next ts l.before.rest.now;
 }
 
 abbrev pub decreases-expressions::read_chain-loop-op : goal.decreases-expressions::read_chain-loop-op
@@ -137,12 +137,12 @@ decreases-expressions::read_chain-loop-op l = l.fuel
 
 abbrev pub invariant-postfix::read_postfix-loop-operand : goal.invariant-postfix::read_postfix-loop-operand
 invariant-postfix::read_postfix-loop-operand l = record {
-  found : read_postfix_operators (read (l.room - 1)) l.room l.fn.names.now l.fuel (view l.operand.tree) (symbols_of l.operand.rest.now) ≡ read_postfix (read (l.room - 1)) l.room l.fn.names.now (symbols_of l.fn.tokens);
-  height : l.operand.height ≡ height_of (view l.operand.tree);
+  found : read_postfix_operators (read (l.room - 1)) l.room l.fn.names.now l.fuel (view l.operand.tree.now) (symbols_of l.operand.rest.now) ≡ read_postfix (read (l.room - 1)) l.room l.fn.names.now (symbols_of l.fn.tokens);
+  height : l.operand.height ≡ height_of (view l.operand.tree.now);
   now : l.names.now ≡ l.fn.names.now;
   saved : l.names.saved ≡ l.fn.names.saved;
   rises : l.fn.next ≤ l.next;
-  stands : StandsOver (node_of l.operand.tree) l.fn.next l.next l.fn.tokens l.operand.rest.now;
+  stands : StandsOver (node_of l.operand.tree.now) l.fn.next l.next l.fn.tokens l.operand.rest.now;
   spent : l.next + 16 * length l.operand.rest.now ≤ l.fn.next + 16 * length l.fn.tokens;
 }
 

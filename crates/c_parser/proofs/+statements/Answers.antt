@@ -110,13 +110,13 @@ pub blocks::read_block_items-loop-rest-preserved : goal.blocks::read_block_items
 blocks::read_block_items-loop-rest-preserved t c =
     let positive : 0 < c.loop-rest.fuel = omega arith in
     let item = c.in_ok-declaration.declaration in
-    let highest = height_pushed c.loop-rest.all.items c.push.new.self.items item.tree c.in_ok-push.ensures.items in
+    let highest = height_pushed c.loop-rest.all.items c.push.new.self.items item.tree.now c.in_ok-push.ensures.items in
     record {
-      found = block_items-next (read (c.args.room - 1)) c.loop-rest.names.now c.declaration_in_front.new.names.now c.loop-rest.fuel (symbols_of c.loop-rest.rest.now) (symbols_of item.rest.now) c.loop-rest.all.items c.push.new.self.items item.tree _ positive (sym c.begins_declaration.ensures ∙ c.loop-rest-test.true) c.in_ok-declaration.ensures.found.0 c.in_ok-declaration.ensures.now c.in_ok-push.ensures.items c.loop-rest.invariant.found;
+      found = block_items-next (read (c.args.room - 1)) c.loop-rest.names.now c.declaration_in_front.new.names.now c.loop-rest.fuel (symbols_of c.loop-rest.rest.now) (symbols_of item.rest.now) c.loop-rest.all.items c.push.new.self.items item.tree.now _ positive (sym c.begins_declaration.ensures ∙ c.loop-rest-test.true) c.in_ok-declaration.ensures.found.0 c.in_ok-declaration.ensures.now c.in_ok-push.ensures.items c.loop-rest.invariant.found;
       height = omega (arith, c.in_ok-declaration.ensures.found.1, highest);
       saved = c.in_ok-declaration.ensures.saved ∙ c.loop-rest.invariant.saved;
       rises = omega (arith, c.in_ok-declaration.ensures.ids.0, c.loop-rest.invariant.rises);
-      stands = row-next c.loop-rest.all.items c.push.new.self.items item.tree _ _ _ _ _ _ c.in_ok-push.ensures.items c.loop-rest.invariant.stands c.in_ok-declaration.ensures.stands;
+      stands = row-next c.loop-rest.all.items c.push.new.self.items item.tree.now _ _ _ _ _ _ c.in_ok-push.ensures.items c.loop-rest.invariant.stands c.in_ok-declaration.ensures.stands;
       spent = omega (arith, c.in_ok-declaration.ensures.ids.1, c.loop-rest.invariant.spent);
     }
 
@@ -134,13 +134,13 @@ pub blocks::read_block_items-loop-fuel-preserved : goal.blocks::read_block_items
 blocks::read_block_items-loop-fuel-preserved t c =
     let positive : 0 < c.loop-fuel.fuel = omega arith in
     let item = c.in_ok-statement.statement in
-    let highest = height_pushed c.loop-fuel.all.items c.push-in-loop-fuel.new.self.items item.tree c.in_ok-push-2.ensures.items in
+    let highest = height_pushed c.loop-fuel.all.items c.push-in-loop-fuel.new.self.items item.tree.now c.in_ok-push-2.ensures.items in
     record {
-      found = statements-on (read (c.args.room - 1)) c.loop-fuel.names.now c.statement_in_front.new.names.now c.loop-fuel.fuel (symbols_of c.loop-fuel.rest.now) (symbols_of item.rest.now) c.loop-fuel.all.items c.push-in-loop-fuel.new.self.items item.tree _ positive c.in_ok-statement.ensures.names.0 (sym c.in_default.ensures.found) c.in_ok-statement.ensures.found.0 c.in_ok-push-2.ensures.items c.loop-fuel.invariant.found;
+      found = statements-on (read (c.args.room - 1)) c.loop-fuel.names.now c.statement_in_front.new.names.now c.loop-fuel.fuel (symbols_of c.loop-fuel.rest.now) (symbols_of item.rest.now) c.loop-fuel.all.items c.push-in-loop-fuel.new.self.items item.tree.now _ positive c.in_ok-statement.ensures.names.0 (sym c.in_default.ensures.found) c.in_ok-statement.ensures.found.0 c.in_ok-push-2.ensures.items c.loop-fuel.invariant.found;
       height = omega (arith, c.in_ok-statement.ensures.found.1, highest);
       saved = c.in_ok-statement.ensures.names.1 ∙ c.loop-fuel.invariant.saved;
       rises = omega (arith, c.in_ok-statement.ensures.ids.0, c.loop-fuel.invariant.rises);
-      stands = row-next c.loop-fuel.all.items c.push-in-loop-fuel.new.self.items item.tree _ _ _ _ _ _ c.in_ok-push-2.ensures.items c.loop-fuel.invariant.stands c.in_ok-statement.ensures.stands;
+      stands = row-next c.loop-fuel.all.items c.push-in-loop-fuel.new.self.items item.tree.now _ _ _ _ _ _ c.in_ok-push-2.ensures.items c.loop-fuel.invariant.stands c.in_ok-statement.ensures.stands;
       spent = omega (arith, c.in_ok-statement.ensures.ids.1, c.loop-fuel.invariant.spent);
     }
 

@@ -1,19 +1,20 @@
-use Rattle.std.proofs.Common.{arith, false, ◌<◌, ◌∙◌, ◌-◌, sym, refl, subst}
+use Rattle.std.proofs.Common.{arith, false, ◌<◌, ◌∙◌, ◌-◌, length, ap, sym, refl, subst}
 use Rattle.c_tree.specs.Forget.{list_view, view}
 use Rattle.c_tree.specs.Symbol.{symbols_of, symbol_of}
 use Rattle.c_tree.specs.Syntax.{Specifier, Specs, StructTag, StructBody, Outer, Empty}
 use Rattle.c_expr.specs.SpecifierPlaces.{place_of}
 use Rattle.c_expr.proofs.Items.{fit-some, done-most, height_pushed, count_pushed}
-use Rattle.c_expr.proofs.Standing.{made, at_front, row-next, row-start, made_part, at_passed}
+use Rattle.c_expr.proofs.Standing.{made, at_front, row-next, row-start, at_passed}
 use Rattle.c_parser.proofs.TaggedSteps.{made-declares, declared-start, declared-next, declared-done, adds-declares, member-read}
 use Rattle.c_grammar.specs.UnitGrammar.Construct.{TaggedType}
 use Rattle.c_grammar.specs.UnitGrammar.Reading.{read}
-use Rattle.c_expr.proofs.StandingParts.{row-done, ending-start, height-start, count-start, over_same}
+use Rattle.c_expr.proofs.StandingParts.{row-done, ending-start, height-start, count-start}
 use Rattle.c_parser.specs.TypedOnce.{read_typed_once}
 use Rattle.c_parser.proofs.TypedOnce.{once-next, plain-next}
 use Rattle.c_grammar.specs.CPlaces.Stands.{OfKept, OfPlace, OfBoth}
-use Rattle.c_tree.specs.Views.{node_of, maybe_token, nodes_of}
-use Rattle.c_parser.proofs.TaggedPlaces.{bare-opens, tag-opens, struct-behind}
+use Rattle.c_tree.specs.Views.{maybe_token, nodes_of}
+use Rattle.c_parser.proofs.DeclarationPlaces.{declares}
+use Rattle.c_parser.proofs.TaggedPlaces.{bare-opens, tag-opens, struct-behind, stands-same}
 use Rattle.std.specs.Option.{option_map}
 use Rattle.c_tree.specs.Tokens.{word_of}
 use Rattle.c_grammar.specs.UnitGrammar.TaggedSteps.{read_members}
@@ -44,15 +45,15 @@ pub specifiers::read_items-loop-front-preserved : goal.specifiers::read_items-lo
 specifiers::read_items-loop-front-preserved t c =
     let positive : 0 < c.loop-front.fuel = omega arith in
     let item = c.in_ok-item.item in
-    let highest = height_pushed c.loop-front.all.items c.push.new.self.items item.tree c.in_ok-push.ensures.items in
-    let counted = count_pushed c.loop-front.all.items c.push.new.self.items item.tree c.in_ok-push.ensures.items in
+    let highest = height_pushed c.loop-front.all.items c.push.new.self.items item.tree.now c.in_ok-push.ensures.items in
+    let counted = count_pushed c.loop-front.all.items c.push.new.self.items item.tree.now c.in_ok-push.ensures.items in
     record {
-      found = once-next (read (c.args.room - 1) TaggedType) c.args.names.now.now c.loop-front.names.now c.loop-front.fuel c.loop-front.typed c.says_type-typed.result (symbols_of c.loop-front.rest.now) (symbol_of c.in-Some.front.now) (symbols_of c.in-Some.behind.now) (symbols_of item.rest.now) c.loop-front.all.items c.push.new.self.items item.tree _ positive c.loop-front.invariant.plain (sym c.in-Some.ensures.found) (sym c.begins_second.ensures ∙ c.if-begins_second.false) c.in_ok-item.ensures.found.0 c.says_type-typed.ensures c.in_ok-push.ensures.items c.loop-front.invariant.found;
+      found = once-next (read (c.args.room - 1) TaggedType) c.args.names.now.now c.loop-front.names.now c.loop-front.fuel c.loop-front.typed c.says_type-typed.result (symbols_of c.loop-front.rest.now) (symbol_of c.in-Some.front.now) (symbols_of c.in-Some.behind.now) (symbols_of item.rest.now) c.loop-front.all.items c.push.new.self.items item.tree.now _ positive c.loop-front.invariant.plain (sym c.in-Some.ensures.found) (sym c.begins_second.ensures ∙ c.if-begins_second.false) c.in_ok-item.ensures.found.0 c.says_type-typed.ensures c.in_ok-push.ensures.items c.loop-front.invariant.found;
       height = omega (arith, c.in_ok-item.ensures.found.1, highest);
-      now = declared-next c.loop-front.all.items c.push.new.self.items item.tree c.args.names.now.now c.loop-front.names.now c.read_item.new.names.now c.in_ok-push.ensures.items c.loop-front.invariant.now c.in_ok-item.ensures.now;
-      plain = plain-next (c.args.room - 1) c.loop-front.typed c.says_type-typed.result c.args.names.now.now c.loop-front.names.now c.read_item.new.names.now (symbol_of c.in-Some.front.now) (symbols_of c.in-Some.behind.now) (view item.tree) (symbols_of item.rest.now) c.loop-front.invariant.plain c.in_ok-item.ensures.found.0 c.says_type-typed.ensures c.in_ok-item.ensures.now;
+      now = declared-next c.loop-front.all.items c.push.new.self.items item.tree.now c.args.names.now.now c.loop-front.names.now c.read_item.new.names.now c.in_ok-push.ensures.items c.loop-front.invariant.now c.in_ok-item.ensures.now;
+      plain = plain-next (c.args.room - 1) c.loop-front.typed c.says_type-typed.result c.args.names.now.now c.loop-front.names.now c.read_item.new.names.now (symbol_of c.in-Some.front.now) (symbols_of c.in-Some.behind.now) (view item.tree.now) (symbols_of item.rest.now) c.loop-front.invariant.plain c.in_ok-item.ensures.found.0 c.says_type-typed.ensures c.in_ok-item.ensures.now;
       saved = c.in_ok-item.ensures.saved ∙ c.loop-front.invariant.saved;
-      stands = row-next _ _ item.tree _ _ _ _ _ _ c.in_ok-push.ensures.items c.loop-front.invariant.stands c.in_ok-item.ensures.stands;
+      stands = row-next _ _ item.tree.now _ _ _ _ _ _ c.in_ok-push.ensures.items c.loop-front.invariant.stands c.in_ok-item.ensures.stands;
       rises = omega arith;
       spent = omega (arith, counted, c.in_ok-item.ensures.ids.1, c.loop-front.invariant.spent);
     }
@@ -75,7 +76,16 @@ specifiers::read_items-loop-front-init t c =
     }
 
 pub specifiers::read_item-returns-clause-stands : goal.specifiers::read_item-returns-clause-stands
-specifiers::read_item-returns-clause-stands t c = over_same (node_of c.part.result.tree) _ _ _ _ _ c.requires.front (made_part c.part.result _ _ _ _ _ _ _ c.part.ensures.node OfPlace OfKept)
+specifiers::read_item-returns-clause-stands t c = stands-same c.part.result _ _ _ _ c.requires.front (made c.part.result _ _ _ _ _ _ _ c.part.ensures.node OfPlace OfKept)
+
+pub specifiers::read_item-returns-clause-now : goal.specifiers::read_item-returns-clause-now
+specifiers::read_item-returns-clause-now t c = declares c.part.result _ _ _ _ _ _ _ c.part.ensures.node refl
+
+pub specifiers::read_item-returns-clause-ids : goal.specifiers::read_item-returns-clause-ids
+specifiers::read_item-returns-clause-ids t c =
+    let long = ap length c.requires.front in
+    let one = done-most c.part.result in
+    (omega arith, omega (arith, long, one, c.part.ensures.ids))
 
 pub tagged::tagged_in_front-returns-in-Some-clause-stands : goal.tagged::tagged_in_front-returns-in-Some-clause-stands
 tagged::tagged_in_front-returns-in-Some-clause-stands t c = c.read_struct.ensures.stands _ c.place_of-first.ensures c.in-Some.ensures.passes
@@ -110,13 +120,13 @@ pub tagged::read_members-loop-fuel-preserved : goal.tagged::read_members-loop-fu
 tagged::read_members-loop-fuel-preserved t c =
     let positive : 0 < c.loop-fuel.fuel = omega arith in
     let item = c.in_ok-member.member in
-    let highest = height_pushed c.loop-fuel.all.items c.push.new.self.items item.tree c.in_ok-push.ensures.items in
+    let highest = height_pushed c.loop-fuel.all.items c.push.new.self.items item.tree.now c.in_ok-push.ensures.items in
     record {
-      found = members-next (read (c.args.room - 1)) c.loop-fuel.names.now c.member_in_front.new.names.now c.loop-fuel.fuel (symbols_of c.loop-fuel.rest.now) (symbols_of item.rest.now) c.loop-fuel.all.items c.push.new.self.items item.tree _ positive (sym c.in_default.ensures.found) c.in_ok-member.ensures.found.0 c.in_ok-member.ensures.now c.in_ok-push.ensures.items c.loop-fuel.invariant.found;
+      found = members-next (read (c.args.room - 1)) c.loop-fuel.names.now c.member_in_front.new.names.now c.loop-fuel.fuel (symbols_of c.loop-fuel.rest.now) (symbols_of item.rest.now) c.loop-fuel.all.items c.push.new.self.items item.tree.now _ positive (sym c.in_default.ensures.found) c.in_ok-member.ensures.found.0 c.in_ok-member.ensures.now c.in_ok-push.ensures.items c.loop-fuel.invariant.found;
       height = omega (arith, c.in_ok-member.ensures.found.1, highest);
-      now = declared-next c.loop-fuel.all.items c.push.new.self.items item.tree c.args.names.now.now c.loop-fuel.names.now c.member_in_front.new.names.now c.in_ok-push.ensures.items c.loop-fuel.invariant.now c.in_ok-member.ensures.now;
+      now = declared-next c.loop-fuel.all.items c.push.new.self.items item.tree.now c.args.names.now.now c.loop-fuel.names.now c.member_in_front.new.names.now c.in_ok-push.ensures.items c.loop-fuel.invariant.now c.in_ok-member.ensures.now;
       saved = c.in_ok-member.ensures.saved ∙ c.loop-fuel.invariant.saved;
-      stands = row-next c.loop-fuel.all.items c.push.new.self.items item.tree _ _ _ _ _ _ c.in_ok-push.ensures.items c.loop-fuel.invariant.stands c.in_ok-member.ensures.stands;
+      stands = row-next c.loop-fuel.all.items c.push.new.self.items item.tree.now _ _ _ _ _ _ c.in_ok-push.ensures.items c.loop-fuel.invariant.stands c.in_ok-member.ensures.stands;
       rises = omega (arith, c.in_ok-member.ensures.ids.0, c.loop-fuel.invariant.rises);
       spent = omega (arith, c.in_ok-member.ensures.ids.1, c.loop-fuel.invariant.spent);
     }
@@ -148,9 +158,9 @@ pub members::member_in_front-returns-clause-stands : goal.members::member_in_fro
 members::member_in_front-returns-clause-stands t c = c.read_declared_members.ensures.stands _ _ c.in_ok-specs.ensures.stands
 
 pub members::member_in_front-returns-clause-now : goal.members::member_in_front-returns-clause-now
-members::member_in_front-returns-clause-now t c = adds-declares c.read_declared_members.result (view c.in_ok-specs.specs.tree) c.args.names.now.now _ _ c.read_declared_members.ensures.adds c.in_ok-specs.ensures.now c.read_declared_members.ensures.names.0
+members::member_in_front-returns-clause-now t c = adds-declares c.read_declared_members.result (view c.in_ok-specs.specs.tree.now) c.args.names.now.now _ _ c.read_declared_members.ensures.adds c.in_ok-specs.ensures.now c.read_declared_members.ensures.names.0
 
 pub members::member_in_front-returns-clause-found : goal.members::member_in_front-returns-clause-found
 members::member_in_front-returns-clause-found t c =
-    subst (Gives c.read_declared_members.result) (sym (member-read c.args.room c.args.names.now.now _ (symbols_of c.args.tokens.now) (symbols_of c.in_ok-specs.specs.rest.now) (view c.in_ok-specs.specs.tree) (omega arith) (sym c.in_default.ensures.found) c.in_ok-specs.ensures.found.0 c.in_ok-specs.ensures.now))
+    subst (Gives c.read_declared_members.result) (sym (member-read c.args.room c.args.names.now.now _ (symbols_of c.args.tokens.now) (symbols_of c.in_ok-specs.specs.rest.now) (view c.in_ok-specs.specs.tree.now) (omega arith) (sym c.in_default.ensures.found) c.in_ok-specs.ensures.found.0 c.in_ok-specs.ensures.now))
     c.read_declared_members.ensures.found

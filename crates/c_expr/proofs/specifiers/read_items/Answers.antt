@@ -11,12 +11,12 @@ pub loop-front-preserved : goal.loop-front-preserved
 loop-front-preserved c =
     let positive : 0 < c.loop-front.fuel = omega arith in
     let item = c.in_ok-item.item in
-    let highest = height_pushed c.loop-front.all.items c.push.new.self.items item.tree c.in_ok-push.ensures.items in
-    let counted = count_pushed c.loop-front.all.items c.push.new.self.items item.tree c.in_ok-push.ensures.items in
+    let highest = height_pushed c.loop-front.all.items c.push.new.self.items item.tree.now c.in_ok-push.ensures.items in
+    let counted = count_pushed c.loop-front.all.items c.push.new.self.items item.tree.now c.in_ok-push.ensures.items in
     record {
-      found = items-next c.args.names.now.now c.loop-front.fuel c.loop-front.typed c.says_type-typed.result (symbols_of c.loop-front.rest.now) (symbol_of c.in-Some.front.now) (symbols_of c.in-Some.behind.now) (symbols_of item.rest.now) c.loop-front.all.items c.push.new.self.items item.tree _ positive (sym c.in-Some.ensures.found) c.in_ok-item.ensures.found.0 c.says_type-typed.ensures c.in_ok-push.ensures.items c.loop-front.invariant.found;
+      found = items-next c.args.names.now.now c.loop-front.fuel c.loop-front.typed c.says_type-typed.result (symbols_of c.loop-front.rest.now) (symbol_of c.in-Some.front.now) (symbols_of c.in-Some.behind.now) (symbols_of item.rest.now) c.loop-front.all.items c.push.new.self.items item.tree.now _ positive (sym c.in-Some.ensures.found) c.in_ok-item.ensures.found.0 c.says_type-typed.ensures c.in_ok-push.ensures.items c.loop-front.invariant.found;
       height = omega (arith, c.in_ok-item.ensures.found.1, highest);
-      stands = row-next _ _ item.tree _ _ _ _ _ _ c.in_ok-push.ensures.items c.loop-front.invariant.stands (over_same (node_of item.tree) _ _ _ _ _ c.in-Some.ensures.front c.in_ok-item.ensures.stands);
+      stands = row-next _ _ item.tree.now _ _ _ _ _ _ c.in_ok-push.ensures.items c.loop-front.invariant.stands (over_same (node_of item.tree.now) _ _ _ _ _ c.in-Some.ensures.front c.in_ok-item.ensures.stands);
       rises = omega arith;
       spent = omega (arith, counted, c.in_ok-item.ensures.ids.1, c.in-Some.ensures.shorter, c.loop-front.invariant.spent);
     }

@@ -4,7 +4,7 @@ use Rattle.c_parser.proofs.DeclarationPlaces.{declaration-stands, declares, rest
 use Rattle.c_parser.proofs.declarations.read_declaration_rest.Goals as goal
 
 pub returns-clause-stands : goal.returns-clause-stands
-returns-clause-stands c = declaration-stands c.declaration_of.result c.args.specs.tree (node_of c.args.declarator.tree) (nodes_of c.in_ok-declarators.declarators.trees) _ _ _ _ _ c.declaration_of.ensures.node c.in_ok-declarators.ensures.stands
+returns-clause-stands c = declaration-stands c.declaration_of.result c.args.specs.tree.now (node_of c.args.declarator.tree.now) (nodes_of c.in_ok-declarators.declarators.trees) _ _ _ _ _ c.declaration_of.ensures.node c.in_ok-declarators.ensures.stands
 
 pub returns-clause-now : goal.returns-clause-now
 returns-clause-now c before e =

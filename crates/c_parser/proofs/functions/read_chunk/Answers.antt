@@ -11,7 +11,7 @@ use Rattle.c_parser.proofs.functions.read_chunk.Goals as goal
 pub read_definition-requires-clause-low : goal.read_definition-requires-clause-low
 read_definition-requires-clause-low c =
     let d = c.in_ok-declarator.declarator in
-    let below = declarator-height (c.args.room - 1) WithName _ (symbols_of c.in_ok-specs.specs.rest.now) (view d.tree) (symbols_of d.rest.now) c.in_ok-declarator.ensures.found.0 in
+    let below = declarator-height (c.args.room - 1) WithName _ (symbols_of c.in_ok-specs.specs.rest.now) (view d.tree.now) (symbols_of d.rest.now) c.in_ok-declarator.ensures.found.0 in
     omega (arith, below, c.requires.positive, c.in_ok-declarator.ensures.found.1)
 
 pub returns-in-Some-clause-stands : goal.returns-in-Some-clause-stands
@@ -22,7 +22,7 @@ returns-in-Some-clause-now c = declares c.empty_of.result _ _ _ _ _ _ c.args.nam
 
 pub returns-in-Some-after_sign-clause-stands : goal.returns-in-Some-after_sign-clause-stands
 returns-in-Some-after_sign-clause-stands c =
-    made c.bare_declaration_of.result _ _ _ _ _ _ _ c.bare_declaration_of.ensures.node (at_node c.in_ok-specs.specs.tree _ _ _ _ c.in_ok-specs.ensures.stands)
+    made c.bare_declaration_of.result _ _ _ _ _ _ _ c.bare_declaration_of.ensures.node (at_node c.in_ok-specs.specs.tree.now _ _ _ _ c.in_ok-specs.ensures.stands)
     (OfBoth (OfBoth c.in_ok-specs.ensures.stands OfNothing) (c.in-Some-after_sign.ensures.passes _))
 
 pub returns-in-Some-after_sign-clause-now : goal.returns-in-Some-after_sign-clause-now

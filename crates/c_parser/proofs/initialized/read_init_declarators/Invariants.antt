@@ -16,15 +16,15 @@ use Rattle.c_parser.proofs.initialized.read_init_declarators.Given as goal
 
 abbrev pub invariant-loop-fuel : goal.invariant-loop-fuel
 invariant-loop-fuel l = record {
-  found : ending_with l.all.items (read_init_declarators (read_expressions (l.room - 1)) (read (l.room - 1)) l.is_type l.names.now l.fuel (view l.declarator.tree) (symbols_of l.declarator.rest.now))
-      ≡ read_init_declarators (read_expressions (l.room - 1)) (read (l.room - 1)) l.is_type l.fn.names.now (length (symbols_of l.fn.first.rest.now)) (view l.fn.first.tree) (symbols_of l.fn.first.rest.now);
+  found : ending_with l.all.items (read_init_declarators (read_expressions (l.room - 1)) (read (l.room - 1)) l.is_type l.names.now l.fuel (view l.declarator.tree.now) (symbols_of l.declarator.rest.now))
+      ≡ read_init_declarators (read_expressions (l.room - 1)) (read (l.room - 1)) l.is_type l.fn.names.now (length (symbols_of l.fn.first.rest.now)) (view l.fn.first.tree.now) (symbols_of l.fn.first.rest.now);
   height : l.highest ≡ height_in (view_all l.all.items);
-  read : l.declarator.height ≡ height_of (view l.declarator.tree);
+  read : l.declarator.height ≡ height_of (view l.declarator.tree.now);
   low : l.declarator.height < l.room;
   now : l.names.now ≡ with_declarators l.is_type (view_all l.all.items) l.fn.names.now;
   saved : l.names.saved ≡ l.fn.names.saved;
   rises : l.fn.next ≤ l.next;
-  stands : (low : ℕ) (ts : List Token) → StandsOver (node_of l.fn.first.tree) low l.fn.next ts l.fn.first.rest.now → Stands (led_line l.all.items ⨾ line_of (node_of l.declarator.tree)) low l.next ts l.declarator.rest.now;
+  stands : (low : ℕ) (ts : List Token) → StandsOver (node_of l.fn.first.tree.now) low l.fn.next ts l.fn.first.rest.now → Stands (led_line l.all.items ⨾ line_of (node_of l.declarator.tree.now)) low l.next ts l.declarator.rest.now;
   spent : l.next + 16 * length l.declarator.rest.now ≤ l.fn.next + 16 * length l.fn.first.rest.now;
 }
 

@@ -27,14 +27,14 @@ pub read_initials-loop-fuel-preserved : goal.read_initials-loop-fuel-preserved
 read_initials-loop-fuel-preserved t c =
     let positive : 0 < c.loop-fuel.fuel = omega arith in
     let item = c.in_ok-element.element in
-    let highest = height_pushed c.loop-fuel.all.items c.push.new.self.items item.tree c.in_ok-push.ensures.items in
+    let highest = height_pushed c.loop-fuel.all.items c.push.new.self.items item.tree.now c.in_ok-push.ensures.items in
     record {
-      found = initials-next (read_expressions (c.args.room - 1)) (read (c.args.room - 1)) c.args.names.now.now c.loop-fuel.names.now c.loop-fuel.fuel (symbols_of c.loop-fuel.rest.now) (symbols_of item.rest.now) (symbols_of c.in-Some.after.now) c.loop-fuel.all.items c.push.new.self.items item.tree _ positive c.loop-fuel.invariant.now c.in_ok-element.ensures.found.0 (sym c.in-Some.ensures.found) (sym c.in_default-after_sign-2.ensures.found) c.in_ok-push.ensures.items c.loop-fuel.invariant.found;
+      found = initials-next (read_expressions (c.args.room - 1)) (read (c.args.room - 1)) c.args.names.now.now c.loop-fuel.names.now c.loop-fuel.fuel (symbols_of c.loop-fuel.rest.now) (symbols_of item.rest.now) (symbols_of c.in-Some.after.now) c.loop-fuel.all.items c.push.new.self.items item.tree.now _ positive c.loop-fuel.invariant.now c.in_ok-element.ensures.found.0 (sym c.in-Some.ensures.found) (sym c.in_default-after_sign-2.ensures.found) c.in_ok-push.ensures.items c.loop-fuel.invariant.found;
       height = omega (arith, c.in_ok-element.ensures.found.1, highest);
       now = c.in_ok-element.ensures.names.0 ∙ c.loop-fuel.invariant.now;
       saved = c.in_ok-element.ensures.names.1 ∙ c.loop-fuel.invariant.saved;
       rises = omega (arith, c.in_ok-element.ensures.ids.0, c.loop-fuel.invariant.rises);
-      stands = list-next c.loop-fuel.all.items c.push.new.self.items item.tree _ _ _ _ _ _ _ c.in_ok-push.ensures.items c.loop-fuel.invariant.stands c.in_ok-element.ensures.stands c.in-Some.ensures.passes;
+      stands = list-next c.loop-fuel.all.items c.push.new.self.items item.tree.now _ _ _ _ _ _ _ c.in_ok-push.ensures.items c.loop-fuel.invariant.stands c.in_ok-element.ensures.stands c.in-Some.ensures.passes;
       spent = omega (arith, c.in_ok-element.ensures.ids.1, c.in-Some.ensures.shorter, c.loop-fuel.invariant.spent);
     }
 
@@ -51,8 +51,8 @@ read_initials-loop-fuel-init t c = record {
 
 pub read_initials-returns-in_default-clause-stands : goal.read_initials-returns-in_default-clause-stands
 read_initials-returns-in_default-clause-stands t c =
-    OfBoth (OfBoth (list-done c.list_of.result c.push.new.self.items _ _ _ _ c.list_of.ensures.nodes (list-last c.loop-fuel.all.items c.push.new.self.items c.in_ok-element.element.tree _ _ _ _ _ _ c.in_ok-push.ensures.items c.loop-fuel.invariant.stands c.in_ok-element.ensures.stands)) OfNothing) (c.in-Some-after_sign.ensures.passes _)
+    OfBoth (OfBoth (list-done c.list_of.result c.push.new.self.items _ _ _ _ c.list_of.ensures.nodes (list-last c.loop-fuel.all.items c.push.new.self.items c.in_ok-element.element.tree.now _ _ _ _ _ _ c.in_ok-push.ensures.items c.loop-fuel.invariant.stands c.in_ok-element.ensures.stands)) OfNothing) (c.in-Some-after_sign.ensures.passes _)
 
 pub read_initials-returns-in-Some-after_sign-2-clause-stands : goal.read_initials-returns-in-Some-after_sign-2-clause-stands
 read_initials-returns-in-Some-after_sign-2-clause-stands t c =
-    OfBoth (OfBoth (list-done c.list_of-in-Some-after_sign-2.result c.push.new.self.items _ _ _ _ c.list_of-in-Some-after_sign-2.ensures.nodes (list-last c.loop-fuel.all.items c.push.new.self.items c.in_ok-element.element.tree _ _ _ _ _ _ c.in_ok-push.ensures.items c.loop-fuel.invariant.stands c.in_ok-element.ensures.stands)) (c.in-Some.ensures.passes _)) (c.in-Some-after_sign-2.ensures.passes _)
+    OfBoth (OfBoth (list-done c.list_of-in-Some-after_sign-2.result c.push.new.self.items _ _ _ _ c.list_of-in-Some-after_sign-2.ensures.nodes (list-last c.loop-fuel.all.items c.push.new.self.items c.in_ok-element.element.tree.now _ _ _ _ _ _ c.in_ok-push.ensures.items c.loop-fuel.invariant.stands c.in_ok-element.ensures.stands)) (c.in-Some.ensures.passes _)) (c.in-Some-after_sign-2.ensures.passes _)

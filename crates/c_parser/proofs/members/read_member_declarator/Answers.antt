@@ -20,5 +20,5 @@ returns-in-Some-clause-stands c = made c.bare_field_of.result _ _ _ _ _ _ _ c.ba
 
 pub returns-clause-stands : goal.returns-clause-stands
 returns-clause-stands c =
-    made c.field_of.result _ _ _ _ _ _ _ c.field_of.ensures.node (at_node c.in_ok-declarator.declarator.tree _ _ _ _ c.in_ok-declarator.ensures.stands)
+    made c.field_of.result _ _ _ _ _ _ _ c.field_of.ensures.node (at_node c.in_ok-declarator.declarator.tree.now _ _ _ _ c.in_ok-declarator.ensures.stands)
     (OfBoth (OfBoth c.in_ok-declarator.ensures.stands (c.in-Some-after_sign.ensures.passes _)) c.in_ok-width-2.ensures.stands)

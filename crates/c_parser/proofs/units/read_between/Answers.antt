@@ -21,4 +21,4 @@ returns-in-Ok-clause-parsed c =
 pub returns-in-Ok-clause-stands : goal.returns-in-Ok-clause-stands
 returns-in-Ok-clause-stands c =
     let order : c.args.from ≤ c.args.to = let h = c.requires.chunk.some in omega arith in
-    stands_in_all (line_of (node_of c.in-Ok.tree)) _ _ c.args.from c.args.to c.args.all.now order c.in-Ok.ensures.stands
+    stands_in_all (line_of (node_of c.in-Ok.tree.now)) _ _ c.args.from c.args.to c.args.all.now order c.in-Ok.ensures.stands

@@ -26,7 +26,7 @@ reading-preserved c =
     let v = c.reading.invariant in
     let index = c.reading.index in
     let chunk = c.index.result.now in
-    let tree = c.in_ok-tree.tree in
+    let tree = c.in_ok-tree.tree.now in
     let inside : index < length bounds = let h = c.reading-test.true in let l = c.len.ensures in omega arith in
     let cut : drop index bounds ≡ chunk ∷ drop (index + 1) bounds = drop_more bounds index chunk inside ∙ ap (λ x. x ∷ drop (index + 1) bounds) (sym c.index.ensures) in
     let follow : Follow ts c.reading.start (chunk ∷ drop (index + 1) bounds) (length ts) = subst (λ x. Follow ts c.reading.start x (length ts)) cut v.follow in
