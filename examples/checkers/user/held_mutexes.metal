@@ -1,4 +1,5 @@
-// A mutex that the path took is forgotten by a return directly behind a test. Which one isn't asked: a path holds none, one, or two.
+// A mutex that the path took is forgotten by a return directly behind a test. Which one isn't asked: a path holds none, one, or two. Those of
+// an array are left out: mostly a loop takes them, and another function releases them.
 sm held_mutexes {
   decl any_pointer p;
   decl any_fn_call call;
@@ -8,6 +9,7 @@ sm held_mutexes {
   start: { pthread_mutex_trylock(x) } || { pthread_mutex_timedlock(x, y) } ==> true=start, false=taken
        | { mtx_trylock(x) == thrd_success } ==> true=taken, false=start
        | { mtx_trylock(x) != thrd_success } ==> true=start, false=taken
+       | { pthread_mutex_lock(&x[y]) } || { mtx_lock(&x[y]) } ==> start
        | { pthread_mutex_lock(x) } || { mtx_lock(x) } ==> taken
        | { exit(how) } || { _exit(how) } || { abort() } || { longjmp(how) } || { siglongjmp(how) } || { pthread_exit(how) } ==> stop
        | { 0 } ==> true=stop, false=start

@@ -61,3 +61,22 @@ void once(void)
     pthread_mutex_lock(&a);
     pthread_mutex_unlock(&a);
 }
+
+/* The flag decides both, and no condition is known. */
+extern int threads;
+static int clients;
+
+static void drop_client(pthread_mutex_t *guard)
+{
+    if (threads)
+        pthread_mutex_lock(guard);
+    clients--;
+    if (threads)
+        pthread_mutex_unlock(guard);
+}
+
+void drop_all(pthread_mutex_t *guard)
+{
+    while (clients > 0)
+        drop_client(guard);
+}
