@@ -20,8 +20,17 @@ sm locks {
                || { down_read(l) } ==> l.read
          | { _raw_write_lock(l) } || { _raw_write_lock_irq(l) } || { _raw_write_lock_bh(l) } || { flags = _raw_write_lock_irqsave(l) }
                || { down_write(l) } ==> l.write
+         // Held by a caller: what is released for a while and taken again isn't asked.
+         | { spin_unlock(l) } || { spin_unlock_irq(l) } || { spin_unlock_bh(l) } || { spin_unlock_irqrestore(l, flags) }
+               || { mutex_unlock(l) } || { up_read(l) } || { up_write(l) } || { _raw_read_unlock(l) } || { _raw_read_unlock_irq(l) }
+               || { _raw_read_unlock_bh(l) } || { _raw_read_unlock_irqrestore(l, flags) } || { _raw_write_unlock(l) }
+               || { _raw_write_unlock_irq(l) } || { _raw_write_unlock_bh(l) } || { _raw_write_unlock_irqrestore(l, flags) } ==> l.lent
          | { 0 } ==> true=stop, false=start
          | { 1 } ==> true=start, false=stop;
+  l.lent:  { spin_lock(l) } || { spin_lock_irq(l) } || { spin_lock_bh(l) } || { flags = _raw_spin_lock_irqsave(spinlock_check(l)) }
+               || { mutex_lock(l) } || { down_read(l) } || { down_write(l) } || { _raw_read_lock(l) } || { _raw_read_lock_irq(l) }
+               || { _raw_read_lock_bh(l) } || { flags = _raw_read_lock_irqsave(l) } || { _raw_write_lock(l) }
+               || { _raw_write_lock_irq(l) } || { _raw_write_lock_bh(l) } || { flags = _raw_write_lock_irqsave(l) } ==> l.stop;
 
   l.spin:  { spin_unlock(l) } || { spin_unlock_irq(l) } || { spin_unlock_bh(l) } || { spin_unlock_irqrestore(l, flags) } ==> l.stop
          | { spin_lock(l) } || { spin_lock_irq(l) } || { spin_lock_bh(l) } || { flags = _raw_spin_lock_irqsave(spinlock_check(l)) }

@@ -111,3 +111,13 @@ int attempt(struct port *p, unsigned long *flags)
     }
     return 0;
 }
+
+/* Held by the caller, released for a while. */
+int wait_for(struct port *p)
+{
+    mutex_unlock(&p->setup);
+    while (!left(p))
+        ;
+    mutex_lock(&p->setup);
+    return 0;
+}
