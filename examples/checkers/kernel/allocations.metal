@@ -11,14 +11,25 @@ sm allocations {
                || { v = kvmalloc_array(how) } || { v = devm_kmalloc(how) } || { v = devm_kzalloc(how) } || { v = devm_kcalloc(how) }
                || { v = kmem_cache_alloc(how) } || { v = kmem_cache_zalloc(how) } ==> v.untested;
   start:   { kfree(v) } || { kvfree(v) } || { vfree(v) } || { kfree_sensitive(v) } || { kmem_cache_free(x, v) } ==> v.freed
+         | { __builtin_unreachable() } || { panic(how) } ==> stop
          | { 0 } ==> true=stop, false=start
          | { 1 } ==> true=start, false=stop;
 
-  v.untested: { v } || { v = x } || { __builtin_expect(!!v, x) } || { 0 != v } || { (void *)0 != v } ==> true=v.stop, false=v.null
-         | { __builtin_expect(!!!v, x) } || { 0 == v } || { (void *)0 == v } ==> true=v.null, false=v.stop
+  // What others reach too may be null behind a failure that they are told of.
+  v.untested: { v } && ${ mc_is_local(v) } || { v = x } && ${ mc_is_local(v) } || { __builtin_expect(!!v, x) } && ${ mc_is_local(v) }
+               || { 0 != v } && ${ mc_is_local(v) } || { (void *)0 != v } && ${ mc_is_local(v) } ==> true=v.stop, false=v.null
+         // (the last is WARN_ON_ONCE(!v))
+         | { __builtin_expect(!!!v, x) } && ${ mc_is_local(v) } || { 0 == v } && ${ mc_is_local(v) }
+               || { (void *)0 == v } && ${ mc_is_local(v) } || { __builtin_expect(!!!!!v, x) } && ${ mc_is_local(v) }
+               ==> true=v.null, false=v.stop
+         | { v } || { v = x } || { __builtin_expect(!!v, x) } || { __builtin_expect(!!!v, x) } || { 0 != v } || { 0 == v }
+               || { (void *)0 != v } || { (void *)0 == v } || { __builtin_expect(!!!!!v, x) } ==> true=v.stop, false=v.stop
          | { kfree(v) } || { kvfree(v) } || { vfree(v) } || { kmem_cache_free(x, v) } ==> v.freed
-         | { *v } || { v[x] } ==> v.stop, { err("%s is used before it is known that the allocation succeeded", mc_identifier(v)); };
-  v.null:  { *v } || { v[x] } ==> v.stop, { err("%s is null here", mc_identifier(v)); };
+         | { *v } || { v[x] } || { memcpy(v, x, n) } || { memset(v, x, n) }
+               ==> v.stop, { err("%s is used before it is known that the allocation succeeded", mc_identifier(v)); };
+  v.null:  { v } || { __builtin_expect(!!v, x) } || { 0 != v } || { (void *)0 != v } ==> true=v.stop, false=v.null
+         | { __builtin_expect(!!!v, x) } || { 0 == v } || { (void *)0 == v } || { __builtin_expect(!!!!!v, x) } ==> true=v.null, false=v.stop
+         | { *v } && ${ mc_is_local(v) } || { v[x] } && ${ mc_is_local(v) } ==> v.stop, { err("%s is null here", mc_identifier(v)); };
   v.freed: { *v } || { v[x] } ==> v.stop, { err("%s is used after it was freed", mc_identifier(v)); }
          | { memcpy(v, x, n) } || { memcpy(x, v, n) } || { memset(v, x, n) } || { strlen(v) }
                ==> v.stop, { err("%s is handed on after it was freed", mc_identifier(v)); }

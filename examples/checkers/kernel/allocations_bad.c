@@ -16,6 +16,15 @@ int probe(void *device, struct port *other)
     return 0;
 }
 
+int fill(struct port *from)
+{
+    struct port *p = kzalloc(sizeof(*p), 0xcc0u), *q = kzalloc(sizeof(*q), 0xcc0u);
+    memcpy(p, from, sizeof(*p));                /* wants: p is used before it is known that the allocation succeeded */
+    if (__builtin_expect(!!((!!(!q))), 0))
+        return q->speed;                        /* wants: q is null here */
+    return 0;
+}
+
 void drop(struct port *p, struct port *q, void *cache, struct port *to)
 {
     kfree(p->next);

@@ -25,6 +25,16 @@ int probe(void *device, struct port *other)
     return 0;
 }
 
+int warn(struct port *to)
+{
+    struct port *p = kzalloc(sizeof(*p), 0xcc0u);
+    if (__builtin_expect(!!((!!(!p))), 0))
+        return -12;
+    p->speed = 1;
+    to->next = p;
+    return 0;
+}
+
 void drop_all(struct port *p)
 {
     struct port *next;

@@ -1,9 +1,11 @@
-// A lock is taken twice, released by the wrong function, or still held where a path ends. The locks are those of Linux, as its macros leave
-// them behind the preprocessor. Functions that keep a lock for another one, which nobody calls by name in their file, are named before the
-// last rule of each state.
+// A lock is taken twice, or released by the wrong function. The locks are those of Linux, as its macros leave them behind the preprocessor.
+// That it is released: held_locks.metal.
 sm locks {
   state decl any_pointer l;
-  decl any_expr flags;
+  decl any_pointer p;
+  decl any_fn_call call;
+  decl any_arguments how;
+  decl any_expr flags, x, y;
 
   start:   { spin_trylock(l) } || { spin_trylock_bh(l) } || { _raw_spin_trylock(spinlock_check(l)) } ==> true=l.spin, false=l.stop
          | { mutex_trylock(l) } ==> true=l.mutex, false=l.stop
@@ -20,55 +22,44 @@ sm locks {
                || { down_read(l) } ==> l.read
          | { _raw_write_lock(l) } || { _raw_write_lock_irq(l) } || { _raw_write_lock_bh(l) } || { flags = _raw_write_lock_irqsave(l) }
                || { down_write(l) } ==> l.write
-         // Held by a caller: what is released for a while and taken again isn't asked.
-         | { spin_unlock(l) } || { spin_unlock_irq(l) } || { spin_unlock_bh(l) } || { spin_unlock_irqrestore(l, flags) }
+         | { 0 } ==> true=stop, false=start
+         | { 1 } ==> true=start, false=stop
+         | { p } || { x < y } || { x > y } || { x <= y } || { x >= y } || { x == y } || { x != y } || { call(how) } || { x = y }
+               ==> true=start, false=start
+         | { x } ==> true=flag, false=start;
+
+  // What is taken first of all where a flag is set is released where that is set, and no condition is known.
+  flag:    { spin_lock(l) } || { spin_lock_irq(l) } || { spin_lock_bh(l) } || { flags = _raw_spin_lock_irqsave(spinlock_check(l)) }
+               || { mutex_lock(l) } || { _raw_read_lock(l) } || { _raw_read_lock_irq(l) } || { _raw_read_lock_bh(l) }
+               || { flags = _raw_read_lock_irqsave(l) } || { down_read(l) } || { _raw_write_lock(l) } || { _raw_write_lock_irq(l) }
+               || { _raw_write_lock_bh(l) } || { flags = _raw_write_lock_irqsave(l) } || { down_write(l) } ==> l.lent
+         | { 0 } ==> true=stop, false=flag
+         | { 1 } ==> true=flag, false=stop
+         | { call(how) } || { x = y } ==> start
+         | { x } ==> true=start, false=start;
+  l.lent:  { spin_unlock(l) } || { spin_unlock_irq(l) } || { spin_unlock_bh(l) } || { spin_unlock_irqrestore(l, flags) }
                || { mutex_unlock(l) } || { up_read(l) } || { up_write(l) } || { _raw_read_unlock(l) } || { _raw_read_unlock_irq(l) }
                || { _raw_read_unlock_bh(l) } || { _raw_read_unlock_irqrestore(l, flags) } || { _raw_write_unlock(l) }
-               || { _raw_write_unlock_irq(l) } || { _raw_write_unlock_bh(l) } || { _raw_write_unlock_irqrestore(l, flags) } ==> l.lent
-         | { 0 } ==> true=stop, false=start
-         | { 1 } ==> true=start, false=stop;
-  l.lent:  { spin_lock(l) } || { spin_lock_irq(l) } || { spin_lock_bh(l) } || { flags = _raw_spin_lock_irqsave(spinlock_check(l)) }
-               || { mutex_lock(l) } || { down_read(l) } || { down_write(l) } || { _raw_read_lock(l) } || { _raw_read_lock_irq(l) }
-               || { _raw_read_lock_bh(l) } || { flags = _raw_read_lock_irqsave(l) } || { _raw_write_lock(l) }
-               || { _raw_write_lock_irq(l) } || { _raw_write_lock_bh(l) } || { flags = _raw_write_lock_irqsave(l) } ==> l.stop;
+               || { _raw_write_unlock_irq(l) } || { _raw_write_unlock_bh(l) } || { _raw_write_unlock_irqrestore(l, flags) } ==> l.stop;
 
   l.spin:  { spin_unlock(l) } || { spin_unlock_irq(l) } || { spin_unlock_bh(l) } || { spin_unlock_irqrestore(l, flags) } ==> l.stop
          | { spin_lock(l) } || { spin_lock_irq(l) } || { spin_lock_bh(l) } || { flags = _raw_spin_lock_irqsave(spinlock_check(l)) }
                ==> l.spin, { err("%s is taken twice", mc_identifier(l)); }
-         | { mutex_unlock(l) } ==> l.stop, { err("%s is a spin lock and is released as a mutex", mc_identifier(l)); }
-         | $end_of_path$ && ${ mc_in_function("snd_pcm_stream_lock") } || $end_of_path$ && ${ mc_in_function("snd_pcm_stream_lock_irq") }
-               || $end_of_path$ && ${ mc_in_function("_snd_pcm_stream_lock_irqsave") }
-               || $end_of_path$ && ${ mc_in_function("follow_pte") } || $end_of_path$ && ${ mc_in_function("s_start") } ==> l.stop
-         | $end_of_path$ ==> l.stop, { err("%s is still held at the end", mc_identifier(l)); };
+         | { mutex_unlock(l) } ==> l.stop, { err("%s is a spin lock and is released as a mutex", mc_identifier(l)); };
   l.mutex: { mutex_unlock(l) } ==> l.stop
          | { mutex_lock(l) } ==> l.mutex, { err("%s is taken twice", mc_identifier(l)); }
-         | { spin_unlock(l) } ==> l.stop, { err("%s is a mutex and is released as a spin lock", mc_identifier(l)); }
-         | $end_of_path$ && ${ mc_in_function("snd_pcm_stream_lock") } || $end_of_path$ && ${ mc_in_function("snd_pcm_stream_lock_irq") }
-               || $end_of_path$ && ${ mc_in_function("_snd_pcm_stream_lock_irqsave") }
-               || $end_of_path$ && ${ mc_in_function("jbd2_journal_lock_updates") }
-               || $end_of_path$ && ${ mc_in_function("mm_take_all_locks") } || $end_of_path$ && ${ mc_in_function("zone_pcp_disable") }
-               || $end_of_path$ && ${ mc_in_function("disable_swap_slots_cache_lock") } || $end_of_path$ && ${ mc_in_function("s_start") }
-               || $end_of_path$ && ${ mc_in_function("t_start") } || $end_of_path$ && ${ mc_in_function("slab_start") }
-               || $end_of_path$ && ${ mc_in_function("swap_start") } || $end_of_path$ && ${ mc_in_function("ddebug_proc_start") }
-               ==> l.stop
-         | $end_of_path$ ==> l.stop, { err("%s is still held at the end", mc_identifier(l)); };
+         | { spin_unlock(l) } ==> l.stop, { err("%s is a mutex and is released as a spin lock", mc_identifier(l)); };
   l.read:  { _raw_read_unlock(l) } || { _raw_read_unlock_irq(l) } || { _raw_read_unlock_bh(l) } || { _raw_read_unlock_irqrestore(l, flags) }
                || { up_read(l) } ==> l.stop
          | { _raw_write_lock(l) } || { _raw_write_lock_irq(l) } || { _raw_write_lock_bh(l) } || { flags = _raw_write_lock_irqsave(l) }
                || { down_write(l) } ==> l.write, { err("%s is taken for writing while it is held for reading", mc_identifier(l)); }
          | { _raw_write_unlock(l) } || { up_write(l) }
-               ==> l.stop, { err("%s is held for reading and released as by a writer", mc_identifier(l)); }
-         | $end_of_path$ && ${ mc_in_function("page_offline_freeze") } ==> l.stop
-         | $end_of_path$ ==> l.stop, { err("%s is still held at the end", mc_identifier(l)); };
+               ==> l.stop, { err("%s is held for reading and released as by a writer", mc_identifier(l)); };
   l.write: { _raw_write_unlock(l) } || { _raw_write_unlock_irq(l) } || { _raw_write_unlock_bh(l) }
                || { _raw_write_unlock_irqrestore(l, flags) } || { up_write(l) } ==> l.stop
          | { downgrade_write(l) } ==> l.read
          | { _raw_read_lock(l) } || { _raw_write_lock(l) } || { down_read(l) } || { down_write(l) }
                ==> l.write, { err("%s is taken twice", mc_identifier(l)); }
          | { _raw_read_unlock(l) } || { up_read(l) }
-               ==> l.stop, { err("%s is held for writing and released as by a reader", mc_identifier(l)); }
-         | $end_of_path$ && ${ mc_in_function("page_offline_begin") }
-               || $end_of_path$ && ${ mc_in_function("filemap_invalidate_lock_two") }
-               || $end_of_path$ && ${ mc_in_function("mm_take_all_locks") } ==> l.stop
-         | $end_of_path$ ==> l.stop, { err("%s is still held at the end", mc_identifier(l)); };
+               ==> l.stop, { err("%s is held for writing and released as by a reader", mc_identifier(l)); };
 }

@@ -13,12 +13,12 @@ void down_read(struct rw_semaphore *); void up_read(struct rw_semaphore *); void
 void down_write(struct rw_semaphore *); void downgrade_write(struct rw_semaphore *);
 struct port { spinlock_t lock; struct mutex setup; rwlock_t table; struct rw_semaphore users; int open; };
 
-int left(struct port *p)
+int again(struct port *p)
 {
     unsigned long flags;
     { flags = _raw_spin_lock_irqsave(spinlock_check(&p->lock)); }
     if (p->open)
-        return -1;                              /* wants: &p->lock is still held at the end */
+        spin_lock(&p->lock);                    /* wants: &p->lock is taken twice */
     spin_unlock_irqrestore(&p->lock, flags);
     return 0;
 }
@@ -43,7 +43,7 @@ int mixed(struct port *p)
     spin_unlock((spinlock_t *)&p->setup);       /* wants: &p->setup is a mutex and is released as a spin lock */
     mutex_lock(&p->setup);
     mutex_lock(&p->setup);                      /* wants: &p->setup is taken twice */
-    return 0;                                   /* wants: &p->setup is still held at the end */
+    return 0;
 }
 
 void tried(struct port *p)
@@ -62,25 +62,33 @@ int tables(struct port *p)
     down_write(&p->users);
     down_read(&p->users);                       /* wants: &p->users is taken twice */
     if (p->open)
-        return 1;                               /* wants: &p->users is still held at the end */
+        return 1;
     downgrade_write(&p->users);
-    return 0;                                   /* wants: &p->users is still held at the end */
+    return 0;
 }
 
-int entry(struct port *p, int *kept)
+void entry(struct port *p, int *kept)
 {
     spinlock_t *ptl;
     { spinlock_t *__ptl = &p->lock; *(&ptl) = __ptl; spin_lock(__ptl); }
-    if (!p->open)
-        return -1;                              /* wants: ptl is still held at the end */
     *kept = p->open;
+    spin_lock(ptl);                             /* wants: ptl is taken twice */
     spin_unlock(ptl);
-    return 0;
 }
 
 int attempt(struct port *p, unsigned long *flags)
 {
     if (!(*flags = arch_local_irq_save(), _raw_spin_trylock(spinlock_check(&p->lock)) ? 1 : (arch_local_irq_restore(*flags), 0)))
         return 0;
-    return 1;                                   /* wants: &p->lock is still held at the end */
+    spin_lock(&p->lock);                        /* wants: &p->lock is taken twice */
+    spin_unlock_irqrestore(&p->lock, *flags);
+    return 1;
+}
+
+/* Held by the caller, released for a while, and taken once more than that. */
+void wait_for(struct port *p)
+{
+    mutex_unlock(&p->setup);
+    mutex_lock(&p->setup);
+    mutex_lock(&p->setup);                      /* wants: &p->setup is taken twice */
 }

@@ -80,29 +80,6 @@ void entry(struct port *p, int *kept)
     spin_unlock(ptl);
 }
 
-void snd_pcm_stream_lock(struct port *p)
-{
-    spin_lock(&p->lock);
-}
-
-void *slab_start(struct port *p)
-{
-    mutex_lock(&p->setup);
-    return p;
-}
-
-void page_offline_freeze(struct port *p)
-{
-    _raw_read_lock(&p->table);
-}
-
-int page_offline_begin(struct port *p)
-{
-    if (down_write_killable(&p->users))
-        return -4;
-    return 0;
-}
-
 int attempt(struct port *p, unsigned long *flags)
 {
     if ((*flags = arch_local_irq_save(), _raw_spin_trylock(spinlock_check(&p->lock)) ? 1 : (arch_local_irq_restore(*flags), 0))) {
@@ -120,4 +97,25 @@ int wait_for(struct port *p)
         ;
     mutex_lock(&p->setup);
     return 0;
+}
+
+/* Taken and released by one flag. */
+static void take(struct port *p, int sleeps)
+{
+    if (sleeps)
+        mutex_lock(&p->setup);
+}
+
+static void give(struct port *p, int sleeps)
+{
+    if (sleeps)
+        mutex_unlock(&p->setup);
+}
+
+void stepped(struct port *p)
+{
+    take(p, p->open);
+    give(p, p->open);
+    take(p, p->open);
+    give(p, p->open);
 }
