@@ -381,6 +381,49 @@ class Times(InWorkspace):
         self.assertLess(text.find("<!-- times: begin -->"), text.find("<!-- times: end -->"))
 
 
+class Modules(InWorkspace):
+    """bench/modules, over a process that writes modules as the prover does."""
+
+    def modules(self, *words):
+        how = {"env": self.environment, "cwd": self.room, "capture_output": True, "text": True, "timeout": 60}
+        return subprocess.run([sys.executable, os.path.join(ROOT, "bench", "modules"), *words], **how)
+
+    def test_running_check(self):
+        script(f"{self.room}/proving", """
+import os, shutil, sys, time
+folder = f"/tmp/rattle-logic-built-locked-{os.getpid()}-0"
+os.mkdir(folder)
+try:
+    for name in ("Rattle-one", "Rattle-one-proofs.small.Lts", "Rattle-one-proofs.+large.Proof"):
+        time.sleep(1 if "large" in name else 0.2)
+        with open(f"{folder}/{name}.oantt", "w") as file:
+            file.write(name)
+    print("written", flush=True)
+    sys.stdin.readline()
+finally:
+    shutil.rmtree(folder)
+""")
+        with subprocess.Popen([f"{self.room}/proving"], stdin=subprocess.PIPE, stdout=subprocess.PIPE, text=True) as proving:
+            self.assertEqual(proving.stdout.readline(), "written\n")
+            how = {"cwd": self.room, "stdout": subprocess.PIPE, "text": True}
+            watching = subprocess.Popen([sys.executable, os.path.join(ROOT, "bench", "modules"), "--most", "1", "--of", str(proving.pid)], **how)
+            time.sleep(2)
+            proving.stdin.write("\n")
+            proving.stdin.close()
+            proving.wait(timeout=30)
+            told = watching.communicate(timeout=30)[0].splitlines()
+        self.assertRegex(told[0], r"^3 modules in \d+ s: \d+ before the first, \d+ Proof, \d+ Lts$")
+        self.assertRegex(told[1], r"^ +\d+\.\d s +30 B  Rattle-one-proofs\.\+large\.Proof$")
+        self.assertEqual(len(told), 2)
+
+    def test_refusals(self):
+        given = {("--of", "999999999"): "no process 999999999 runs", ("none",): "there is no crate none", (): "name a crate, or a running check"}
+        for words, why in given.items():
+            done = self.modules(*words)
+            self.assertEqual(done.returncode, 2)
+            self.assertIn(why, done.stderr)
+
+
 if __name__ == "__main__":
     sys.argv[1:] = sys.argv[1:] or ["-q"]
     unittest.main()

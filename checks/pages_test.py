@@ -256,12 +256,31 @@ class Promises(unittest.TestCase):
         self.assertEqual({name for text in promises for name in re.findall(r"`(\w+)`", text)}, set(clauses))
 
 
+class Rooms(unittest.TestCase):
+    """Each room says what it holds, briefly and in one order."""
+    headings = ["What it does", "What a contract sees", "What is proved", "What no clause says", "What is tested or read"]
+
+    def test_headings(self):
+        for room in sorted(os.listdir(os.path.join(ROOT, "crates"))):
+            if not os.path.isdir(os.path.join(ROOT, "crates", room, "src")):
+                continue
+            with self.subTest(room):
+                text = page(f"crates/{room}/README.md")
+                self.assertEqual(re.findall(r"(?m)^## (.*)$", text), self.headings)
+                self.assertTrue(text.startswith(f"# {room}\n"))
+
+    def test_length(self):
+        long = {name: words for name in glob.glob(os.path.join(ROOT, "crates", "*", "README.md"))
+                if (words := len(page(os.path.relpath(name, ROOT)).split())) > 250}
+        self.assertEqual(long, {})
+
+
 class Links(unittest.TestCase):
     """What the pages lead to is there."""
     folders = "docs|examples|tools|checks|bench|cases|man|completions|editors"
 
     def pages(self):
-        places = ("README.md", "docs/*.md", "examples/**/*.md", "editors/*.md", "cases/*.md", "crates/*/README.md")
+        places = ("README.md", "docs/*.md", "examples/**/*.md", "editors/*.md", "cases/*.md", "crates/*/*.md")
         found = [name for place in places for name in glob.glob(os.path.join(ROOT, place), recursive=True)]
         return sorted(os.path.relpath(name, ROOT) for name in found)
 
