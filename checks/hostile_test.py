@@ -131,6 +131,12 @@ class Strange(WithProgram):
         self.assertEqual((status, lines[-1]), (1, "strange: 0 passed, 1 failed"))
         self.assertIn("input closed: it came to (0, b'', b'')", lines[0])
 
+    def test_little_memory(self):
+        careful = f'[ "$(ulimit -v)" = unlimited ] || [ "$(ulimit -v)" -gt 20000 ] || exit 6; {REPORTS}'
+        self.assertEqual(self.call(careful, "checks/strange", "little memory")[0], 0)
+        self.assertEqual(self.call(careful.replace("6;", "0;"), "checks/strange", "little memory")[0], 1)
+        self.assertEqual(self.call(REPORTS, "checks/strange", "little memory")[0], 1)
+
     def test_beginnings(self):
         status, lines = self.call("kill -SEGV $$", "checks/strange", "beginning of a checker")
         self.assertEqual(status, 1)
@@ -182,11 +188,14 @@ class Stack(WithProgram):
         self.assertEqual((status, lines[2:3]), (0, ["| unary operators | 100 | 176 |"]))
         self.assertEqual(lines[-1], "stack: the most is 176 KiB")
         self.assertEqual(self.call(need, "bench/stack", "--most", "175", "unary operators")[0], 1)
+        self.assertEqual(self.call(CLEAN, "bench/stack", "arrays")[1][2], "| arrays | 20000 | 16 |")
+        self.assertEqual(self.call("exit 3", "bench/stack", "arrays")[1][2], "| arrays | not measured | |")
 
     def test_kinds_are_texts(self):
         stack = as_module("bench/stack")
         self.assertTrue(stack.text_of("blocks", 3).endswith("void f(void){ { { { ; } } } }\n"))
         self.assertTrue(stack.text_of("labels", 2).endswith("l0: l1: ; }\n"))
+        self.assertTrue(stack.text_of("array bounds", 2).endswith(" int y[sizeof(int[sizeof(int[1])])];\n"))
         self.assertTrue(stack.text_of("type names", 2).endswith("(int (*(*)(void))(void))0; }\n"))
 
 

@@ -10,11 +10,14 @@ from scripts import cases
 
 MOST_BYTES = 20_000  # of a text that is changed
 MOST_MADE = 200_000  # of one that comes out
-Corpus = collections.namedtuple("Corpus", "groups checkers sources")
+Corpus = collections.namedtuple("Corpus", "groups fine checkers sources")
 LARGE = ("large/", "reading/")  # cases with files at the limits
 TOKEN = re.compile(
     rb"""\s+|/\*.*?\*/|//[^\n]*|[A-Za-z_][A-Za-z_0-9]*|\.?[0-9][A-Za-z_0-9.]*|"(?:\\.|[^"\\\n])*"|'(?:\\.|[^'\\\n])*'"""
     rb"""|==>|<<=|>>=|\.\.\.|->|\+\+|--|&&|\|\||<<|>>|[-+*/%&|^=!<>]=|.""", re.DOTALL)
+NAME = re.compile(rb"[A-Za-z_][A-Za-z_0-9]*")
+KEYWORDS = set(b"int char void struct union enum typedef static extern const unsigned long if else while for do switch case default break "
+               b"continue return goto sizeof sm state decl start err true false mc_identifier any_pointer any_expr any_scalar".split())
 # what readers stumble over: half tokens, odd bytes, limits, words with a meaning of their own
 ODD = [b"\0", b"\r", b"\r\n", b"\xff", b"\xc3\xa9", b"@", b"\\", b"#", b"\n# 1 \"b.c\"\n", b"\n#pragma x\n", b"\"", b"'", b"''", b"/*", b"*/",
        b"//", b"0x", b"08", b"1e", b"0xffffffffffffffff", b"18446744073709551616", b"1ull", b"L\"a\"", b"L'", b"...", b"==>", b"$",
@@ -29,35 +32,43 @@ ODD_WORDS = [["--depth", "9"], ["--stats"], ["--format", "xml"], ["-"], ["none.c
 
 
 def texts_of_cases():
-    """The case, the name and the bytes of the files of all cases, those of rows too."""
+    """The case, the name and the bytes of the files of all cases, those of rows too, and whether they are read."""
     runner = cases()
     for case in (it for it in runner.all_cases() if not it.startswith(LARGE)):
-        for title, text in runner.sections(os.path.join(runner.CASES, case + ".case")):
+        parts = runner.sections(os.path.join(runner.CASES, case + ".case"))
+        is_fine = any(title.startswith("rows") or title == "status" and text.strip() in ("0", "1") for title, text in parts)
+        for title, text in parts:
             kind, *name = title.split()
             if kind == "file":
-                yield case, name[0], runner.contents(name[1:], text)
+                yield case, name[0], runner.contents(name[1:], text), is_fine
             elif kind == "rows":
-                yield from ((case, name[0], runner.spelled(line.partition(": ")[2])) for line in text.splitlines())
+                for line in text.splitlines():
+                    fault, _, row = line.partition(": ")
+                    yield case, name[0], runner.spelled(row), fault == "read"
 
 
 def texts_of_examples():
-    """The folder, the name and the bytes of the files of examples/, without the lines of C files that only a preprocessor takes."""
+    """The folder, the name and the bytes of the files of examples/, which all are read, without the lines of C files that only a preprocessor takes."""
     for path in sorted(glob.glob(os.path.join(ROOT, "examples", "**", "*.*"), recursive=True)):
         if path.endswith((".c", ".metal")):
             with open(path, "rb") as file:
                 text = file.read()
-            yield os.path.dirname(path), path, re.sub(rb"(?m)^[ \t]*#(?! [0-9]).*$", b"", text) if path.endswith(".c") else text
+            text = re.sub(rb"(?m)^[ \t]*#(?! [0-9]).*$", b"", text) if path.endswith(".c") else text
+            yield os.path.dirname(path), path, text, True
 
 
 def corpus():
-    """The texts that are changed, as lists of tokens: by group, where a group has checkers and C files, and all."""
-    groups, texts = {}, ({}, {})
-    for group, name, text in [*texts_of_cases(), *texts_of_examples()]:
+    """The texts that are changed, as lists of tokens: by group, where a group has checkers and C files, those of them that are read, and
+    all."""
+    groups, fine, texts = {}, {}, ({}, {})
+    for group, name, text, is_fine in [*texts_of_cases(), *texts_of_examples()]:
         if 0 < len(text) <= MOST_BYTES:
             kind = 0 if name.endswith(".metal") else 1
             tokens = texts[kind].setdefault(text, TOKEN.findall(text))
-            groups.setdefault(group, ([], []))[kind].append(tokens)
-    return Corpus([pair for pair in groups.values() if all(pair)], *(list(it.values()) for it in texts))
+            for found in [groups, fine][:1 + is_fine]:
+                found.setdefault(group, ([], []))[kind].append(tokens)
+    pairs = ([pair for pair in found.values() if all(pair)] for found in (groups, fine))
+    return Corpus(*pairs, *(list(it.values()) for it in texts))
 
 
 def piece(rng, tokens, most=12):
@@ -107,22 +118,46 @@ def wrap(rng, tokens, _):
     return tokens[:at] + [left] * times + tokens[at:end] + [right] * times + tokens[end:]
 
 
-CHANGES = [cut, cut, double, swap, replace, replace, replace, splice, wrap]
+def exchange(rng, tokens, _):
+    """With a token in the place of another of its kind, a name for a name or a number for a number."""
+    kinds = [0 if token.isdigit() else 1 if NAME.fullmatch(token) and token not in KEYWORDS else 2 for token in tokens]
+    places = [at for at, kind in enumerate(kinds) if kind < 2]
+    if not places:
+        return tokens
+    at = rng.choice(places)
+    return tokens[:at] + [tokens[rng.choice([other for other in places if kinds[other] == kinds[at]])]] + tokens[at + 1:]
 
 
-def changed(rng, tokens, others):
-    """A text that is changed a few times."""
+def repeat(rng, tokens, _):
+    """With what ends in a semicolon once more, behind another semicolon or a brace."""
+    ends = [0, *(at + 1 for at, token in enumerate(tokens) if token in (b";", b"{", b"}"))]
+    pieces = [(start, end) for start, end in zip(ends, ends[1:]) if tokens[end - 1] == b";"]
+    if not pieces:
+        return tokens
+    (start, end), to = rng.choice(pieces), rng.choice(ends[1:])
+    return tokens[:to] + tokens[start:end] + tokens[to:]
+
+
+CHANGES = [cut, cut, double, swap, replace, replace, replace, splice, wrap, exchange, exchange, repeat, repeat]
+GENTLE = [exchange, exchange, exchange, repeat]  # behind which many a text is read still
+
+
+def changed(rng, tokens, others, changes):
+    """A text that is changed a few times, each time in one of these ways."""
     for _ in range(rng.choice([1, 1, 1, 1, 2, 2, 3, 5, 8])):
-        made = rng.choice(CHANGES)(rng, tokens, others)
+        made = rng.choice(changes)(rng, tokens, others)
         if sum(map(len, made)) <= MOST_MADE:
             tokens = made
     return tokens
 
 
 def run_of(texts, seed):
-    """The files and the words of the run of a seed: a checker and C files, of which one kind or both are changed."""
+    """The files and the words of the run of a seed: a checker and C files, of which one kind or both are changed. Half of the seeds begin
+    with texts that are read, and change them gently."""
     rng = random.Random(seed)
-    checkers, sources = rng.choice(texts.groups) if rng.random() < 0.7 else (texts.checkers, texts.sources)
+    is_gentle = rng.random() < 0.5
+    of_one_group = rng.choice(texts.fine if is_gentle else texts.groups)
+    checkers, sources = of_one_group if is_gentle or rng.random() < 0.7 else (texts.checkers, texts.sources)
     files = {"m.metal": rng.choice(checkers), "a.c": rng.choice(sources)}
     if rng.random() < 0.2:
         files["b.c"] = rng.choice(sources)
@@ -130,6 +165,7 @@ def run_of(texts, seed):
     for name, tokens in files.items():
         is_checker = name == "m.metal"
         if which == "both" or (which == "checker") == is_checker:
-            files[name] = changed(rng, tokens, texts.checkers if is_checker else texts.sources)
+            others = texts.checkers if is_checker else texts.sources
+            files[name] = changed(rng, tokens, others, GENTLE if is_gentle else CHANGES)
     words = rng.choice(ODD_WORDS) if rng.random() < 0.05 else rng.choice(WORDS)
     return {name: b"".join(tokens) for name, tokens in files.items()}, [*words, *files]

@@ -17,6 +17,7 @@ PREPROCESSED = (b"# 1 \"a.c\"\n# 1 \"/usr/include/x.h\" 1 3 4\n__extension__ typ
 NOBODY = 65534
 SECONDS = 60
 MOST = 16777216  # the bytes that a file may have
+MEMORY = [*range(8192, 49152, 2048), 1048576]  # in KiB; with less the system may not begin a program
 
 # the text of a.c, how a shell sets the streams, and what the run comes to
 STREAMS = {
@@ -193,6 +194,16 @@ def many_names(room):
     return wrong + differs(room.over("a.c"), Run(3, b"", b"a.c:1001: refused: Syntax\n"))
 
 
+def little_memory(room):
+    """Under a limit of memory a run writes nothing and ends with status 6, or gives its whole answer; the first limit is too low, the last
+    one isn't."""
+    room.put("a.c", b"".join(b"void f%d(char *p){ kfree(p); *p; }\n" % at for at in range(600)))
+    whole = room.over("a.c")
+    seen = [room.over("a.c", program=["sh", "-c", 'ulimit -v "$0" && exec "$@"', str(limit), room.program]) for limit in MEMORY]
+    wrong = [f"with {limit} KiB {line}" for limit, run in zip(MEMORY, seen) if run != Run(6, b"", b"") for line in differs(run, whole)]
+    return wrong + differs(seen[0], Run(6, b"", b"")) + differs(seen[-1], whole) + differs(Run(whole.status, b"", whole.errs), Run(1, b"", b""))
+
+
 def file_without_end(room):
     return differs(room.over("/dev/zero"), Run(3, b"", b"/dev/zero:1: refused: TooLarge\n"))
 
@@ -249,6 +260,7 @@ STEPS = {
     "names that no file has": plain_names,
     "words that are no text": words_that_are_no_text,
     "many names": many_names,
+    "little memory": little_memory,
     "a file without end": file_without_end,
     "a file of null bytes": file_of_nulls,
     "a read that fails": read_that_fails,
