@@ -8,7 +8,7 @@ use Rattle.block_flows.specs.Firings.{acting, ObjectActs, GlobalActs, Fire, Take
 use Rattle.block_flows.proofs.Standing.{standing, alone, no-other, walks}
 use Rattle.c_objects.specs.Objects.{Object}
 use Rattle.type_rules.specs.Options.{if_there}
-use Rattle.path_model.specs.CheckerModel.Checkers.{model, origins}
+use Rattle.path_model.specs.CheckerModel.Checkers.{model}
 use Rattle.path_model.specs.CheckerModel.Choices.{State, Taken, taken, taken_global}
 use Rattle.path_model.specs.CheckerModel.Happenings.{Function, Happening}
 use Rattle.path_model.specs.CheckerModel.Moves.{move_of}
@@ -20,7 +20,7 @@ use Rattle.least_set.proofs.Growing.{nothing}
 use Rattle.path_theory.specs.Facts.{FactOf, NoObject, HasObject}
 use Rattle.state_tuples.specs.declared.tuple.Tuple.{Tuple}
 use Rattle.block_flows.specs.TupleFlows.Behind.{IsBehind}
-use Rattle.block_flows.specs.TupleFlows.Facts.{fact_of, fact_in, listed}
+use Rattle.block_flows.specs.TupleFlows.Facts.{fact_of, fact_in, listed, origins_in}
 use Rattle.block_flows.specs.TupleFlows.Moved.{MoveFlow, MovesNone, MovesObject, IsMoved}
 use Rattle.block_flows.proofs.TupleFlows.Lists.{contains-first, contains-later, contains-cases}
 use Rattle.block_flows.proofs.TupleFlows.Tuples.{tuple_of}
@@ -98,7 +98,7 @@ fire n o r = record { event = n; object = o; taken = r }
 
 module _ (c : Checker) (f : Function) (k : Bool) (followed : List Object) where
   abbrev Here : Happening → ℕ → FactOf Object State → Option Object → Taken → Type 0
-  Here h = HappensHere (model c) (origins c) (listed c followed) (ObjectActs c) (GlobalActs c) f k h
+  Here h = HappensHere (model c) (origins_in c followed followed) (listed c followed) (ObjectActs c) (GlobalActs c) f k h
 
   abbrev Moves : Happening → FactOf Object State → FactOf Object State → Type 0
   Moves h = MoveFlow c.depth (move_of h.facts c.depth h.event) followed
@@ -151,14 +151,14 @@ module _ (c : Checker) (f : Function) (k : Bool) (followed : List Object) where
 
   abbrev pub IsNoted : List Happening → List Happening → ℕ → Tuple → List Tuple → List Fire → Type 0
   IsNoted hs left n t now list =
-      Noted (model c) (origins c) (listed c followed) (ObjectActs c) (GlobalActs c) f k hs left n t.global (fact_in t) (standing now) (noted_in list)
+      Noted (model c) (origins_in c followed followed) (listed c followed) (ObjectActs c) (GlobalActs c) f k hs left n t.global (fact_in t) (standing now) (noted_in list)
 
   pub notes-start : (hs : List Happening) (t : Tuple) → IsNoted hs hs zero t (t ∷ []) []
-  notes-start hs t = noted-start (model c) (origins c) (listed c followed) (ObjectActs c) (GlobalActs c) f k hs t.global (fact_in t) (standing (t ∷ [])) (noted_in [])
+  notes-start hs t = noted-start (model c) (origins_in c followed followed) (listed c followed) (ObjectActs c) (GlobalActs c) f k hs t.global (fact_in t) (standing (t ∷ [])) (noted_in [])
       (alone t) (no-other t) (λ m q a o. nothing (fire m q a) o)
 
   notes : (h : Happening) (n : ℕ) (now : List Tuple) (old more : List Fire) → IsExactly more (SomeGives (TakenHere c h f k followed n) now)
-      → Notes (model c) (origins c) (listed c followed) (ObjectActs c) (GlobalActs c) f k h n (standing now) (noted_in old) (noted_in (old ++ more))
+      → Notes (model c) (origins_in c followed followed) (listed c followed) (ObjectActs c) (GlobalActs c) f k h n (standing now) (noted_in old) (noted_in (old ++ more))
   notes h n now old more e = record { real = real; kept = λ m q a o. Contains-append_left old more (fire m q a) o; added = added }
     where
       real : (m : ℕ) (q : Option Object) (a : Taken) → noted_in (old ++ more) m q a
@@ -178,12 +178,12 @@ module _ (c : Checker) (f : Function) (k : Bool) (followed : List Object) where
       → IsNoted hs was n t now old → IsExactly new (SomeGives (IsBehind c h f k followed) now) → IsExactly more (SomeGives (TakenHere c h f k followed n) now)
       → IsNoted hs left (n + 1) t new (old ++ more)
   notes-next hs h was left n t now new old more e s x y =
-      noted-next (model c) (origins c) (listed c followed) (ObjectActs c) (GlobalActs c) f k hs h left n t.global (fact_in t) (standing now) (standing new) (noted_in old) (noted_in (old ++ more))
+      noted-next (model c) (origins_in c followed followed) (listed c followed) (ObjectActs c) (GlobalActs c) f k hs h left n t.global (fact_in t) (standing now) (standing new) (noted_in old) (noted_in (old ++ more))
       (subst (λ z. IsNoted hs z n t now old) e s) (walks c f k followed h now new x) (notes h n now old more y)
 
   pub notes-end : (hs left : List Happening) (n : ℕ) (t : Tuple) (now : List Tuple) (list : List Fire) → left ≡ [] → IsNoted hs left n t now list → IsExactly list (TakenAt c hs f k followed t)
   notes-end hs left n t now list e s =
       let at = subst (λ z. IsNoted hs z n t now list) e s in (
         λ y m. at.noted y.event y.object y.taken m,
-        λ y w. noted-end (model c) (origins c) (listed c followed) (ObjectActs c) (GlobalActs c) f k hs n t.global (fact_in t) (standing now) (noted_in list) at y.event y.object y.taken w,
+        λ y w. noted-end (model c) (origins_in c followed followed) (listed c followed) (ObjectActs c) (GlobalActs c) f k hs n t.global (fact_in t) (standing now) (noted_in list) at y.event y.object y.taken w,
       )

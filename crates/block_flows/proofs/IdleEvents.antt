@@ -1,11 +1,9 @@
 -- An event at which no rule applies, and which writes over nothing, leaves tuples as they are, and no rule is taken there.
 use Rattle.std.proofs.Common.{arith, ◌≡◌, inl, inr, ℕ, nat_eq, Bool, true, false, cond, not, ◌||◌, ◌==◌, List, [], ◌∷◌, length, map, Contains, Option, None, Some, refl, sym, ap, subst, ◌∙◌}
-use Rattle.std.specs.List.{filter_map, cons_option, list_all}
+use Rattle.std.specs.List.{filter_map, cons_option}
 use Rattle.std.specs.Option.{option_map}
 use Rattle.std.specs.Prelude.{is_some, is_none}
 use Rattle.std.proofs.lemmas.Bool.{and_parts, eqb-true}
-use Rattle.std.proofs.lemmas.List.Elements.{All-contains}
-use Rattle.std.proofs.lemmas.List.Sums.{AllPass-from_list_all}
 use Rattle.state_tuples.proofs.AppliedRules.OfEvents.{global_is, object_is}
 use Rattle.state_tuples.specs.declared.applied_rules.rules.EventRules.{EventRules}
 use Rattle.state_tuples.specs.AppliedRules.Applied.{Applied}
@@ -13,8 +11,8 @@ use Rattle.state_tuples.specs.AppliedRules.Events.{applied_of, AreOfEvent}
 use Rattle.state_tuples.specs.AppliedRules.Firsts.{first_taken, rule_taken}
 use Rattle.block_flows.proofs.Fires.{fire, fires}
 use Rattle.block_flows.specs.Firings.{acting, TakenHere, fire_of}
-use Rattle.block_flows.specs.IdleEvents.{is_idle, is_within, leaves_all, AreLeft}
-use Rattle.c_objects.specs.Objects.{Object, is_object}
+use Rattle.block_flows.specs.IdleEvents.{is_idle, is_within, leaves_all, AreFollowed, AreLeft}
+use Rattle.c_objects.specs.Objects.{Object}
 use Rattle.flow_graph.specs.CPaths.Events.{Event}
 use Rattle.type_rules.specs.Options.{if_there}
 use Rattle.metal_tree.specs.MetalMachines.Machine.{stop}
@@ -31,15 +29,14 @@ use Rattle.objects.specs.Units.{facts_in}
 use Rattle.path_theory.specs.Facts.{HasObject}
 use Rattle.state_tuples.specs.RuleChoices.Asked.{Asker, GlobalState, ObjectIn}
 use Rattle.state_tuples.specs.declared.tuple.Tuple.{Tuple}
-use Rattle.synonyms_kills.proofs.CopiedStates.{are_targets}
-use Rattle.synonyms_kills.specs.Targets.{AreTargets, targets}
 use Rattle.block_flows.proofs.TupleFlows.Events.{behind}
+use Rattle.block_flows.proofs.TupleFlows.Followed.{in-contains}
 use Rattle.block_flows.proofs.TupleFlows.Lists.{contains-first, contains-cases}
-use Rattle.block_flows.proofs.TupleFlows.MovedTuples.{none-unknown, of-targets, of-none}
+use Rattle.block_flows.proofs.TupleFlows.MovedTuples.{none-unknown, of-object, of-none, stays-itself}
 use Rattle.block_flows.proofs.TupleFlows.Tuples.{same-tuple}
 use Rattle.block_flows.specs.TupleFlows.Behind.{IsBehind, chosen_object, chosen_tuple}
-use Rattle.block_flows.specs.TupleFlows.Facts.{fact_of, with_object, without_object}
-use Rattle.block_flows.specs.TupleFlows.Moved.{AreObjects, IsMoved}
+use Rattle.block_flows.specs.TupleFlows.Facts.{fact_of, is_in, with_object, without_object}
+use Rattle.block_flows.specs.TupleFlows.Moved.{AreObjects, IsMoved, source_in}
 
 -- ---- lists of which each value gives itself alone, or nothing
 
@@ -51,6 +48,12 @@ themselves G xs each = (
 
 pub no-values : {T B : Type 0} (G : T → B → Type 0) (xs : List T) → ((x : T) → Contains xs x → IsExactly [] (G x)) → IsExactly [] (SomeGives G xs)
 no-values G xs each = (λ y m. absurd (nothing y m), λ y s. (each s.0 s.1).1 y s.2)
+
+only : (t u : Tuple) → Contains (t ∷ []) u → t ≡ u
+only t u m = elim (contains-cases t u [] m) [ inl e ↦ e | inr n ↦ absurd (nothing u n) ]
+
+one-object : (o b : Object) → Some o ≡ Some b → o ≡ b
+one-object o b e = cc
 
 -- ---- where nothing is found
 
@@ -114,7 +117,11 @@ module _ (c : Checker) (h : Happening) (f : Function) (k : Bool) (followed : Lis
       )
       ∙ missing moves parts.1
 
-  module _ (t : Tuple) (within : is_within r.setting.depth t ≡ true) where
+  -- each object that is followed has its own state
+  own-source : (o : Object) → Contains followed o → source_in c.depth M followed o ≡ Some o
+  own-source o m = ap (λ z. source_in c.depth z followed o) no-move ∙ stays-itself c.depth followed o are m
+
+  module _ (t : Tuple) (within : is_within followed t ≡ true) where
     abbrev fact-at : (q : Option Object) → q ≡ t.object → fact_of q t.state ≡ fact_of t.object t.state
     fact-at q e = ap (λ z. fact_of z t.state) e
 
@@ -127,11 +134,15 @@ module _ (c : Checker) (h : Happening) (f : Function) (k : Bool) (followed : Lis
 
     moved-object : (b : Object) → t.object ≡ Some b → IsExactly (t ∷ []) (IsMoved c.depth M followed t)
     moved-object b e =
-        let inside : is_object c.depth b ≡ true = subst (λ z. is_object z b ≡ true) the-depth (ap (λ z. if_there z true (is_object r.setting.depth)) (sym e) ∙ within) in
-        let there = are_targets h.facts c.depth h.event b inside in
-        let own : AreTargets c.depth M b (b ∷ []) = subst (AreTargets c.depth M b) (ap (λ m. targets c.depth m b) no-move) there in
+        let inside : is_in followed b ≡ true = ap (λ z. if_there z true (is_in followed)) (sym e) ∙ within in
+        let there = in-contains followed b inside in
         let same : with_object t b ≡ t = same-tuple (with_object t b) t refl (fact-at (Some b) (sym e)) in
-        subst (λ z. IsExactly (z ∷ []) (IsMoved c.depth M followed t)) same (of-targets c.depth M followed t b (b ∷ []) e own)
+        of-object c.depth M followed t b (t ∷ []) e (
+          λ u m. (b, there, (own-source b there, same ∙ only t u m)),
+          λ u s.
+              let one : s.0 ≡ b = one-object s.0 b (sym (own-source s.0 s.1) ∙ s.2.0) in
+              subst (Contains (t ∷ [])) (sym same ∙ ap (with_object t) (sym one) ∙ s.2.1) (contains-first t []),
+        )
 
     -- behind the move the tuple stands alone
     moved-alone : IsExactly (t ∷ []) (IsMoved c.depth M followed t)
@@ -163,13 +174,10 @@ module _ (c : Checker) (h : Happening) (f : Function) (k : Bool) (followed : Lis
         subst (λ l. IsExactly l (TakenHere c h f k followed n t)) none (fires c f k followed h n t (t ∷ []) moved-alone)
 
 -- THE TUPLES ARE LEFT as they are, as the test says
-pub left_alone : (c : Checker) (h : Happening) (f : Function) (k : Bool) (followed : List Object) (r : EventRules) (ts : List Tuple) → leaves_all r ts ≡ true
-    → AreOfEvent c.machine c.depth h f r → AreObjects c.depth followed → AreLeft c h f k followed ts
-left_alone c h f k followed r ts e of are =
-    let p = and_parts (is_idle r) (list_all (is_within r.setting.depth) ts) e in
-    let each : (t : Tuple) → Contains ts t → is_within r.setting.depth t ≡ true
-    = λ t m. All-contains (λ z. is_within r.setting.depth z ≡ true) ts t (AllPass-from_list_all (is_within r.setting.depth) ts p.1) m in
-    record {
-      behind = themselves (IsBehind c h f k followed) ts (λ t m. behind-alone c h f k followed r of are p.0 t (each t m));
-      quiet = λ n. no-values (TakenHere c h f k followed n) ts (λ t m. nothing-taken c h f k followed r of are p.0 t (each t m) n);
+pub left_alone : (c : Checker) (h : Happening) (f : Function) (k : Bool) (followed : List Object) (r : EventRules) (ts : List Tuple) (within : Bool) → leaves_all r within ≡ true
+    → AreOfEvent c.machine c.depth h f r → AreObjects c.depth followed → (within ≡ true → AreFollowed followed ts) → AreLeft c h f k followed ts
+left_alone c h f k followed r ts within e of are inside =
+    let p = and_parts (is_idle r) within e in record {
+      behind = themselves (IsBehind c h f k followed) ts (λ t m. behind-alone c h f k followed r of are p.0 t (inside p.1 t m));
+      quiet = λ n. no-values (TakenHere c h f k followed n) ts (λ t m. nothing-taken c h f k followed r of are p.0 t (inside p.1 t m) n);
     }

@@ -3,6 +3,7 @@ pub mod Standing
 pub mod Fires
 pub mod Firsts
 pub mod Reports
+pub mod Within
 pub mod IdleEvents
 pub mod QuietEvents
 pub mod TupleFlows

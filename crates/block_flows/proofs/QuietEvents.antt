@@ -13,7 +13,7 @@ use Rattle.block_flows.specs.QuietEvents.{is_silent, is_quiet, are_quiet}
 use Rattle.c_objects.specs.Objects.{Object}
 use Rattle.flow_graph.specs.CPaths.Events.{Event}
 use Rattle.type_rules.specs.Options.{or_else}
-use Rattle.path_model.specs.CheckerModel.Checkers.{model, origins}
+use Rattle.path_model.specs.CheckerModel.Checkers.{model}
 use Rattle.metal_tree.specs.MetalMachines.Machine.{stop}
 use Rattle.path_model.specs.CheckerModel.Choices.{State, Taken, is_asked, is_global_asked, first_some, taken, taken_global}
 use Rattle.path_model.specs.CheckerModel.Happenings.{Function, Happening}
@@ -26,7 +26,7 @@ use Rattle.path_theory.specs.Facts.{FactOf}
 use Rattle.state_tuples.specs.RuleChoices.Asked.{Asker, GlobalState, ObjectIn}
 use Rattle.state_tuples.specs.declared.rule_choices.fired.Fired.{Fired}
 use Rattle.state_tuples.specs.RuleChoices.Values.{taken_of}
-use Rattle.block_flows.specs.TupleFlows.Facts.{listed}
+use Rattle.block_flows.specs.TupleFlows.Facts.{listed, origins_in}
 
 no-action : {A : Type 0} (o : Option A) → is_none o ≡ true → is_some o ≡ false
 no-action None h = refl
@@ -54,10 +54,10 @@ taken-acts-none g e asked state a xs q = by (nat_eq state stop || not asked)
 
 module _ (c : Checker) (f : Function) (k : Bool) (followed : List Object) where
   abbrev HereIs : Happening → ℕ → FactOf Object State → Option Object → Taken → Type 0
-  HereIs h = HappensHere (model c) (origins c) (listed c followed) (ObjectActs c) (GlobalActs c) f k h
+  HereIs h = HappensHere (model c) (origins_in c followed followed) (listed c followed) (ObjectActs c) (GlobalActs c) f k h
 
   abbrev At : List Happening → ℕ → ℕ → FactOf Object State → Option Object → Taken → Type 0
-  At = HappensAt (model c) (origins c) (listed c followed) (ObjectActs c) (GlobalActs c) f k
+  At = HappensAt (model c) (origins_in c followed followed) (listed c followed) (ObjectActs c) (GlobalActs c) f k
 
   module _ (h : Happening) (r : EventRules) (of : AreOfEvent c.machine c.depth h f r) (quiet : is_quiet r ≡ true) where
     object-none : (g : ℕ) (o : Object) (x : Option State) → acting (taken c.machine c.depth h f k g o x) ≡ None

@@ -7,7 +7,7 @@ use Rattle.block_flows.specs.Firings.{if_acting, acting, ObjectActs, GlobalActs}
 use Rattle.c_objects.specs.Objects.{Object}
 use Rattle.type_rules.specs.Options.{◌>?◌}
 use Rattle.path_model.proofs.CheckerModel.Sources.{given, tested}
-use Rattle.path_model.specs.CheckerModel.Checkers.{model, origins}
+use Rattle.path_model.specs.CheckerModel.Checkers.{model}
 use Rattle.path_model.specs.CheckerModel.Choices.{State, Taken, taken, taken_global}
 use Rattle.path_model.specs.CheckerModel.Happenings.{Function, Happening}
 use Rattle.path_model.specs.CheckerModel.Reports.{Checker, report_of, report_at, token_at}
@@ -15,7 +15,7 @@ use Rattle.path_theory.proofs.EventWalks.Shown.{Reported, shown_where}
 use Rattle.report_model.specs.declared.report.Report.{Report}
 use Rattle.path_theory.specs.BlockEdges.{Shows}
 use Rattle.path_theory.specs.Facts.{FactOf}
-use Rattle.block_flows.specs.TupleFlows.Facts.{listed}
+use Rattle.block_flows.specs.TupleFlows.Facts.{listed, origins_in}
 
 module _ (c : Checker) (f : Function) where
   -- a taken rule says this report
@@ -40,9 +40,9 @@ module _ (c : Checker) (f : Function) where
 
   -- A REPORT IS SHOWN on the way of a tuple exactly where a rule with an action is taken there that says it
   pub reports : (k : Bool) (followed : List Object) (hs : List Happening) (g : ℕ) (t : FactOf Object State) (r : Report)
-      → Shows (model c) (origins c) (listed c followed) f k r hs g t ↔ Reported (model c) (origins c) (listed c followed) (ObjectActs c) (GlobalActs c) f k Says
+      → Shows (model c) (origins_in c followed followed) (listed c followed) f k r hs g t ↔ Reported (model c) (origins_in c followed followed) (listed c followed) (ObjectActs c) (GlobalActs c) f k Says
       (λ h g o x r. (acts-is h (Some o) (taken c.machine c.depth h f k g o x) r, is-acts h (Some o) (taken c.machine c.depth h f k g o x) r))
       (λ h g r. (acts-is h None (taken_global c.machine c.depth h f k g) r, is-acts h None (taken_global c.machine c.depth h f k g) r)) hs g t r
-  reports k followed hs g t r = shown_where (model c) (origins c) (listed c followed) (ObjectActs c) (GlobalActs c) f k Says
+  reports k followed hs g t r = shown_where (model c) (origins_in c followed followed) (listed c followed) (ObjectActs c) (GlobalActs c) f k Says
       (λ h g o x r. (acts-is h (Some o) (taken c.machine c.depth h f k g o x) r, is-acts h (Some o) (taken c.machine c.depth h f k g o x) r))
       (λ h g r. (acts-is h None (taken_global c.machine c.depth h f k g) r, is-acts h None (taken_global c.machine c.depth h f k g) r)) hs g t r

@@ -2,7 +2,7 @@
 use Rattle.std.proofs.Common.{◌≡◌, inl, inr, ℕ, Bool, List, [], ◌∷◌, Contains, refl, sym, ap, subst, ◌∙◌}
 use Rattle.block_flows.specs.Ends.{IsEnd}
 use Rattle.c_objects.specs.Objects.{Object}
-use Rattle.path_model.specs.CheckerModel.Checkers.{model, origins}
+use Rattle.path_model.specs.CheckerModel.Checkers.{model}
 use Rattle.path_model.specs.CheckerModel.Choices.{State, next_global}
 use Rattle.path_model.specs.CheckerModel.Happenings.{Function, Happening}
 use Rattle.path_model.specs.CheckerModel.Reports.{Checker}
@@ -14,7 +14,7 @@ use Rattle.path_theory.specs.Facts.{FactOf}
 use Rattle.path_theory.specs.Flows.{EventFlow}
 use Rattle.state_tuples.specs.declared.tuple.Tuple.{Tuple}
 use Rattle.block_flows.specs.TupleFlows.Behind.{IsBehind}
-use Rattle.block_flows.specs.TupleFlows.Facts.{fact_in, listed}
+use Rattle.block_flows.specs.TupleFlows.Facts.{fact_in, listed, origins_in}
 use Rattle.block_flows.proofs.TupleFlows.Lists.{contains-first, contains-cases}
 use Rattle.block_flows.proofs.TupleFlows.Tuples.{tuple_of, tuple_of-fact, tuple_of-global, same-tuple}
 
@@ -33,10 +33,10 @@ no-other t g u (v, m, p, q) = elim (contains-cases t v [] m) [
 
 module _ (c : Checker) (f : Function) (k : Bool) (followed : List Object) where
   abbrev Flow : Happening → ℕ → FactOf Object State → FactOf Object State → Type 0
-  Flow h = EventFlow (model c) (origins c) (listed c followed) f k h
+  Flow h = EventFlow (model c) (origins_in c followed followed) (listed c followed) f k h
 
   abbrev pub OnWay : List Happening → List Happening → Tuple → List Tuple → Type 0
-  OnWay hs left t now = Stands (model c) (origins c) (listed c followed) f k hs left t.global (fact_in t) (standing now)
+  OnWay hs left t now = Stands (model c) (origins_in c followed followed) (listed c followed) f k hs left t.global (fact_in t) (standing now)
 
   came-from : (h : Happening) (now new : List Tuple) → IsExactly new (SomeGives (IsBehind c h f k followed) now) → (i : ℕ) (u : FactOf Object State) → standing new i u
       → (g : ℕ) × (t : FactOf Object State) × standing now g t × (i ≡ next_global c.machine c.depth h f k g) × Flow h g t u
@@ -55,22 +55,22 @@ module _ (c : Checker) (f : Function) (k : Bool) (followed : List Object) where
       (v, e.1 v (w, m, record { global = tuple_of-global (next g) u ∙ ap next (sym p); fact = to }), tuple_of-global (next g) u, tuple_of-fact (next g) u)
 
   pub walks : (h : Happening) (now new : List Tuple) → IsExactly new (SomeGives (IsBehind c h f k followed) now)
-      → Walks (model c) (origins c) (listed c followed) f k h (standing now) (standing new)
+      → Walks (model c) (origins_in c followed followed) (listed c followed) f k h (standing now) (standing new)
   walks h now new e = record { real = came-from h now new e; whole = goes-to h now new e }
 
   pub way-start : (hs : List Happening) (t : Tuple) → OnWay hs hs t (t ∷ [])
-  way-start hs t = stands-start (model c) (origins c) (listed c followed) f k hs t.global (fact_in t) (standing (t ∷ [])) (alone t) (no-other t)
+  way-start hs t = stands-start (model c) (origins_in c followed followed) (listed c followed) f k hs t.global (fact_in t) (standing (t ∷ [])) (alone t) (no-other t)
 
   pub way-next : (hs : List Happening) (h : Happening) (old left : List Happening) (t : Tuple) (now new : List Tuple) → old ≡ h ∷ left → OnWay hs old t now
       → IsExactly new (SomeGives (IsBehind c h f k followed) now) → OnWay hs left t new
   way-next hs h old left t now new e s x =
-      stands-next (model c) (origins c) (listed c followed) f k hs h left t.global (fact_in t) (standing now) (standing new) (subst (λ z. OnWay hs z t now) e s) (walks h now new x)
+      stands-next (model c) (origins_in c followed followed) (listed c followed) f k hs h left t.global (fact_in t) (standing now) (standing new) (subst (λ z. OnWay hs z t now) e s) (walks h now new x)
 
   pub way-end : (hs left : List Happening) (t : Tuple) (now : List Tuple) → left ≡ [] → OnWay hs left t now → IsExactly now (IsEnd c hs f k followed t)
   way-end hs left t now e s =
       let at = subst (λ z. OnWay hs z t now) e s in (
-        λ u m. ends-stand (model c) (origins c) (listed c followed) f k hs t.global (fact_in t) (standing now) at u.global (fact_in u) (u, m, refl, refl),
-        λ u w. found u (stands-end (model c) (origins c) (listed c followed) f k hs t.global (fact_in t) (standing now) at u.global (fact_in u) w),
+        λ u m. ends-stand (model c) (origins_in c followed followed) (listed c followed) f k hs t.global (fact_in t) (standing now) at u.global (fact_in u) (u, m, refl, refl),
+        λ u w. found u (stands-end (model c) (origins_in c followed followed) (listed c followed) f k hs t.global (fact_in t) (standing now) at u.global (fact_in u) w),
       )
     where
       found : (u : Tuple) → standing now u.global (fact_in u) → Contains now u

@@ -4,7 +4,7 @@ use Rattle.std.specs.Option.{option_map}
 use Rattle.state_tuples.specs.AppliedRules.Takers.{IsFirstFor}
 use Rattle.c_objects.specs.Objects.{Object}
 use Rattle.type_rules.specs.Options.{if_there, ◌>?◌}
-use Rattle.path_model.specs.CheckerModel.Checkers.{model, origins}
+use Rattle.path_model.specs.CheckerModel.Checkers.{model}
 use Rattle.path_model.specs.CheckerModel.Choices.{Taken, scene, taken, taken_global}
 use Rattle.path_model.specs.CheckerModel.Happenings.{Function, Happening}
 use Rattle.path_model.specs.CheckerModel.Reports.{Checker}
@@ -12,7 +12,7 @@ use Rattle.path_theory.specs.EventWalks.Happenings.{ToObjects, ToGlobals, Happen
 use Rattle.block_flows.specs.declared.taken_rules.Firing.{Firing}
 use Rattle.state_tuples.specs.RuleChoices.Values.{taken_of}
 use Rattle.state_tuples.specs.declared.tuple.Tuple.{Tuple}
-use Rattle.block_flows.specs.TupleFlows.Facts.{fact_in, listed}
+use Rattle.block_flows.specs.TupleFlows.Facts.{fact_in, listed, origins_in}
 
 -- a rule that is taken, if it has an action
 abbrev pub if_acting : Taken → Option Taken
@@ -40,12 +40,12 @@ fire_in x = record { event = x.event; object = x.object; taken = taken_of x.take
 -- IT IS TAKEN at an event, which has this number, from a tuple that stands before it
 pub record TakenHere (c : Checker) (h : Happening) (f : Function) (is_root : Bool) (followed : List Object) (number : ℕ) (t : Tuple) (x : Fire) : Type 0 where
   pub event : x.event ≡ number
-  pub here : HappensHere (model c) (origins c) (listed c followed) (ObjectActs c) (GlobalActs c) f is_root h t.global (fact_in t) x.object x.taken
+  pub here : HappensHere (model c) (origins_in c followed followed) (listed c followed) (ObjectActs c) (GlobalActs c) f is_root h t.global (fact_in t) x.object x.taken
 
 -- IT IS TAKEN on the way of a tuple over these events
 abbrev pub TakenAt : Checker → List Happening → Function → Bool → List Object → Tuple → Fire → Type 0
 TakenAt c hs f is_root followed t x =
-    HappensAt (model c) (origins c) (listed c followed) (ObjectActs c) (GlobalActs c) f is_root hs x.event t.global (fact_in t) x.object x.taken
+    HappensAt (model c) (origins_in c followed followed) (listed c followed) (ObjectActs c) (GlobalActs c) f is_root hs x.event t.global (fact_in t) x.object x.taken
 
 -- the rule with an action that a tuple behind the move takes: its object, or the global state where there is none
 abbrev pub fires_here : Checker → Happening → Function → Bool → Tuple → Option Taken

@@ -1,6 +1,7 @@
 pub mod Events
 pub mod Ends
 pub mod Firings
+pub mod FollowedLists
 pub mod IdleEvents
 pub mod QuietEvents
 pub mod TupleFlows

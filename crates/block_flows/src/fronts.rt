@@ -62,9 +62,9 @@ pub(crate) fn next(
     rules: &EventRules,
     is_root: bool,
     tuples: &[Tuple],
-    followed: &[Object],
+    followed: &IndexSet<Object>,
 ) -> Result<IndexSet<Tuple>, AllocError>
-    ensures { IfOk result (λ set. (c : Checker) (h : Happening) (f : Function) → AreOfEvent c.machine c.depth h f rules.now → AreObjects c.depth followed.now → IsExactly set.keys (SomeGives (IsBehind c h f is_root followed.now) tuples.now)) }
+    ensures { IfOk result (λ set. (c : Checker) (h : Happening) (f : Function) → AreOfEvent c.machine c.depth h f rules.now → AreObjects c.depth followed.now.keys → IsExactly set.keys (SomeGives (IsBehind c h f is_root followed.now.keys) tuples.now)) }
 {
     let mut set = IndexSet::new(alloc);
     for tuple in tuples {

@@ -17,4 +17,4 @@ mod taken_rules;
 
 pub use crossing::ends;
 pub use taken_rules::{Firing, firings};
-pub use tuple_flows::{into_call, out_of_call};
+pub use tuple_flows::{into_call, is_followed, out_of_call};

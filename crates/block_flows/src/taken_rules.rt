@@ -15,10 +15,11 @@ ghost use Rattle.state_tuples.specs.RuleChoices.Values.{taken_of};
 ghost use Rattle.block_flows.specs.TupleFlows.Moved.{AreObjects};
 
 use crate::fronts::{copy_object, first, next};
-use crate::idle_events::leaves_all;
+use crate::idle_events::{is_within, leaves_all};
 use crate::quiet_events::are_quiet;
 use crate::sets::items;
 use crate::tuple_flows::moved;
+use indexmap::IndexSet;
 use objects::Object;
 use state_tuples::{EventRules, Fired, Tuple};
 use std::alloc::{AllocError, Global};
@@ -93,9 +94,9 @@ fn fired_from<'r, 'm, 'a>(
     number: usize,
     is_root: bool,
     tuple: &Tuple,
-    followed: &[Object],
+    followed: &IndexSet<Object>,
 ) -> Result<Vec<Firing<'r, 'm, 'a>>, AllocError>
-    ensures rules { IfOk result (λ list. (c : Checker) (h : Happening) (f : Function) → AreOfEvent c.machine c.depth h f rules.now → AreObjects c.depth followed.now → IsExactly (map fire_in list.items) (TakenHere c h f is_root followed.now number tuple.now)) }
+    ensures rules { IfOk result (λ list. (c : Checker) (h : Happening) (f : Function) → AreOfEvent c.machine c.depth h f rules.now → AreObjects c.depth followed.now.keys → IsExactly (map fire_in list.items) (TakenHere c h f is_root followed.now.keys number tuple.now)) }
     ensures first { IfOk result (λ list. (c : Checker) (h : Happening) (f : Function) → AreOfEvent c.machine c.depth h f rules.now → All (IsFirstHere c h f number) list.items) }
 {
     let setting = &rules.setting;
@@ -117,9 +118,9 @@ fn fired_here<'r, 'm, 'a>(
     number: usize,
     is_root: bool,
     tuples: &[Tuple],
-    followed: &[Object],
+    followed: &IndexSet<Object>,
 ) -> Result<Vec<Firing<'r, 'm, 'a>>, AllocError>
-    ensures rules { IfOk result (λ list. (c : Checker) (h : Happening) (f : Function) → AreOfEvent c.machine c.depth h f rules.now → AreObjects c.depth followed.now → IsExactly (map fire_in list.items) (SomeGives (TakenHere c h f is_root followed.now number) tuples.now)) }
+    ensures rules { IfOk result (λ list. (c : Checker) (h : Happening) (f : Function) → AreOfEvent c.machine c.depth h f rules.now → AreObjects c.depth followed.now.keys → IsExactly (map fire_in list.items) (SomeGives (TakenHere c h f is_root followed.now.keys number) tuples.now)) }
     ensures first { IfOk result (λ list. (c : Checker) (h : Happening) (f : Function) → AreOfEvent c.machine c.depth h f rules.now → All (IsFirstHere c h f number) list.items) }
 {
     let mut list = Vec::new(alloc);
@@ -136,18 +137,19 @@ fn fired_on_the_way<'r, 'm, 'a>(
     rules: &'r [EventRules<'m, 'a>],
     is_root: bool,
     tuple: &Tuple,
-    followed: &[Object],
+    followed: &IndexSet<Object>,
 ) -> Result<Vec<Firing<'r, 'm, 'a>>, AllocError>
-    ensures rules { IfOk result (λ list. (c : Checker) (f : Function) (hs : List Happening) → AreOfEvents c.machine c.depth f hs rules.now → AreObjects c.depth followed.now → IsExactly (map fire_in list.items) (TakenAt c hs f is_root followed.now tuple.now)) }
+    ensures rules { IfOk result (λ list. (c : Checker) (f : Function) (hs : List Happening) → AreOfEvents c.machine c.depth f hs rules.now → AreObjects c.depth followed.now.keys → IsExactly (map fire_in list.items) (TakenAt c hs f is_root followed.now.keys tuple.now)) }
     ensures first { IfOk result (λ list. (c : Checker) (f : Function) (hs : List Happening) → AreOfEvents c.machine c.depth f hs rules.now → All (IsFirstAmong c hs f) list.items) }
 {
+    let within = is_within(tuple, followed);
     let mut now = first(alloc, tuple)?;
     let mut list = Vec::new(alloc);
     for (number, event) in rules.iter().enumerate() {
-        let left = items(&now);
-        if leaves_all(event, left) {
+        if leaves_all(event, within) {
             continue;
         }
+        let left = items(&now);
         let mut more = fired_here(alloc, event, number, is_root, left, followed)?;
         list.append(&mut more)?;
         let behind = next(alloc, event, is_root, left, followed)?;
@@ -165,9 +167,9 @@ pub fn firings<'r, 'm, 'a>(
     rules: &'r [EventRules<'m, 'a>],
     is_root: bool,
     tuple: &Tuple,
-    followed: &[Object],
+    followed: &IndexSet<Object>,
 ) -> Result<Vec<Firing<'r, 'm, 'a>>, AllocError>
-    ensures rules { IfOk result (λ list. (c : Checker) (f : Function) (hs : List Happening) → AreOfEvents c.machine c.depth f hs rules.now → AreObjects c.depth followed.now → IsExactly (map fire_in list.items) (TakenAt c hs f is_root followed.now tuple.now)) }
+    ensures rules { IfOk result (λ list. (c : Checker) (f : Function) (hs : List Happening) → AreOfEvents c.machine c.depth f hs rules.now → AreObjects c.depth followed.now.keys → IsExactly (map fire_in list.items) (TakenAt c hs f is_root followed.now.keys tuple.now)) }
     ensures first { IfOk result (λ list. (c : Checker) (f : Function) (hs : List Happening) → AreOfEvents c.machine c.depth f hs rules.now → All (IsFirstAmong c hs f) list.items) }
 {
     if are_quiet(rules) {

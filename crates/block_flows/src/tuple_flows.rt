@@ -1,5 +1,5 @@
 //! How one tuple flows: over an event, into a called function, and back behind the call. A tuple that has no object stays without one, and
-//! gives each followed object that begins there; one with an object gives those that have their state from it.
+//! gives each followed object that begins there; one with an object that is followed gives the followed ones that have their state from it.
 
 mod behind;
 mod moves;
@@ -8,4 +8,5 @@ mod passed;
 
 pub use behind::over_event;
 pub use moves::moved;
+pub use parts::is_followed;
 pub use passed::{into_call, out_of_call};

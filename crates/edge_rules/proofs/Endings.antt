@@ -1,6 +1,7 @@
 -- Ends of called frames.
 use Rattle.std.proofs.Common.{◌≡◌, ◌↔◌, ℕ, Bool, true, false, ◌&&◌, not, true≢false, List, slice_get, Option, None, Some, refl, sym, ap, subst, ◌∙◌}
 use Rattle.std.specs.Option.{option_map}
+use Rattle.c_objects.specs.Objects.{Object}
 use Rattle.flow_graph.specs.CPaths.Building.{Graph}
 use Rattle.flow_graph.specs.CPaths.Events.{Event}
 use Rattle.flow_graph.specs.CPaths.Graphs.{Block, Ending, ToAny, Calls, Stops}
@@ -16,7 +17,7 @@ use Rattle.path_edges.specs.Edges.{context_in}
 use Rattle.path_edges.specs.Relations.{IsEndOf}
 use Rattle.function_tables.specs.declared.engine_tables.frames.Frame.{Frame}
 use Rattle.function_tables.specs.declared.engine_tables.tables.Tables.{Tables}
-use Rattle.function_tables.specs.EngineTables.Known.{checker_in, texts_in, graphs_in, is_stop}
+use Rattle.function_tables.specs.EngineTables.Known.{checker_in, texts_in, graphs_in, objects_in, is_stop}
 use Rattle.path_edges.specs.EdgeSteps.Steps.{IsLast}
 use Rattle.function_tables.proofs.EngineTables.Places.{IsPlace, named}
 use Rattle.path_edges.proofs.EdgeSteps.Views.{context-seen}
@@ -67,21 +68,21 @@ no-context : (k : Context) → None ≡ Some k → ⊥
 no-context k e = cc
 
 -- no frame ends in a function that isn't there
-pub no-function : (c : Checker) (ts : List Text) (gs : List Graph) (e : Edge) → function_at ts e.context.function ≡ None → (k : Context) → (None ≡ Some k) ↔ IsEndOf c ts gs e k
-no-function c ts gs e none k = (λ h. absurd (no-context k h), λ h. absurd (nowhere h.fn (sym none ∙ h.named)))
+pub no-function : (c : Checker) (ts : List Text) (gs : List Graph) (lists : List (List Object)) (e : Edge) → function_at ts e.context.function ≡ None → (k : Context) → (None ≡ Some k) ↔ IsEndOf c ts gs lists e k
+no-function c ts gs lists e none k = (λ h. absurd (no-context k h), λ h. absurd (nowhere h.fn (sym none ∙ h.named)))
 
 module _ (t : Tables) (e : Edge) (f : Frame) (p : IsPlace t e.context.function f) where
-  is-last : (k : Context) → IsEndOf (checker_in t) (texts_in t) (graphs_in t) e k → IsLast (graph_in f.table.now.graph).blocks e.block
+  is-last : (k : Context) → IsEndOf (checker_in t) (texts_in t) (graphs_in t) (objects_in t) e k → IsLast (graph_in f.table.now.graph).blocks e.block
   is-last k h =
       let same : h.fn ≡ function_of p.defined = one-function h.fn (function_of p.defined) (sym h.named ∙ named t e.context.function p.defined p.is) in
       let there = subst (λ (z : Function). IsLast (graph_at (texts_in t) (graphs_in t) z).blocks e.block) same h.ends in
       subst (λ (g : Graph). IsLast g.blocks e.block) p.graph there
 
   -- it doesn't end here
-  pub not-here : (IsLast (graph_in f.table.now.graph).blocks e.block → e.is_root ≡ false → ⊥) → (k : Context) → (None ≡ Some k) ↔ IsEndOf (checker_in t) (texts_in t) (graphs_in t) e k
+  pub not-here : (IsLast (graph_in f.table.now.graph).blocks e.block → e.is_root ≡ false → ⊥) → (k : Context) → (None ≡ Some k) ↔ IsEndOf (checker_in t) (texts_in t) (graphs_in t) (objects_in t) e k
   not-here never k = (λ h. absurd (no-context k h), λ h. absurd (never (is-last k h) h.called))
 
-  pub ends-here : IsLast (graph_in f.table.now.graph).blocks e.block → e.is_root ≡ false → (k : Context) → (Some e.context ≡ Some k) ↔ IsEndOf (checker_in t) (texts_in t) (graphs_in t) e k
+  pub ends-here : IsLast (graph_in f.table.now.graph).blocks e.block → e.is_root ≡ false → (k : Context) → (Some e.context ≡ Some k) ↔ IsEndOf (checker_in t) (texts_in t) (graphs_in t) (objects_in t) e k
   ends-here last called k = (
     λ h. record {
       fn = function_of p.defined;

@@ -12,10 +12,10 @@ use Rattle.state_tuples.specs.declared.tuple.Tuple.{Tuple}
 use Rattle.block_flows.specs.TupleFlows.Passed.{IsEntered}
 
 -- one edge for each tuple with which it is entered
-pub entries-exactly : (c : Checker) (s : Site) (h : Function) (objects : List Object) (k b : ℕ) (t : Tuple) (entries : List Tuple) (list : List Edge)
-    → IsExactly entries (IsEntered c s h objects t) → list ≡ map (frame_edge false k b) entries → IsExactly list (IsEntry c s h objects k b t)
-entries-exactly c s h objects k b t entries list exact e =
-    subst (λ (l : List Edge). IsExactly l (IsEntry c s h objects k b t)) (sym e) (
+pub entries-exactly : (c : Checker) (s : Site) (h : Function) (here there : List Object) (k b : ℕ) (t : Tuple) (entries : List Tuple) (list : List Edge)
+    → IsExactly entries (IsEntered c s h here there t) → list ≡ map (frame_edge false k b) entries → IsExactly list (IsEntry c s h here there k b t)
+entries-exactly c s h here there k b t entries list exact e =
+    subst (λ (l : List Edge). IsExactly l (IsEntry c s h here there k b t)) (sym e) (
       λ d m. let x = map-contains (frame_edge false k b) entries d m in record { entry = x.0; entered = exact.0 x.0 x.1; is = x.2 },
       λ d q. subst (λ (z : Edge). Contains (map (frame_edge false k b) entries) z) q.is (contains-map (frame_edge false k b) entries q.entry (exact.1 q.entry q.entered)),
     )

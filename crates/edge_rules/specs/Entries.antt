@@ -8,9 +8,9 @@ use Rattle.path_edges.specs.declared.edges.Edge.{Edge}
 use Rattle.state_tuples.specs.declared.tuple.Tuple.{Tuple}
 use Rattle.block_flows.specs.TupleFlows.Passed.{IsEntered}
 
--- AN EDGE AT THE ENTRY of a callee with this number, which begins with this block and in which these objects are followed, where this tuple
--- stands before the call
-pub record IsEntry (c : Checker) (s : Site) (callee : Function) (objects : List Object) (number block : ℕ) (t : Tuple) (d : Edge) : Type 0 where
+-- AN EDGE AT THE ENTRY of a callee with this number, which begins with this block, where this tuple stands before the call. The objects are
+-- those that are followed here, in the caller, and there, in the callee.
+pub record IsEntry (c : Checker) (s : Site) (callee : Function) (here there : List Object) (number block : ℕ) (t : Tuple) (d : Edge) : Type 0 where
   pub entry : Tuple
-  pub entered : IsEntered c s callee objects t entry
+  pub entered : IsEntered c s callee here there t entry
   pub is : frame_edge false number block entry ≡ d

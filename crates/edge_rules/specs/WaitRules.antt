@@ -1,4 +1,5 @@
 pub mod CallEnds
+pub mod CalledObjects
 pub mod FollowedCalls
 pub mod FoundCalls
 pub mod Handing

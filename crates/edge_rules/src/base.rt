@@ -4,7 +4,7 @@ ghost use Rattle.std.specs.Prelude.{IfOk};
 ghost use Rattle.path_edges.specs.EdgeSteps.Steps.{BeginsIn};
 ghost use Rattle.least_set.specs.Logs.{IsExactly, SomeGives};
 ghost use Rattle.path_edges.specs.Relations.{Begins};
-ghost use Rattle.function_tables.specs.EngineTables.Known.{AreKnown, IsFrame, checker_in, texts_in, graphs_in};
+ghost use Rattle.function_tables.specs.EngineTables.Known.{AreKnown, IsFrame, checker_in, texts_in, graphs_in, objects_in};
 
 use call_graph::FnId;
 use function_tables::{Frame, Tables};
@@ -18,14 +18,15 @@ fn first_in(
     frame: &Frame,
     function: u32,
 ) -> Result<Vec<Edge>, AllocError>
-    ensures { IfOk result (λ list. AreKnown tables.now → IsFrame tables.now function frame.now → IsExactly list.items (BeginsIn (checker_in tables.now) (texts_in tables.now) (graphs_in tables.now) function)) }
+    ensures { IfOk result (λ list. AreKnown tables.now → IsFrame tables.now function frame.now → IsExactly list.items (BeginsIn (checker_in tables.now) (texts_in tables.now) (graphs_in tables.now) (objects_in tables.now) function)) }
 {
-    first_edges(alloc, function, frame.table.graph.entry(), frame.objects)
+    let objects = frame.objects.as_slice();
+    first_edges(alloc, function, frame.table.graph.entry(), objects)
 }
 
 // The first edges of the own frame of a root.
 fn root_edges(alloc: Global, tables: &Tables, root: FnId) -> Result<Vec<Edge>, AllocError>
-    ensures { IfOk result (λ list. AreKnown tables.now → IsExactly list.items (BeginsIn (checker_in tables.now) (texts_in tables.now) (graphs_in tables.now) root.number)) }
+    ensures { IfOk result (λ list. AreKnown tables.now → IsExactly list.items (BeginsIn (checker_in tables.now) (texts_in tables.now) (graphs_in tables.now) (objects_in tables.now) root.number)) }
 {
     match tables.frame(root.number) {
         Some(frame) => first_in(alloc, tables, &frame, root.number),
@@ -35,7 +36,7 @@ fn root_edges(alloc: Global, tables: &Tables, root: FnId) -> Result<Vec<Edge>, A
 
 // Those of these roots.
 fn edges_of_roots(alloc: Global, tables: &Tables, roots: &[FnId]) -> Result<Vec<Edge>, AllocError>
-    ensures { IfOk result (λ list. AreKnown tables.now → IsExactly list.items (SomeGives (λ f. BeginsIn (checker_in tables.now) (texts_in tables.now) (graphs_in tables.now) f.number) roots.now)) }
+    ensures { IfOk result (λ list. AreKnown tables.now → IsExactly list.items (SomeGives (λ f. BeginsIn (checker_in tables.now) (texts_in tables.now) (graphs_in tables.now) (objects_in tables.now) f.number) roots.now)) }
 {
     let mut edges = Vec::new(alloc);
     for root in roots {
@@ -48,7 +49,7 @@ fn edges_of_roots(alloc: Global, tables: &Tables, roots: &[FnId]) -> Result<Vec<
 /// The base: for each root the first block of its own frame, in the first global state without an object, and with each object that is
 /// followed there, unknown.
 pub fn begin(alloc: Global, tables: &Tables) -> Result<Vec<Edge>, AllocError>
-    ensures { IfOk result (λ list. AreKnown tables.now → IsExactly list.items (Begins (checker_in tables.now) (texts_in tables.now) (graphs_in tables.now))) }
+    ensures { IfOk result (λ list. AreKnown tables.now → IsExactly list.items (Begins (checker_in tables.now) (texts_in tables.now) (graphs_in tables.now) (objects_in tables.now))) }
 {
     edges_of_roots(alloc, tables, tables.roots)
 }

@@ -5,7 +5,7 @@ ghost use Rattle.std.specs.Option.{option_map};
 ghost use Rattle.flow_graph.specs.CPaths.Graphs.{Calls};
 ghost use Rattle.c_tree.specs.Views.{node_of};
 ghost use Rattle.path_edges.specs.EdgeSteps.Steps.{StandsBehind};
-ghost use Rattle.function_tables.specs.EngineTables.Known.{AreKnown, IsFrame, checker_in, texts_in, graphs_in};
+ghost use Rattle.function_tables.specs.EngineTables.Known.{AreKnown, IsFrame, checker_in, texts_in, graphs_in, objects_in};
 ghost use Rattle.flow_graph.specs.Seen.{graph_in};
 ghost use Rattle.flow_graph.specs.Values.{ending_of};
 ghost use Rattle.least_set.specs.Logs.{IsExactly};
@@ -30,13 +30,14 @@ fn at_call<'a>(
     call: &Tree<'a>,
     next: u32,
 ) -> Result<Vec<Edge>, AllocError>
-    ensures { IfOk result (λ list. AreKnown tables.now → IsFrame tables.now edge.now.context.function frame.now → option_map (λ b. b.ending) (slice_get (graph_in frame.now.table.now.graph).blocks edge.now.block) ≡ Some (Calls (node_of call.now) next) → IsExactly tuples.now (StandsBehind (checker_in tables.now) (texts_in tables.now) (graphs_in tables.now) edge.now) → IsExactly list.items (LeadsTo (checker_in tables.now) (texts_in tables.now) (graphs_in tables.now) edge.now)) }
+    ensures { IfOk result (λ list. AreKnown tables.now → IsFrame tables.now edge.now.context.function frame.now → option_map (λ b. b.ending) (slice_get (graph_in frame.now.table.now.graph).blocks edge.now.block) ≡ Some (Calls (node_of call.now) next) → IsExactly tuples.now (StandsBehind (checker_in tables.now) (texts_in tables.now) (graphs_in tables.now) (objects_in tables.now) edge.now) → IsExactly list.items (LeadsTo (checker_in tables.now) (texts_in tables.now) (graphs_in tables.now) (objects_in tables.now) edge.now)) }
 {
     let Some(callee) = callee_of(tables, frame.table, edge.block) else {
         return onward(alloc, edge, &[next], tuples);
     };
+    let objects = frame.objects;
     match tables.site(edge.context.function, call) {
-        Some(site) => entered_edges(alloc, &site, tables.depth, &callee, tuples),
+        Some(site) => entered_edges(alloc, &site, tables.depth, objects, &callee, tuples),
         None => Ok(Vec::new(alloc)),
     }
 }
@@ -50,7 +51,7 @@ fn behind_end<'a>(
     tuples: &[Tuple],
     end: &End<'a>,
 ) -> Result<Vec<Edge>, AllocError>
-    ensures { IfOk result (λ list. AreKnown tables.now → IsFrame tables.now edge.now.context.function frame.now → option_map (λ b. b.ending) (slice_get (graph_in frame.now.table.now.graph).blocks edge.now.block) ≡ Some (ending_of end.now) → IsExactly tuples.now (StandsBehind (checker_in tables.now) (texts_in tables.now) (graphs_in tables.now) edge.now) → IsExactly list.items (LeadsTo (checker_in tables.now) (texts_in tables.now) (graphs_in tables.now) edge.now)) }
+    ensures { IfOk result (λ list. AreKnown tables.now → IsFrame tables.now edge.now.context.function frame.now → option_map (λ b. b.ending) (slice_get (graph_in frame.now.table.now.graph).blocks edge.now.block) ≡ Some (ending_of end.now) → IsExactly tuples.now (StandsBehind (checker_in tables.now) (texts_in tables.now) (graphs_in tables.now) (objects_in tables.now) edge.now) → IsExactly list.items (LeadsTo (checker_in tables.now) (texts_in tables.now) (graphs_in tables.now) (objects_in tables.now) edge.now)) }
 {
     match end {
         End::Goto(targets) => onward(alloc, edge, targets.as_slice(), tuples),
@@ -67,7 +68,7 @@ fn next_in<'a>(
     edge: &Edge,
     tuples: &[Tuple],
 ) -> Result<Vec<Edge>, AllocError>
-    ensures { IfOk result (λ list. AreKnown tables.now → IsFrame tables.now edge.now.context.function frame.now → IsExactly tuples.now (StandsBehind (checker_in tables.now) (texts_in tables.now) (graphs_in tables.now) edge.now) → IsExactly list.items (LeadsTo (checker_in tables.now) (texts_in tables.now) (graphs_in tables.now) edge.now)) }
+    ensures { IfOk result (λ list. AreKnown tables.now → IsFrame tables.now edge.now.context.function frame.now → IsExactly tuples.now (StandsBehind (checker_in tables.now) (texts_in tables.now) (graphs_in tables.now) (objects_in tables.now) edge.now) → IsExactly list.items (LeadsTo (checker_in tables.now) (texts_in tables.now) (graphs_in tables.now) (objects_in tables.now) edge.now)) }
 {
     match end_at(&frame.table.graph, edge.block) {
         Some(end) => behind_end(alloc, tables, frame, edge, tuples, end),
@@ -84,7 +85,7 @@ pub fn next_edges(
     edge: &Edge,
     tuples: &[Tuple],
 ) -> Result<Vec<Edge>, AllocError>
-    ensures { IfOk result (λ list. AreKnown tables.now → IsExactly tuples.now (StandsBehind (checker_in tables.now) (texts_in tables.now) (graphs_in tables.now) edge.now) → IsExactly list.items (LeadsTo (checker_in tables.now) (texts_in tables.now) (graphs_in tables.now) edge.now)) }
+    ensures { IfOk result (λ list. AreKnown tables.now → IsExactly tuples.now (StandsBehind (checker_in tables.now) (texts_in tables.now) (graphs_in tables.now) (objects_in tables.now) edge.now) → IsExactly list.items (LeadsTo (checker_in tables.now) (texts_in tables.now) (graphs_in tables.now) (objects_in tables.now) edge.now)) }
 {
     match tables.frame(edge.context.function) {
         Some(frame) => next_in(alloc, tables, &frame, edge, tuples),

@@ -6,7 +6,7 @@ ghost use Rattle.path_edges.specs.declared.edges.Context.{Context as Called};
 ghost use Rattle.flow_graph.specs.Seen.{graph_in};
 ghost use Rattle.flow_graph.specs.Values.{ending_of};
 ghost use Rattle.path_edges.specs.Relations.{IsEndOf};
-ghost use Rattle.function_tables.specs.EngineTables.Known.{AreKnown, checker_in, texts_in, graphs_in, is_stop};
+ghost use Rattle.function_tables.specs.EngineTables.Known.{AreKnown, checker_in, texts_in, graphs_in, objects_in, is_stop};
 
 use flow_graph::{End, Graph};
 use function_tables::{Tables, end_at};
@@ -42,7 +42,7 @@ fn ends_call(graph: &Graph, edge: &Edge) -> bool
 
 /// The context of a called frame that ends behind an edge's block. A root's own frame has none that waits for its end.
 pub fn end_of(tables: &Tables, edge: &Edge) -> Option<Context>
-    ensures { AreKnown tables.now → (k : Called) → (result ≡ Some k) ↔ IsEndOf (checker_in tables.now) (texts_in tables.now) (graphs_in tables.now) edge.now k }
+    ensures { AreKnown tables.now → (k : Called) → (result ≡ Some k) ↔ IsEndOf (checker_in tables.now) (texts_in tables.now) (graphs_in tables.now) (objects_in tables.now) edge.now k }
 {
     let frame = tables.frame(edge.context.function)?;
     if ends_call(&frame.table.graph, edge) {

@@ -1,8 +1,14 @@
 pub mod Masks
+pub mod MetObjects
 pub mod MatchedObjects
+pub mod MetBlocks
+pub mod MetTraces
+pub mod BoundEvents
+pub mod MetWalks
 pub mod MaskedRuns
 pub mod SameStates
 pub mod SamePaths
+pub mod SameGlobals
 pub mod SameReports
 pub mod MaskedLaws
 pub mod MaskedGraphs
@@ -18,4 +24,6 @@ pub mod Example
 pub mod LockSteps
 pub mod MaskedLengths
 pub mod MaskedTabulation
+pub mod MetLogs
+pub mod MetExample
 pub mod StrictFlows

@@ -1,9 +1,14 @@
 pub mod Masked
 pub mod Enough
+pub mod Met
 pub mod Matched
 pub mod States
+pub mod SameGlobals
 pub mod Within
 pub mod Theorems
+pub mod MetTheorems
 pub mod Example
+pub mod MetExample
+pub mod MetWalk
 pub mod MaskedTabulation
 pub mod StrictFlows

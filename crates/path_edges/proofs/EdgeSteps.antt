@@ -1,4 +1,3 @@
 pub mod Lists
 pub mod Views
-pub mod FollowedObjects
 pub mod Nexts

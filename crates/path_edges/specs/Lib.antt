@@ -1,5 +1,7 @@
 pub mod Equality
 pub mod Edges
+pub mod Masks
+pub mod MetStates
 pub mod Relations
 pub mod Theorems
 pub mod EdgeSteps

@@ -11,4 +11,4 @@ mod theorems;
 
 pub use edge_steps::{copy_context, copy_tuple, entered, first_edges, onward, waits_for, woken};
 pub use edges::{Context, Edge, Waiter};
-pub use theorems::least_edges_report;
+pub use theorems::{empty_edges_meet, least_edges_report};

@@ -1,3 +1,5 @@
+pub mod FollowedSets
+pub mod MetStates
 pub mod Reporting
 pub mod EdgeReports
 pub mod TabulationEngine

@@ -8,12 +8,12 @@ ghost use Rattle.path_theory.specs.Paths.{Reported};
 ghost use Rattle.saturation.specs.Reporting.{checker_of};
 ghost use Rattle.report_model.specs.declared.report.Report.{Report as Said};
 
+use crate::followed_sets::{empty_sets, followed_sets};
 use crate::tabulation_engine::{Engine, reported};
 use call_graph::Program;
 use function_tables::{Tables, build_tables};
 use metal_tree::Machine;
 use mx_base::Names;
-use relevant::followed_objects;
 use report_model::Report;
 use root_functions::roots;
 use std::alloc::{AllocError, Global};
@@ -34,20 +34,35 @@ pub fn reports_of<'u, 'a>(
     ensures { IfOk result (λ list. ∥ ((r : Said) → Contains list.items r ↔ Reported (model (checker_of number machine.now names.now depth)) (paths (checker_of number machine.now names.now depth) (texts_of program.now.units.items)) r) ∥₁) }
 {
     let functions = build_tables(alloc, program, machine, depth)?;
-    let objects = followed_objects(alloc, program, functions.as_slice(), depth)?;
     let roots = roots(alloc, program, machine)?;
-    let tables = Tables {
+    let none = empty_sets(alloc, program.count())?;
+    let bare = Tables {
         program,
         machine,
         number,
         names,
         depth,
         functions: functions.as_slice(),
-        objects: objects.as_slice(),
+        objects: none.as_slice(),
+        roots: roots.as_slice(),
+    };
+    let first = Engine {
+        tables: bare,
+        units: PhantomData,
+    };
+    let followed = followed_sets(alloc, &first)?;
+    let masked = Tables {
+        program,
+        machine,
+        number,
+        names,
+        depth,
+        functions: functions.as_slice(),
+        objects: followed.as_slice(),
         roots: roots.as_slice(),
     };
     let engine = Engine {
-        tables,
+        tables: masked,
         units: PhantomData,
     };
     reported(alloc, &engine)

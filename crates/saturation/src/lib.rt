@@ -10,5 +10,9 @@ mod tabulation_engine;
 mod analysis;
 mod checked_programs;
 
+// objects that are followed
+mod followed_sets;
+mod met_states;
+
 pub use analysis::analyse;
 pub use edge_reports::shown;

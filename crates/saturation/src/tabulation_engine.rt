@@ -7,4 +7,5 @@ mod least_log;
 mod tabulation;
 
 pub use engine::Engine;
+pub(crate) use least_log::least_edges;
 pub use least_log::reported;

@@ -3,7 +3,7 @@ use Rattle.std.proofs.Common.{◌≡◌, ℕ, List, map, Bool, Option, None, Som
 use Rattle.c_objects.specs.Facts.{Facts}
 use Rattle.c_objects.specs.Objects.{Object}
 use Rattle.flow_graph.specs.CPaths.Events.{Event}
-use Rattle.path_model.specs.CheckerModel.Checkers.{model, origins, source_at}
+use Rattle.path_model.specs.CheckerModel.Checkers.{model}
 use Rattle.path_model.specs.CheckerModel.Choices.{State, next_global, chosen}
 use Rattle.path_model.specs.CheckerModel.Happenings.{Function, Happening}
 use Rattle.path_model.specs.CheckerModel.Moves.{Move, move_of}
@@ -13,7 +13,7 @@ use Rattle.path_theory.specs.Facts.{FactOf, NoObject, HasObject, Gives, IfNoObje
 use Rattle.path_theory.specs.Flows.{EventFlow, EventNone, EventObject}
 use Rattle.state_tuples.specs.declared.tuple.Tuple.{Tuple}
 use Rattle.block_flows.specs.TupleFlows.Behind.{IsBehind, chosen_object, chosen_tuple}
-use Rattle.block_flows.specs.TupleFlows.Facts.{fact_of, fact_in, listed}
+use Rattle.block_flows.specs.TupleFlows.Facts.{fact_of, fact_in, listed, origins_in}
 use Rattle.block_flows.specs.TupleFlows.Moved.{AreObjects, MoveFlow, MovesNone, MovesObject, IsMoved}
 use Rattle.block_flows.proofs.TupleFlows.Lists.{contains-map, map-contains}
 use Rattle.block_flows.proofs.TupleFlows.Tuples.{tuple_of, tuple_of-fact, tuple_of-global, same-parts, same-tuple}
@@ -28,7 +28,7 @@ module _ (c : Checker) (h : Happening) (f : Function) (k : Bool) (followed : Lis
   chosen_fact g (HasObject o x) = HasObject o (chosen c.machine c.depth h f k g o x)
 
   abbrev Flow : ℕ → FactOf Object State → FactOf Object State → Type 0
-  Flow = EventFlow (model c) (origins c) (listed c followed) f k h
+  Flow = EventFlow (model c) (origins_in c followed followed) (listed c followed) f k h
 
   flows : (g : ℕ) (t v : FactOf Object State) → MoveFlow c.depth M followed t v → Flow g t (chosen_fact g v)
   flows g _ _ MovesNone = EventNone

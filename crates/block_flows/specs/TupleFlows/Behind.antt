@@ -2,18 +2,18 @@
 use Rattle.std.specs.Prelude.{◌≡◌, ℕ, Bool, List, Option, None, Some}
 use Rattle.std.proofs.Common.{refl}
 use Rattle.c_objects.specs.Objects.{Object}
-use Rattle.path_model.specs.CheckerModel.Checkers.{model, origins}
+use Rattle.path_model.specs.CheckerModel.Checkers.{model}
 use Rattle.path_model.specs.CheckerModel.Choices.{State, next_global, chosen}
 use Rattle.path_model.specs.CheckerModel.Happenings.{Function, Happening}
 use Rattle.path_model.specs.CheckerModel.Reports.{Checker}
 use Rattle.path_theory.specs.Flows.{EventFlow}
 use Rattle.state_tuples.specs.declared.tuple.Tuple.{Tuple}
-use Rattle.block_flows.specs.TupleFlows.Facts.{fact_in, listed}
+use Rattle.block_flows.specs.TupleFlows.Facts.{fact_in, listed, origins_in}
 
 -- A TUPLE BEHIND AN EVENT of another one: in the next global state, with a fact to which that one's flows
 pub record IsBehind (c : Checker) (h : Happening) (f : Function) (is_root : Bool) (followed : List Object) (t u : Tuple) : Type 0 where
   pub global : u.global ≡ next_global c.machine c.depth h f is_root t.global
-  pub fact : EventFlow (model c) (origins c) (listed c followed) f is_root h t.global (fact_in t) (fact_in u)
+  pub fact : EventFlow (model c) (origins_in c followed followed) (listed c followed) f is_root h t.global (fact_in t) (fact_in u)
 
 -- the tuple that is chosen for one behind the move, where the next global state is this one
 abbrev pub chosen_object : Checker → Happening → Function → Bool → ℕ → ℕ → Option Object → Option State → Tuple

@@ -10,6 +10,7 @@ ghost use Rattle.block_flows.specs.TupleFlows.Moved.{AreObjects};
 
 use crate::tuple_flows::moves::moved;
 use crate::tuple_flows::parts::{of_none, of_object};
+use indexmap::IndexSet;
 use objects::{Object, copy};
 use state_tuples::{EventRules, Tuple};
 use std::alloc::{AllocError, Global};
@@ -51,9 +52,9 @@ pub fn over_event(
     rules: &EventRules,
     is_root: bool,
     tuple: &Tuple,
-    followed: &[Object],
+    followed: &IndexSet<Object>,
 ) -> Result<Vec<Tuple>, AllocError>
-    ensures { IfOk result (λ list. (c : Checker) (h : Happening) (f : Function) → AreOfEvent c.machine c.depth h f rules.now → AreObjects c.depth followed.now → IsExactly list.items (IsBehind c h f is_root followed.now tuple.now)) }
+    ensures { IfOk result (λ list. (c : Checker) (h : Happening) (f : Function) → AreOfEvent c.machine c.depth h f rules.now → AreObjects c.depth followed.now.keys → IsExactly list.items (IsBehind c h f is_root followed.now.keys tuple.now)) }
 {
     let setting = &rules.setting;
     let before = moved(

@@ -1,9 +1,10 @@
-//! Tuples with another object.
+//! Tuples with another object, and whether that is followed.
 
-ghost use Rattle.std.specs.Prelude.{◌≡◌, None, Some, Contains, map, IfOk};
+ghost use Rattle.std.specs.Prelude.{◌≡◌, true, None, Some, IfOk};
 ghost use Rattle.least_set.specs.Logs.{IsExactly, SomeGives};
-ghost use Rattle.block_flows.specs.TupleFlows.Facts.{with_object, without_object};
+ghost use Rattle.block_flows.specs.TupleFlows.Facts.{is_in, with_object, without_object};
 
+use indexmap::IndexSet;
 use objects::{Object, copy};
 use state_tuples::Tuple;
 use std::alloc::{AllocError, Global};
@@ -56,33 +57,25 @@ pub(crate) fn without_object(tuple: &Tuple) -> Tuple
     }
 }
 
-/// Each of these objects in the states of a tuple.
-pub(crate) fn with_objects(
-    alloc: Global,
-    tuple: &Tuple,
-    objects: &[Object],
-) -> Result<Vec<Tuple>, AllocError>
-    ensures { IfOk result (λ list. list.items ≡ map (with_object tuple.now) objects.now) }
+/// Whether an object is followed.
+pub fn is_followed(followed: &IndexSet<Object>, object: &Object) -> bool
+    ensures { result ≡ is_in followed.now.keys object.now }
 {
-    let mut list = Vec::new(alloc);
-    for object in objects {
-        list.push(with_object(tuple, copy(object)))?;
-    }
-    Ok(list)
+    followed.contains(object)
 }
 
-/// Those of these objects that stand among the followed ones, in the states of a tuple.
+/// Those of these objects that are followed, in the states of a tuple.
 pub(crate) fn with_followed(
     alloc: Global,
     tuple: &Tuple,
     objects: &[Object],
-    followed: &[Object],
+    followed: &IndexSet<Object>,
 ) -> Result<Vec<Tuple>, AllocError>
-    ensures { IfOk result (λ list. IsExactly list.items (SomeGives (λ o u. Contains followed.now o × (with_object tuple.now o ≡ u)) objects.now)) }
+    ensures { IfOk result (λ list. IsExactly list.items (SomeGives (λ o u. (is_in followed.now.keys o ≡ true) × (with_object tuple.now o ≡ u)) objects.now)) }
 {
     let mut list = Vec::new(alloc);
     for object in objects {
-        if followed.contains(object) {
+        if is_followed(followed, object) {
             list.push(with_object(tuple, copy(object)))?;
         }
     }

@@ -9,11 +9,10 @@ use Rattle.flow_graph.specs.CPaths.Graphs.{Block, Ending, Calls}
 use Rattle.c_tree.specs.Node.{Node}
 use Rattle.type_rules.specs.Options.{if_there, ◌>?◌}
 use Rattle.path_model.specs.CheckerGraphs.Graphs.{flow_graphs, function_at, graph_at}
-use Rattle.path_model.specs.CheckerModel.Checkers.{model, origins}
 use Rattle.path_model.specs.CheckerModel.Choices.{State}
 use Rattle.path_model.specs.CheckerModel.Happenings.{Function, Site}
 use Rattle.path_model.specs.CheckerModel.Reports.{Checker}
-use Rattle.path_model.specs.CheckerPrograms.Relevant.{Followed}
+use Rattle.path_edges.specs.Masks.{model_under, origins_under, objects_under, graphs_under}
 use Rattle.path_model.specs.CheckerPrograms.Roots.{followed_into}
 use Rattle.path_model.specs.CheckerPrograms.Texts.{site}
 use Rattle.typed_unit.specs.Texts.{Text}
@@ -67,13 +66,14 @@ module _ (c : Checker) (ts : List Text) (gs : List Graph) where
   pub site-of-call : (n b : ℕ) (f h : Function) (s : Site) (next : ℕ) → function_at ts n ≡ Some f → CallAt f b s h next → site_at c.depth ts gs n b ≡ s
   site-of-call n b f h s next named x = site-by-call n b f (Some x.1) named (ap (λ o. o >? λ k. call_in k.ending) x.2) ∙ sym x.3
 
+module _ (c : Checker) (ts : List Text) (gs : List Graph) (lists : List (List Object)) where
   -- a tuple of the theory at the end of a block has a value there
   abbrev pub StandsFor : Edge → rules.Tuple ℕ Object State → Function → Type 0
-  StandsFor e t f = rules.Behind (model c) (origins c) (Followed c ts) (flow_graphs c ts gs) (function_at ts) (edge_in e) t f
+  StandsFor e t f = rules.Behind (model_under c ts lists) (origins_under c ts lists) (objects_under c ts lists) (graphs_under c ts gs lists) (function_at ts) (edge_in e) t f
 
-  pub stands : (e : Edge) (t : rules.Tuple ℕ Object State) (f : Function) → StandsFor e t f → StandsBehind c ts gs e (tuple_with t.global t.fact)
+  pub stands : (e : Edge) (t : rules.Tuple ℕ Object State) (f : Function) → StandsFor e t f → StandsBehind c ts gs lists e (tuple_with t.global t.fact)
   stands e t f h = record { fn = f; behind = subst (λ z. StandsFor e z f) (sym (tuple-there t)) h }
 
   -- in the one function that is there
-  pub stands-in : (e : Edge) (u : Tuple) (f : Function) → function_at ts e.context.function ≡ Some f → StandsBehind c ts gs e u → StandsFor e (tuple_in u) f
+  pub stands-in : (e : Edge) (u : Tuple) (f : Function) → function_at ts e.context.function ≡ Some f → StandsBehind c ts gs lists e u → StandsFor e (tuple_in u) f
   stands-in e u f named s = subst (λ (z : Function). StandsFor e (tuple_in u) z) (one-function s.fn f (sym s.behind.named ∙ named)) s.behind

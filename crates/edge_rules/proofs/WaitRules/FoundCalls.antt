@@ -16,17 +16,20 @@ use Rattle.path_model.proofs.CheckerGraphs.Calls.{followed-number}
 use Rattle.path_model.proofs.CheckerGraphs.Units.{functions-are, place-filed}
 use Rattle.path_model.specs.CheckerModel.Happenings.{Function, Site}
 use Rattle.path_model.specs.CheckerModel.Reports.{Checker}
-use Rattle.path_model.specs.CheckerPrograms.Relevant.{Followed}
+use Rattle.block_flows.specs.FollowedLists.{is_followed}
+use Rattle.block_flows.specs.TupleFlows.Facts.{is_in}
+use Rattle.c_objects.specs.Objects.{Object}
+use Rattle.edge_rules.specs.WaitRules.CalledObjects.{AreOfCallee}
+use Rattle.path_edges.proofs.MaskedCalls.{callee-is, own-callee}
 use Rattle.path_model.specs.CheckerPrograms.Roots.{followed_into}
 use Rattle.path_model.specs.CheckerPrograms.Texts.{functions_in, function_of, site, table_of}
 use Rattle.typed_unit.specs.Texts.{Text}
 use Rattle.function_tables.specs.declared.engine_tables.frames.Frame.{Frame}
 use Rattle.function_tables.specs.declared.engine_tables.tables.Tables.{Tables}
-use Rattle.function_tables.specs.EngineTables.Known.{checker_in, texts_in, graphs_in}
+use Rattle.function_tables.specs.EngineTables.Known.{checker_in, texts_in, graphs_in, objects_in}
 use Rattle.function_tables.proofs.EngineTables.Places.{IsPlace, named, ending-there}
 use Rattle.flow_graph.specs.Seen.{graph_in}
 use Rattle.function_tables.specs.Tables.{AreBlockTables}
-use Rattle.least_set.specs.Logs.{IsExactly}
 use Rattle.metal_tree.specs.MetalMachines.Machine.{Machine}
 use Rattle.path_edges.specs.Edges.{call_in, call_at, no_site, site_at}
 use Rattle.call_graph.specs.OfPrograms.Definitions.{definitions, trees_in}
@@ -138,9 +141,9 @@ module _ (t : Tables) (n b : ℕ) (f : Frame) (p : IsPlace t n f) where
         (sym none ∙ sym into ∙ ap (λ (z : Node). followed_into c.machine (site t.depth ts fn z)) (sym same.0) ∙ ap (followed_into c.machine) (sym y.site) ∙ y.followed)
 
     -- it is, and this is what is known of it
-    pub found : (k : FollowedCall) (h : Frame) (q : IsPlace t k.callee h) → callee ≡ Some k.callee → next ≡ k.behind → h.objects.now ≡ k.objects.now
+    pub found : (k : FollowedCall) (h : Frame) (q : IsPlace t k.callee h) → callee ≡ Some k.callee → next ≡ k.behind → f.objects.now ≡ k.caller_objects.now → h.objects.now ≡ k.callee_objects.now
         → IsSite t.depth k.site (site t.depth ts fn call) → IsFound t n b k
-    found k h q to behind objects passes =
+    found k h q to behind own objects passes =
         let callees = into ∙ ap (λ o. option_map function_of (o >? slice_get (functions_in ts))) to ∙ named t k.callee q.defined q.is in
         let block = subst (λ (z : Graph). Has z.blocks b has.0 (Calls call next)) (sym p.graph) has.1 in
         record {
@@ -153,7 +156,8 @@ module _ (t : Tables) (n b : ℕ) (f : Frame) (p : IsPlace t n f) where
             numbered = named t k.callee q.defined q.is;
             ends = (has.0, call, subst (λ (m : ℕ). Has (graph_at ts (graphs_in t) fn).blocks b has.0 (Calls call m)) behind block, refl, callees);
           };
-          objects = subst (λ os. IsExactly os (Followed c ts (function_of q.defined))) objects q.followed;
+          here = λ o. p.follows o ∙ ap (λ os. is_in os.keys o) own;
+          there = λ o. q.follows o ∙ ap (λ os. is_in os.keys o) objects;
         }
 
 -- the site of a waiter at the block, by the call in which it ends
@@ -168,3 +172,31 @@ module _ (t : Tables) (n b : ℕ) (f : Frame) (p : IsPlace t n f) where
   site-at-none e =
       site-by-call (checker_in t) (texts_in t) (graphs_in t) n b (function_of p.defined) None (named t n p.defined p.is)
       (ap (λ (g : Graph). call_at g b) p.graph ∙ call-missing (graph_in f.table.now.graph) b e)
+
+-- the objects that are followed in the callee, by the call in which the block ends
+module _ (t : Tables) (n b : ℕ) (f : Frame) (p : IsPlace t n f) where
+  abbrev own : Function
+  own = function_of p.defined
+
+  abbrev Followed : Function → List Object → Type 0
+  Followed g os = (o : Object) → is_followed (texts_in t) (objects_in t) g o ≡ is_in os o
+
+  -- none is called, or the call isn't followed: they are those of the function itself
+  own-objects : followed_into (checker_in t).machine (site_at t.depth (texts_in t) (graphs_in t) n b) ≡ None → AreOfCallee t n b f.objects.now.keys
+  own-objects none = subst (λ g. Followed g f.objects.now.keys) (sym (own-callee (checker_in t) (texts_in t) (graphs_in t) n b own (named t n p.defined p.is) none)) p.follows
+
+  pub without-call : None ≡ (ending_at (graph_in f.table.now.graph).blocks b >? if_call) → AreOfCallee t n b f.objects.now.keys
+  without-call e = own-objects (ap (followed_into (checker_in t).machine) (site-at-none t n b f p e))
+
+  module _ (call : Node) (next : ℕ) (ends : Some (Calls call next) ≡ (ending_at (graph_in f.table.now.graph).blocks b >? if_call)) where
+    at-site : followed_into (checker_in t).machine (site_at t.depth (texts_in t) (graphs_in t) n b) ≡ followed_into (checker_in t).machine (site t.depth (texts_in t) own call)
+    at-site = ap (followed_into (checker_in t).machine) (site-at-call t n b f p call next ends)
+
+    pub call-passed : followed_into (checker_in t).machine (site t.depth (texts_in t) own call) ≡ None → AreOfCallee t n b f.objects.now.keys
+    call-passed none = own-objects (at-site ∙ none)
+
+    pub call-followed : (k : ℕ) (h : Frame) (q : IsPlace t k h) → followed_into (checker_in t).machine (site t.depth (texts_in t) own call) ≡ function_at (texts_in t) k
+        → AreOfCallee t n b h.objects.now.keys
+    call-followed k h q into =
+        subst (λ g. Followed g h.objects.now.keys)
+        (sym (callee-is (checker_in t) (texts_in t) (graphs_in t) n b (function_of q.defined) (at-site ∙ into ∙ named t k q.defined q.is))) q.follows

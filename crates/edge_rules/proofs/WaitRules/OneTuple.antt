@@ -4,6 +4,7 @@ use Rattle.std.proofs.lemmas.List.Elements.{Contains-append_left, Contains-push,
 use Rattle.c_objects.specs.Objects.{Object, is_static}
 use Rattle.type_rules.specs.Options.{or_else}
 use Rattle.std.specs.Prelude.{cond, is_some}
+use Rattle.masked_paths.specs.StrictFlows.Among.{if_followed, of_followed}
 use Rattle.path_model.specs.CheckerModel.Calls.{reached}
 use Rattle.path_model.specs.CheckerModel.Choices.{State}
 use Rattle.path_model.specs.CheckerModel.Happenings.{Function, Site}
@@ -18,6 +19,7 @@ use Rattle.path_edges.specs.declared.edges.Waiter.{Waiter}
 use Rattle.refine_restore.specs.declared.site.Site as code
 use Rattle.refine_restore.specs.Sites.{site_of}
 use Rattle.state_tuples.specs.declared.tuple.Tuple.{Tuple}
+use Rattle.block_flows.specs.TupleFlows.Facts.{is_in}
 use Rattle.block_flows.specs.TupleFlows.Passed.{IsSite, IsEntered, IsReturned}
 use Rattle.edge_rules.specs.WaitRules.Handing.{HandBackAlike}
 use Rattle.edge_rules.specs.WaitRules.Waiters.{IsSaved, IsWaiting, ForEntered, WithSaved, GoesOn, WithHanded, WithPutBack, put_back, wait_with}
@@ -43,30 +45,31 @@ without-formals depth s r f g o = ap (λ xs. or_else (reached depth xs s.actuals
 one-object : (o p : Object) → Some o ≡ Some p → o ≡ p
 one-object o p e = cc
 
-saved-alike : (depth : ℕ) (s r : Site) (t : Tuple) (o : Object) → HandBackAlike depth s r → IsSaved depth s t o → IsSaved depth r t o
-saved-alike depth s r t o same x = record { has = x.has; kept = sym (same o) ∙ x.kept }
+-- what is saved, by what a call hands back
+saved-alike : (depth : ℕ) (s r : Site) (here there : List Object) (t : Tuple) (o : Object) → HandBackAlike depth s r → IsSaved depth s here there t o → IsSaved depth r here there t o
+saved-alike depth s r here there t o same x = record { has = x.has; kept = sym (ap (λ z. of_followed (is_in here o) (if_followed (is_in there) z)) (same o)) ∙ x.kept }
 
 -- an object is saved by what the call passes, and at the site that it is
-module _ (c : Checker) (depth : ℕ) (site : code.Site) (s : Site) (t : Tuple) (o : Object) (deep : c.depth ≡ depth) (is : IsSite depth site s) where
-  pub saved-at : IsSaved depth (site_of depth site) t o → IsSaved c.depth s t o
-  saved-at x = subst (λ n. IsSaved n s t o) (sym deep) (saved-alike depth (site_of depth site) s t o (alike depth site s is) x)
+module _ (c : Checker) (depth : ℕ) (site : code.Site) (s : Site) (here there : List Object) (t : Tuple) (o : Object) (deep : c.depth ≡ depth) (is : IsSite depth site s) where
+  pub saved-at : IsSaved depth (site_of depth site) here there t o → IsSaved c.depth s here there t o
+  saved-at x = subst (λ n. IsSaved n s here there t o) (sym deep) (saved-alike depth (site_of depth site) s here there t o (alike depth site s is) x)
 
-  pub saved-of : IsSaved c.depth s t o → IsSaved depth (site_of depth site) t o
-  saved-of x = saved-alike depth s (site_of depth site) t o (λ p. sym (alike depth site s is p)) (subst (λ n. IsSaved n s t o) deep x)
+  pub saved-of : IsSaved c.depth s here there t o → IsSaved depth (site_of depth site) here there t o
+  saved-of x = saved-alike depth s (site_of depth site) here there t o (λ p. sym (alike depth site s is p)) (subst (λ n. IsSaved n s here there t o) deep x)
 
-module _ (c : Checker) (s : Site) (callee : Function) (objects : List Object) (number behind : ℕ) (e : Edge) (t : Tuple) (out : List (Wait Context Waiter)) where
+module _ (c : Checker) (s : Site) (callee : Function) (here there : List Object) (number behind : ℕ) (e : Edge) (t : Tuple) (out : List (Wait Context Waiter)) where
   abbrev Entered : Wait Context Waiter → Type 0
-  Entered w = (u : Tuple) × IsEntered c s callee objects t u × (wait_for e number behind u ≡ w)
+  Entered w = (u : Tuple) × IsEntered c s callee here there t u × (wait_for e number behind u ≡ w)
 
   abbrev Waiting : Wait Context Waiter → Type 0
-  Waiting w = IsWaiting c s callee objects number behind e t w
+  Waiting w = IsWaiting c s callee here there number behind e t w
 
   entered-waits : (w : Wait Context Waiter) → Entered w → Waiting w
   entered-waits w x = ForEntered x.0 x.1 x.2
 
   -- the tuple has no object that is saved
-  pub without-saved : IsExactly out (λ w. (u : Tuple) × IsEntered c s callee objects t u × (wait_for e number behind u ≡ w)) → ((o : Object) → IsSaved c.depth s t o → ⊥)
-      → IsExactly out (IsWaiting c s callee objects number behind e t)
+  pub without-saved : IsExactly out (λ w. (u : Tuple) × IsEntered c s callee here there t u × (wait_for e number behind u ≡ w)) → ((o : Object) → IsSaved c.depth s here there t o → ⊥)
+      → IsExactly out (IsWaiting c s callee here there number behind e t)
   without-saved x none = (λ w m. entered-waits w (x.0 w m), λ w h. x.1 w (by w h))
     where
       by : (w : Wait Context Waiter) → Waiting w → Entered w
@@ -74,8 +77,8 @@ module _ (c : Checker) (s : Site) (callee : Function) (objects : List Object) (n
       by w (WithSaved o saved is) = absurd (none o saved)
 
   -- it has one
-  pub with-saved : (o : Object) → IsExactly out (λ w. (u : Tuple) × IsEntered c s callee objects t u × (wait_for e number behind u ≡ w)) → IsSaved c.depth s t o
-      → IsExactly (out ++ wait_with e number behind t o ∷ []) (IsWaiting c s callee objects number behind e t)
+  pub with-saved : (o : Object) → IsExactly out (λ w. (u : Tuple) × IsEntered c s callee here there t u × (wait_for e number behind u ≡ w)) → IsSaved c.depth s here there t o
+      → IsExactly (out ++ wait_with e number behind t o ∷ []) (IsWaiting c s callee here there number behind e t)
   with-saved o x saved = (
     λ w m. elim (Contains-push_cases out (wait_with e number behind t o) w m) [ inl k ↦ entered-waits w (x.0 w k) | inr is ↦ WithSaved o saved is ],
     λ w h. by w h,
@@ -93,25 +96,25 @@ none-saved x e = cc
 one-saved : (x y : Object × Option State) → Some x ≡ Some y → x ≡ y
 one-saved x y e = cc
 
-module _ (c : Checker) (s : Site) (caller : Function) (objects : List Object) (w : Waiter) (tuples : List Tuple) (out : List Edge) where
+module _ (c : Checker) (s : Site) (caller : Function) (here there : List Object) (w : Waiter) (tuples : List Tuple) (out : List Edge) where
   abbrev Goes : Tuple → Edge → Type 0
-  Goes t d = GoesOn c s caller objects w t d
+  Goes t d = GoesOn c s caller here there w t d
 
   -- who has nothing saved goes on with what is handed back
-  pub only-handed : w.saved ≡ None → IsExactly out (SomeGives (λ t d. (u : Tuple) × IsReturned c s caller objects t u × (woken_edge w u ≡ d)) tuples)
-      → IsExactly out (SomeGives (GoesOn c s caller objects w) tuples)
+  pub only-handed : w.saved ≡ None → IsExactly out (SomeGives (λ t d. (u : Tuple) × IsReturned c s caller here there t u × (woken_edge w u ≡ d)) tuples)
+      → IsExactly out (SomeGives (GoesOn c s caller here there w) tuples)
   only-handed none x = (
     λ d m. let g = x.0 d m in (g.0, g.1, WithHanded g.2.0 none g.2.1 g.2.2),
     λ d h. x.1 d (h.0, h.1, by h.0 d h.2),
   )
     where
-      by : (t : Tuple) (d : Edge) → Goes t d → (u : Tuple) × IsReturned c s caller objects t u × (woken_edge w u ≡ d)
+      by : (t : Tuple) (d : Edge) → Goes t d → (u : Tuple) × IsReturned c s caller here there t u × (woken_edge w u ≡ d)
       by t d (WithHanded u nothing back is) = (u, back, is)
       by t d (WithPutBack o x saved empty is) = absurd (none-saved (o, x) (sym none ∙ saved))
 
   -- who has an object saved goes on with it
   pub only-put-back : (o : Object) (x : Option State) → w.saved ≡ Some (o, x) → IsExactly out (SomeGives (λ t d. (t.object ≡ None) × (woken_edge w (put_back t o x) ≡ d)) tuples)
-      → IsExactly out (SomeGives (GoesOn c s caller objects w) tuples)
+      → IsExactly out (SomeGives (GoesOn c s caller here there w) tuples)
   only-put-back o x saved y = (
     λ d m. let g = y.0 d m in (g.0, g.1, WithPutBack o x saved g.2.0 g.2.1),
     λ d h. y.1 d (h.0, h.1, by h.0 d h.2),

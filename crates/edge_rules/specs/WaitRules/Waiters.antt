@@ -2,7 +2,6 @@
 use Rattle.std.specs.Prelude.{◌≡◌, ℕ, List, Option, None, Some}
 use Rattle.std.proofs.Common.{refl}
 use Rattle.c_objects.specs.Objects.{Object}
-use Rattle.path_model.specs.CheckerModel.Calls.{out}
 use Rattle.path_model.specs.CheckerModel.Choices.{State}
 use Rattle.path_model.specs.CheckerModel.Happenings.{Function, Site}
 use Rattle.path_model.specs.CheckerModel.Reports.{Checker}
@@ -13,7 +12,7 @@ use Rattle.path_edges.specs.declared.edges.Edge.{Edge}
 use Rattle.path_edges.specs.declared.edges.Waiter.{Waiter}
 use Rattle.state_tuples.specs.declared.tuple.Tuple.{Tuple}
 use Rattle.block_flows.specs.TupleFlows.Facts.{without_object}
-use Rattle.block_flows.specs.TupleFlows.Passed.{IsEntered, IsReturned}
+use Rattle.block_flows.specs.TupleFlows.Passed.{out_in, IsEntered, IsReturned}
 
 -- who waits with an object that is saved over a call, in the state that it has there, at the callee that is entered without an object
 abbrev pub wait_with : Edge → ℕ → ℕ → Tuple → Object → Wait Context Waiter
@@ -22,24 +21,27 @@ wait_with e callee behind t o = record {
   waiter = record { context = e.context; is_root = e.is_root; block = e.block; behind = behind; saved = Some (o, t.state) };
 }
 
--- the object of a tuple before a call of this site is saved over it
-pub record IsSaved (depth : ℕ) (s : Site) (t : Tuple) (o : Object) : Type 0 where
+-- the object of a tuple before a call of this site is saved over it: it has its state behind the call from none that is followed in the
+-- callee, there, or isn't followed in the caller, here
+pub record IsSaved (depth : ℕ) (s : Site) (here there : List Object) (t : Tuple) (o : Object) : Type 0 where
   pub has : t.object ≡ Some o
-  pub kept : out depth s o ≡ None
+  pub kept : out_in depth s here there o ≡ None
 
 -- a saved object with its state, in the global state of a tuple
 abbrev pub put_back : Tuple → Object → Option State → Tuple
 put_back t o x = record { global = t.global; object = Some o; state = x; bare = refl }
 
+-- the objects are those that are followed here, in the caller, and there, in the callee
 module _ (c : Checker) (s : Site) where
   -- WHO WAITS because of a tuple before the call: one for each tuple with which the callee is entered, and one with an object that is saved.
-  -- The callee has this number and follows these objects.
-  pub data IsWaiting (callee : Function) (objects : List Object) (number behind : ℕ) (e : Edge) (t : Tuple) (w : Wait Context Waiter) : Type 0 where
-    ForEntered : (u : Tuple) → IsEntered c s callee objects t u → wait_for e number behind u ≡ w → IsWaiting callee objects number behind e t w
-    WithSaved : (o : Object) → IsSaved c.depth s t o → wait_with e number behind t o ≡ w → IsWaiting callee objects number behind e t w
+  -- The callee has this number.
+  pub data IsWaiting (callee : Function) (here there : List Object) (number behind : ℕ) (e : Edge) (t : Tuple) (w : Wait Context Waiter) : Type 0 where
+    ForEntered : (u : Tuple) → IsEntered c s callee here there t u → wait_for e number behind u ≡ w → IsWaiting callee here there number behind e t w
+    WithSaved : (o : Object) → IsSaved c.depth s here there t o → wait_with e number behind t o ≡ w → IsWaiting callee here there number behind e t w
 
-  -- WHERE HE GOES ON because of a tuple at the callee's end: with what is handed back to the caller, which follows these objects, or with
-  -- the object that was saved, where the callee has ended without an object
-  pub data GoesOn (caller : Function) (objects : List Object) (w : Waiter) (t : Tuple) (d : Edge) : Type 0 where
-    WithHanded : (u : Tuple) → w.saved ≡ None → IsReturned c s caller objects t u → woken_edge w u ≡ d → GoesOn caller objects w t d
-    WithPutBack : (o : Object) (x : Option State) → w.saved ≡ Some (o, x) → t.object ≡ None → woken_edge w (put_back t o x) ≡ d → GoesOn caller objects w t d
+  -- WHERE HE GOES ON because of a tuple at the callee's end: with what is handed back to the caller, or with the object that was saved,
+  -- where the callee has ended without an object
+  pub data GoesOn (caller : Function) (here there : List Object) (w : Waiter) (t : Tuple) (d : Edge) : Type 0 where
+    WithHanded : (u : Tuple) → w.saved ≡ None → IsReturned c s caller here there t u → woken_edge w u ≡ d → GoesOn caller here there w t d
+    WithPutBack : (o : Object) (x : Option State) → w.saved ≡ Some (o, x) → t.object ≡ None → woken_edge w (put_back t o x) ≡ d
+        → GoesOn caller here there w t d

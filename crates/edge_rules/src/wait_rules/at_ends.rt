@@ -4,7 +4,7 @@ ghost use Rattle.std.specs.Prelude.{◌≡◌, ◌≤◌, IfOk, None};
 ghost use Rattle.path_model.specs.CheckerModel.Happenings.{Function, Site as Call};
 ghost use Rattle.path_model.specs.CheckerModel.Reports.{Checker};
 ghost use Rattle.path_edges.specs.EdgeSteps.Steps.{StandsBehind, woken_edge};
-ghost use Rattle.function_tables.specs.EngineTables.Known.{AreKnown, IsFrame, checker_in, texts_in, graphs_in};
+ghost use Rattle.function_tables.specs.EngineTables.Known.{AreKnown, IsFrame, checker_in, texts_in, graphs_in, objects_in};
 ghost use Rattle.least_set.specs.Logs.{IsExactly, SomeGives};
 ghost use Rattle.path_edges.specs.declared.edges.Edge.{Edge as End};
 ghost use Rattle.path_edges.specs.Relations.{IsWoken};
@@ -12,9 +12,10 @@ ghost use Rattle.state_tuples.specs.declared.tuple.Tuple.{Tuple as Ended};
 ghost use Rattle.block_flows.specs.TupleFlows.Passed.{IsReturned, IsSite};
 ghost use Rattle.edge_rules.specs.WaitRules.Waiters.{put_back};
 
-use crate::wait_rules::waiting_sites::waiting_site;
+use crate::wait_rules::waiting_sites::{called_objects, waiting_site};
 use block_flows::out_of_call;
 use function_tables::{Frame, Tables};
+use indexmap::IndexSet;
 use objects::{Object, copy};
 use path_edges::{Edge, Waiter, copy_context, woken};
 use refine_restore::Site;
@@ -28,12 +29,13 @@ fn with_handed(
     site: &Site,
     waiter: &Waiter,
     tuple: &Tuple,
-    objects: &[Object],
+    caller_objects: &IndexSet<Object>,
+    callee_objects: &IndexSet<Object>,
 ) -> Result<Vec<Edge>, AllocError>
     requires { depth ≤ 8 }
-    ensures { IfOk result (λ list. (c : Checker) (s : Call) (caller : Function) → c.depth ≡ depth → IsSite depth site.now s → IsExactly list.items (λ d. (u : Ended) × IsReturned c s caller objects.now tuple.now u × (woken_edge waiter.now u ≡ d))) }
+    ensures { IfOk result (λ list. (c : Checker) (s : Call) (caller : Function) → c.depth ≡ depth → IsSite depth site.now s → IsExactly list.items (λ d. (u : Ended) × IsReturned c s caller caller_objects.now.keys callee_objects.now.keys tuple.now u × (woken_edge waiter.now u ≡ d))) }
 {
-    let handed = out_of_call(alloc, site, depth, tuple, objects)?;
+    let handed = out_of_call(alloc, site, depth, tuple, caller_objects, callee_objects)?;
     woken(alloc, waiter, handed.as_slice())
 }
 
@@ -44,14 +46,23 @@ fn with_all_handed(
     site: &Site,
     waiter: &Waiter,
     tuples: &[Tuple],
-    objects: &[Object],
+    caller_objects: &IndexSet<Object>,
+    callee_objects: &IndexSet<Object>,
 ) -> Result<Vec<Edge>, AllocError>
     requires { depth ≤ 8 }
-    ensures { IfOk result (λ list. (c : Checker) (s : Call) (caller : Function) → c.depth ≡ depth → IsSite depth site.now s → IsExactly list.items (SomeGives (λ t d. (u : Ended) × IsReturned c s caller objects.now t u × (woken_edge waiter.now u ≡ d)) tuples.now)) }
+    ensures { IfOk result (λ list. (c : Checker) (s : Call) (caller : Function) → c.depth ≡ depth → IsSite depth site.now s → IsExactly list.items (SomeGives (λ t d. (u : Ended) × IsReturned c s caller caller_objects.now.keys callee_objects.now.keys t u × (woken_edge waiter.now u ≡ d)) tuples.now)) }
 {
     let mut edges = Vec::new(alloc);
     for tuple in tuples {
-        let mut found = with_handed(alloc, depth, site, waiter, tuple, objects)?;
+        let mut found = with_handed(
+            alloc,
+            depth,
+            site,
+            waiter,
+            tuple,
+            caller_objects,
+            callee_objects,
+        )?;
         edges.append(&mut found)?;
     }
     Ok(edges)
@@ -100,30 +111,41 @@ fn with_put_back(
 }
 
 // Where a waiter in this function goes on that has nothing saved.
-fn goes_on_handed<'a>(
+fn goes_on_handed<'t, 'u, 'a>(
     alloc: Global,
-    tables: &Tables<'_, '_, 'a>,
-    frame: &Frame<'_, '_, 'a>,
+    tables: &Tables<'t, 'u, 'a>,
+    frame: &Frame<'t, 'u, 'a>,
     waiter: &Waiter,
     tuples: &[Tuple],
 ) -> Result<Vec<Edge>, AllocError>
-    ensures { IfOk result (λ list. AreKnown tables.now → IsFrame tables.now waiter.now.context.function frame.now → waiter.now.saved ≡ None → (e : End) → IsExactly tuples.now (StandsBehind (checker_in tables.now) (texts_in tables.now) (graphs_in tables.now) e) → IsExactly list.items (IsWoken (checker_in tables.now) (texts_in tables.now) (graphs_in tables.now) waiter.now e)) }
+    ensures { IfOk result (λ list. AreKnown tables.now → IsFrame tables.now waiter.now.context.function frame.now → waiter.now.saved ≡ None → (e : End) → IsExactly tuples.now (StandsBehind (checker_in tables.now) (texts_in tables.now) (graphs_in tables.now) (objects_in tables.now) e) → IsExactly list.items (IsWoken (checker_in tables.now) (texts_in tables.now) (graphs_in tables.now) (objects_in tables.now) waiter.now e)) }
 {
     match waiting_site(tables, frame, waiter.context.function, waiter.block) {
-        Some(site) => with_all_handed(alloc, tables.depth, &site, waiter, tuples, frame.objects),
+        Some(site) => {
+            let called = called_objects(tables, frame, waiter.block);
+            with_all_handed(
+                alloc,
+                tables.depth,
+                &site,
+                waiter,
+                tuples,
+                frame.objects,
+                called,
+            )
+        }
         None => Ok(Vec::new(alloc)),
     }
 }
 
 // Where a waiter in this function goes on.
-fn goes_on<'a>(
+fn goes_on<'t, 'u, 'a>(
     alloc: Global,
-    tables: &Tables<'_, '_, 'a>,
-    frame: &Frame<'_, '_, 'a>,
+    tables: &Tables<'t, 'u, 'a>,
+    frame: &Frame<'t, 'u, 'a>,
     waiter: &Waiter,
     tuples: &[Tuple],
 ) -> Result<Vec<Edge>, AllocError>
-    ensures { IfOk result (λ list. AreKnown tables.now → IsFrame tables.now waiter.now.context.function frame.now → (e : End) → IsExactly tuples.now (StandsBehind (checker_in tables.now) (texts_in tables.now) (graphs_in tables.now) e) → IsExactly list.items (IsWoken (checker_in tables.now) (texts_in tables.now) (graphs_in tables.now) waiter.now e)) }
+    ensures { IfOk result (λ list. AreKnown tables.now → IsFrame tables.now waiter.now.context.function frame.now → (e : End) → IsExactly tuples.now (StandsBehind (checker_in tables.now) (texts_in tables.now) (graphs_in tables.now) (objects_in tables.now) e) → IsExactly list.items (IsWoken (checker_in tables.now) (texts_in tables.now) (graphs_in tables.now) (objects_in tables.now) waiter.now e)) }
 {
     match &waiter.saved {
         Some((object, state)) => with_put_back(alloc, waiter, object, *state, tuples),
@@ -142,7 +164,7 @@ pub fn wake(
     end: &Edge,
     tuples: &[Tuple],
 ) -> Result<Vec<Edge>, AllocError>
-    ensures { IfOk result (λ list. AreKnown tables.now → IsExactly tuples.now (StandsBehind (checker_in tables.now) (texts_in tables.now) (graphs_in tables.now) end.now) → IsExactly list.items (IsWoken (checker_in tables.now) (texts_in tables.now) (graphs_in tables.now) waiter.now end.now)) }
+    ensures { IfOk result (λ list. AreKnown tables.now → IsExactly tuples.now (StandsBehind (checker_in tables.now) (texts_in tables.now) (graphs_in tables.now) (objects_in tables.now) end.now) → IsExactly list.items (IsWoken (checker_in tables.now) (texts_in tables.now) (graphs_in tables.now) (objects_in tables.now) waiter.now end.now)) }
 {
     match tables.frame(waiter.context.function) {
         Some(frame) => goes_on(alloc, tables, &frame, waiter, tuples),

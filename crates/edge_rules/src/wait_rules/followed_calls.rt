@@ -7,6 +7,7 @@ ghost use Rattle.edge_rules.specs.WaitRules.FoundCalls.{IsFound};
 
 use crate::wait_rules::call_ends::call_end;
 use function_tables::{Tables, callee_at};
+use indexmap::IndexSet;
 use objects::Object;
 use refine_restore::Site;
 
@@ -16,8 +17,10 @@ pub(crate) struct FollowedCall<'s, 'a> {
     pub(crate) site: Site<'s, 'a>,
     /// The callee's number.
     pub(crate) callee: u32,
+    /// The objects that are followed in the caller.
+    pub(crate) caller_objects: &'s IndexSet<Object>,
     /// The objects that are followed in the callee.
-    pub(crate) objects: &'s [Object],
+    pub(crate) callee_objects: &'s IndexSet<Object>,
     /// The block behind the call.
     pub(crate) behind: u32,
 }
@@ -39,7 +42,8 @@ pub(crate) fn followed_call<'s, 'a>(
     Some(FollowedCall {
         site,
         callee,
-        objects: entered.objects,
+        caller_objects: frame.objects,
+        callee_objects: entered.objects,
         behind: end.behind,
     })
 }

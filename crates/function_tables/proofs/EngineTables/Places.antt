@@ -1,24 +1,26 @@
 -- What is known of a function by its number, and of a block in it.
-use Rattle.std.proofs.Common.{◌≡◌, ℕ, zero, suc, List, [], ◌∷◌, map, length, slice_get, Option, None, Some, refl, sym, ap, subst, ◌∙◌, arith, Result, Ok, Err, IfOk}
+use Rattle.std.proofs.Common.{◌≡◌, ℕ, zero, suc, List, [], ◌∷◌, map, length, slice_get, Option, None, Some, refl, sym, ap, subst, ◌∙◌, arith, Result, Ok, Err, IfOk, false}
 use Rattle.std.specs.Prelude.{IfSome}
 use Rattle.std.proofs.lemmas.Option.{slice_get-map}
 use Rattle.std.specs.Option.{option_map}
 use Rattle.state_tuples.specs.declared.applied_rules.rules.EventRules.{EventRules}
 use Rattle.block_flows.specs.Events.{AreOfEvents}
+use Rattle.block_flows.specs.FollowedLists.{is_followed}
+use Rattle.block_flows.specs.TupleFlows.Facts.{is_in}
+use Rattle.c_objects.specs.Objects.{Object}
 use Rattle.flow_graph.specs.CPaths.BlockGraphs.{events_at}
 use Rattle.flow_graph.specs.CPaths.Events.{Event}
 use Rattle.flow_graph.specs.CPaths.Fragments.{Has}
 use Rattle.flow_graph.specs.CPaths.Graphs.{Block, Ending, Calls}
 use Rattle.c_tree.specs.Node.{Node}
 use Rattle.type_rules.specs.Functions.{Defined}
-use Rattle.type_rules.specs.Options.{◌>?◌}
+use Rattle.type_rules.specs.Options.{if_there, ◌>?◌}
 use Rattle.path_model.specs.CheckerGraphs.Graphs.{AreApartPlaces, function_at, graph_at}
-use Rattle.path_model.proofs.CheckerGraphs.Numbers.{graph-at}
+use Rattle.path_model.proofs.CheckerGraphs.Numbers.{graph-at, numbered-at}
 use Rattle.path_model.proofs.CheckerGraphs.Calls.{followed-number}
 use Rattle.path_model.proofs.CheckerGraphs.Units.{apart-texts, place-filed}
 use Rattle.call_graph.specs.Followed.{followed}
 use Rattle.path_model.specs.CheckerModel.Happenings.{Function, Happening}
-use Rattle.path_model.specs.CheckerPrograms.Relevant.{Followed}
 use Rattle.path_model.specs.CheckerPrograms.Roots.{followed_into}
 use Rattle.path_model.specs.CheckerPrograms.Texts.{functions_in, function_of, happening, site, table_of}
 use Rattle.typed_unit.specs.Texts.{Text}
@@ -28,7 +30,6 @@ use Rattle.function_tables.specs.declared.table.FunctionTable.{FunctionTable}
 use Rattle.function_tables.specs.Ends.{call_in}
 use Rattle.function_tables.specs.Rules as tables_rules
 use Rattle.function_tables.specs.Tables.{AreBlockTables}
-use Rattle.least_set.specs.Logs.{IsExactly}
 use Rattle.metal_tree.specs.MetalMachines.Machine.{Machine}
 use Rattle.function_tables.specs.declared.engine_tables.frames.Frame.{Frame}
 use Rattle.function_tables.specs.declared.engine_tables.tables.Tables.{Tables}
@@ -65,23 +66,30 @@ pub record IsPlace (t : Tables) (n : ℕ) (f : Frame) : Type 0 where
   pub is : slice_get (functions_in (texts_in t)) n ≡ Some defined
   pub graph : graph_at (texts_in t) (graphs_in t) (function_of defined) ≡ graph_in f.table.now.graph
   pub blocks : AreBlockTables (checker_in t).machine t.depth (texts_in t) defined (graph_in f.table.now.graph).blocks f.table.now.blocks.items
-  pub followed : IsExactly f.objects.now (Followed (checker_in t) (texts_in t) (function_of defined))
-  pub plain : AreObjects t.depth f.objects.now
+  pub follows : (o : Object) → is_followed (texts_in t) (objects_in t) (function_of defined) o ≡ is_in f.objects.now.keys o
+  pub plain : AreObjects t.depth f.objects.now.keys
 
 pub named : (t : Tables) (n : ℕ) (d : Defined) → slice_get (functions_in (texts_in t)) n ≡ Some d → function_at (texts_in t) n ≡ Some (function_of d)
 named t n d e = ap (option_map function_of) e
 
+-- which objects are followed in the function with a number, by the list with this number
+followed-at : (t : Tables) (n : ℕ) (d : Defined) (os : List Object) → slice_get (functions_in (texts_in t)) n ≡ Some d → slice_get (objects_in t) n ≡ Some os
+    → (o : Object) → is_followed (texts_in t) (objects_in t) (function_of d) o ≡ is_in os o
+followed-at t n d os e h o =
+    ap (λ m. if_there (m >? slice_get (objects_in t)) false (λ objects. is_in objects o)) (numbered-at (functions_in (texts_in t)) n d (apart-in t) e).0
+    ∙ ap (λ q. if_there q false (λ objects. is_in objects o)) h
+
 pub place : (t : Tables) (n : ℕ) (f : Frame) → AreKnown t → IsFrame t n f → IsPlace t n f
 place t n f k h =
-    let d = there-too (objects_in t) (functions_in (texts_in t)) n f.objects.now k.count h.objects in
+    let d = there-too (objects_in t) (functions_in (texts_in t)) n f.objects.now.keys k.count h.objects in
     let g : slice_get (graphs_in t) n ≡ Some (graph_in f.table.now.graph) = slice_get-map (λ (x : FunctionTable). graph_in x.graph) t.functions.now n ∙ ap (option_map (λ (x : FunctionTable). graph_in x.graph)) h.table in
     record {
       defined = d.0;
       is = d.1;
       graph = graph-at (texts_in t) (apart-in t) (graphs_in t) n d.0 (graph_in f.table.now.graph) d.1 g;
       blocks = k.tables.blocks n d.0 f.table.now d.1 h.table;
-      followed = k.followed n d.0 f.objects.now d.1 h.objects;
-      plain = k.plain n f.objects.now h.objects;
+      follows = λ o. followed-at t n d.0 f.objects.now.keys d.1 h.objects o;
+      plain = k.plain n f.objects.now.keys h.objects;
     }
 
 -- where there is no table, or no list of objects, there is no function

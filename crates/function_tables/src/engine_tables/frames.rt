@@ -7,13 +7,14 @@ ghost use Rattle.function_tables.specs.EngineTables.Known.{AreKnown, IsFrame, te
 
 use crate::engine_tables::tables::Tables;
 use crate::table::FunctionTable;
+use indexmap::IndexSet;
 use objects::Object;
 
 /// A function, as far as an engine asks of it: its table, and the objects that are followed in it.
 #[derive(Drop)]
 pub struct Frame<'t, 'u, 'a> {
     pub table: &'t FunctionTable<'u, 'a>,
-    pub objects: &'t [Object],
+    pub objects: &'t IndexSet<Object>,
 }
 
 /// The item with a number, if there is one.
@@ -31,9 +32,6 @@ impl<'t, 'u, 'a> Tables<'t, 'u, 'a> {
     {
         let table = item(self.functions, number)?;
         let objects = item(self.objects, number)?;
-        Some(Frame {
-            table,
-            objects: objects.as_slice(),
-        })
+        Some(Frame { table, objects })
     }
 }

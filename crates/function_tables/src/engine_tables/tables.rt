@@ -4,6 +4,7 @@ ghost use Rattle.std.specs.Prelude.{◌≤◌};
 
 use crate::table::FunctionTable;
 use call_graph::{FnId, Program};
+use indexmap::IndexSet;
 use metal_tree::Machine;
 use mx_base::Names;
 use objects::Object;
@@ -22,7 +23,7 @@ pub struct Tables<'t, 'u, 'a> {
     /// The graph of each function and the rules of its events, by the function's number.
     pub functions: &'t [FunctionTable<'u, 'a>],
     /// The objects that are followed in each function, by its number.
-    pub objects: &'t [Vec<Object>],
+    pub objects: &'t [IndexSet<Object>],
     pub roots: &'t [FnId],
     ghost shallow: { depth ≤ 8 },
 }

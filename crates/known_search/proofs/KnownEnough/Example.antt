@@ -3,6 +3,7 @@ use Rattle.std.proofs.Common.{arith, ◌≡◌, ◌⊎◌, inl, inr, ℕ, Bool, 
 use Rattle.path_theory.specs.Numbered.{model, origins_of, supergraph_of, objects_of}
 use Rattle.path_theory.specs.Relevant.{CallOf}
 use Rattle.masked_paths.specs.Example.{frees, copy_and_free, the_copy}
+use Rattle.masked_paths.specs.Met.{at_events}
 use Rattle.known_search.specs.Closed.{IsClosed}
 use Rattle.known_search.specs.KnownEnough.Described.{Describes, AreFollowed}
 use Rattle.known_search.specs.KnownEnough.Example.{CopyIsFound}
@@ -62,7 +63,7 @@ copied e o b false h s = let same : o ≡ b = cc in inl (sym same)
 no_call : {B : Type 0} {f h s : ℕ} → CallOf (model frees) (supergraph_of frees copy_and_free) f s h → B
 no_call i = absurd (true≢false (sym i.calls))
 
-describes : Describes (model frees) (supergraph_of frees copy_and_free) (origins_of frees) (λ n. Some n) (λ f o. IsTrue (is_bound f o)) (λ f b o. IsTrue (moves f b o)) (λ k f o h c. IsTrue (never k f o h c)) (λ k h d f o. IsTrue (never k h d f o))
+describes : Describes (model frees) (supergraph_of frees copy_and_free) (origins_of frees) (λ n. Some n) (λ f o. IsTrue (is_bound f o)) (λ f b o. IsTrue (moves f b o)) (λ k f o h c. IsTrue (never k f o h c)) (λ k h d f o. IsTrue (never k h d f o)) (at_events (model frees) (supergraph_of frees copy_and_free))
 describes = record {
   one = λ m n f d e. same_number m f d ∙ sym (same_number n f e);
   binds = λ {f = f} {e = e} k g o x i d. (f, refl, (both (nat_eq e 1) (nat_eq o 0) (given (nat_eq e 1 && nat_eq o 0) x d)).1);

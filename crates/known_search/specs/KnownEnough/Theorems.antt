@@ -5,6 +5,7 @@ use Rattle.path_theory.specs.Numbered.{Checker, Program, BlockProgram, model, or
 use Rattle.path_theory.specs.TabulationRules.LeastSets.{HasNumbers}
 use Rattle.known_search.specs.Closed.{IsClosed}
 use Rattle.known_search.specs.KnownEnough.Described.{Describes, AreFollowed}
+use Rattle.masked_paths.specs.Met.{at_events}
 use Rattle.masked_paths.specs.Theorems.{IsEnoughTable}
 use Rattle.masked_paths.specs.MaskedTabulation.Theorems.{MaskedAnalysis, Edge, IsTabulated, LogShows}
 
@@ -23,7 +24,7 @@ pub record Search : Type 0 where
 
 abbrev pub FoundObjectsAreEnough : Type 0
 FoundObjectsAreEnough = (s : Search) (p : Program)
-    → Describes (model s.checker) (supergraph_of s.checker p) (origins_of s.checker) s.at (λ f o. IsTrue (s.is_bound f o)) (λ f b o. IsTrue (s.moves f b o)) (λ k f o h c. IsTrue (s.enters k f o h c)) (λ k h d f o. IsTrue (s.hands k h d f o))
+    → Describes (model s.checker) (supergraph_of s.checker p) (origins_of s.checker) s.at (λ f o. IsTrue (s.is_bound f o)) (λ f b o. IsTrue (s.moves f b o)) (λ k f o h c. IsTrue (s.enters k f o h c)) (λ k h d f o. IsTrue (s.hands k h d f o)) (at_events (model s.checker) (supergraph_of s.checker p))
     → IsEnoughTable s.checker p s.objects
 
 -- an analysis of a program that the links describe, which follows the objects that were found
@@ -31,7 +32,7 @@ pub record Analysis : Type 0 where
   pub search : Search
   pub program : BlockProgram
   pub loose : Bool
-  pub describes : Describes (model search.checker) (block_supergraph_of search.checker program) (origins_of search.checker) search.at (λ f o. IsTrue (search.is_bound f o)) (λ f b o. IsTrue (search.moves f b o)) (λ k f o h c. IsTrue (search.enters k f o h c)) (λ k h d f o. IsTrue (search.hands k h d f o))
+  pub describes : Describes (model search.checker) (block_supergraph_of search.checker program) (origins_of search.checker) search.at (λ f o. IsTrue (search.is_bound f o)) (λ f b o. IsTrue (search.moves f b o)) (λ k f o h c. IsTrue (search.enters k f o h c)) (λ k h d f o. IsTrue (search.hands k h d f o)) (at_events (model search.checker) (block_supergraph_of search.checker program))
   pub numbers : HasNumbers (model search.checker) (graphs_of search.checker program) search.at
 
 abbrev pub masked : Analysis → MaskedAnalysis

@@ -8,6 +8,7 @@ use Rattle.path_theory.specs.Numbered.{Checker, BlockProgram, model, origins_of,
 use Rattle.path_theory.specs.Theorems.{IsClosedInBlocks}
 use Rattle.path_theory.specs.TabulationRules.Rules.{EdgeIn, Seen, ShowsReport}
 use Rattle.path_theory.specs.TabulationRules.LeastSets.{HasNumbers, IsLeastLog}
+use Rattle.masked_paths.specs.MaskedTabulation.Stands.{StandsAt}
 use Rattle.masked_paths.specs.Theorems.{masked_model, masked_origins_of, masked_graphs_of, IsEnoughInBlocks}
 
 -- a checker and a program, the objects that are followed, in a strict mask or a loose one, and the functions that have numbers
@@ -35,6 +36,10 @@ module _ (s : MaskedAnalysis) where
 
   abbrev pub InLog : List Edge → ℕ → Bool → ℕ → Fact (model s.checker) → ℕ → ℕ → Fact (model s.checker) → Type 0
   InLog log = Seen (masked_model s.checker s.objects s.loose) (masked_origins_of s.checker s.objects s.loose) (objects_of s.checker s.objects) (masked_graphs_of s.checker s.objects s.loose s.program) s.function (Contains log)
+
+  -- an edge of the list stands at the first place of a block with this global state
+  abbrev pub StandsInLog : List Edge → ℕ → Bool → ℕ → ℕ → Type 0
+  StandsInLog log = StandsAt (masked_model s.checker s.objects s.loose) (masked_origins_of s.checker s.objects s.loose) (objects_of s.checker s.objects) (masked_graphs_of s.checker s.objects s.loose s.program) s.function (Contains log)
 
 -- where the objects are enough, the reports that the list shows are exactly those among the errors of some path
 abbrev pub MaskedReportsAreThoseOfPaths : Type 0

@@ -8,11 +8,11 @@ use Rattle.flow_graph.specs.CPaths.Events.{Event}
 use Rattle.flow_graph.specs.CPaths.Fragments.{Has}
 use Rattle.flow_graph.specs.CPaths.Graphs.{Block, Ending, Calls, Stops}
 use Rattle.c_tree.specs.Node.{Node}
-use Rattle.path_model.specs.CheckerGraphs.Graphs.{flow_graphs, function_at, graph_at}
-use Rattle.path_model.specs.CheckerModel.Checkers.{model, origins}
-use Rattle.path_model.specs.CheckerModel.Happenings.{Function}
+use Rattle.path_model.specs.CheckerGraphs.Graphs.{function_at, graph_at}
+use Rattle.path_model.specs.CheckerModel.Checkers.{model}
+use Rattle.path_model.specs.CheckerModel.Choices.{State}
+use Rattle.path_model.specs.CheckerModel.Happenings.{Function, Site}
 use Rattle.path_model.specs.CheckerModel.Reports.{Checker}
-use Rattle.path_model.specs.CheckerPrograms.Relevant.{Followed}
 use Rattle.path_model.specs.CheckerPrograms.Roots.{followed_into}
 use Rattle.path_model.specs.CheckerPrograms.Texts.{site}
 use Rattle.typed_unit.specs.Texts.{Text}
@@ -21,6 +21,8 @@ use Rattle.path_edges.specs.declared.edges.Context.{Context}
 use Rattle.path_edges.specs.declared.edges.Edge.{Edge}
 use Rattle.path_edges.specs.declared.edges.Waiter.{Waiter}
 use Rattle.path_edges.specs.Edges.{edge_in, tuple_in}
+use Rattle.path_edges.specs.Masks.{model_under, origins_under, objects_under, graphs_under}
+use Rattle.path_theory.specs.Facts.{FactOf}
 use Rattle.path_theory.specs.Flows.{Starts, CallFlow}
 use Rattle.state_tuples.specs.declared.tuple.Tuple.{Tuple}
 use Rattle.path_theory.specs.TabulationRules.Rules.{Behind}
@@ -62,11 +64,11 @@ first_edges f b os = first_edge f b start_tuple ∷ map (λ o. first_edge f b (u
 abbrev pub IsLast : List Block → ℕ → Type 0
 IsLast bs b = (es : List Event) × Has bs b es Stops
 
-module _ (c : Checker) (ts : List Text) (gs : List Graph) where
+module _ (c : Checker) (ts : List Text) (gs : List Graph) (lists : List (List Object)) where
   -- A TUPLE AT THE END of an edge's block
   pub record StandsBehind (e : Edge) (u : Tuple) : Type 0 where
     pub fn : Function
-    pub behind : Behind (model c) (origins c) (Followed c ts) (flow_graphs c ts gs) (function_at ts) (edge_in e) (tuple_in u) fn
+    pub behind : Behind (model_under c ts lists) (origins_under c ts lists) (objects_under c ts lists) (graphs_under c ts gs lists) (function_at ts) (edge_in e) (tuple_in u) fn
 
   -- AN EDGE with which the function of this number begins as a root's own frame
   pub record BeginsIn (n : ℕ) (e : Edge) : Type 0 where
@@ -74,10 +76,14 @@ module _ (c : Checker) (ts : List Text) (gs : List Graph) where
     pub named : function_at ts n ≡ Some fn
     pub number : e.context.function ≡ n
     pub start : e.context.entry.global ≡ (model c).start
-    pub starts : Starts (model c) (origins c) (Followed c ts) fn (fact_in e.context.entry)
+    pub starts : Starts (model_under c ts lists) (origins_under c ts lists) (objects_under c ts lists) fn (fact_in e.context.entry)
     pub kind : e.is_root ≡ true
     pub first : e.block ≡ (graph_at ts gs fn).entry
     pub same : e.tuple ≡ e.context.entry
+
+  -- the facts at the entry of a callee, of those before a call in a function
+  abbrev pub EntersBy : Function → Site → Function → FactOf Object State → FactOf Object State → Type 0
+  EntersBy fn s h = CallFlow (model_under c ts lists) (origins_under c ts lists) (objects_under c ts lists) (record { caller = fn; site = s; callee = h }) h
 
   -- AN EDGE that is next, where this function's block ends so: on in another block, or at the first one of a callee that is entered
   pub data IsNext (fn : Function) (end : Ending) (a d : Edge) : Type 0 where
@@ -85,5 +91,5 @@ module _ (c : Checker) (ts : List Text) (gs : List Graph) where
         → IsNext fn end a d
     Inward : (n : Node) (next k : ℕ) (h : Function) (u v : Tuple) → StandsBehind a u → end ≡ Calls n next
         → followed_into c.machine (site c.depth ts fn n) ≡ Some h → function_at ts k ≡ Some h → v.global ≡ u.global
-        → CallFlow (model c) (origins c) (Followed c ts) (site c.depth ts fn n) h (fact_in u) (fact_in v)
+        → EntersBy fn (site c.depth ts fn n) h (fact_in u) (fact_in v)
         → frame_edge false k (graph_at ts gs h).entry v ≡ d → IsNext fn end a d

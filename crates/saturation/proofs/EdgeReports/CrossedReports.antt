@@ -9,7 +9,7 @@ use Rattle.block_flows.proofs.Reports.{reports}
 use Rattle.c_objects.specs.Objects.{Object}
 use Rattle.type_rules.specs.Options.{◌>?◌}
 use Rattle.path_model.proofs.CheckerModel.Sources.{given}
-use Rattle.path_model.specs.CheckerModel.Checkers.{model, origins}
+use Rattle.path_model.specs.CheckerModel.Checkers.{model}
 use Rattle.path_model.specs.CheckerModel.Happenings.{Function, Happening}
 use Rattle.path_model.specs.CheckerModel.Reports.{Checker, report_of}
 use Rattle.saturation.specs.EdgeReports.Said.{said, said_by}
@@ -18,12 +18,12 @@ use Rattle.least_set.proofs.Growing.{nothing}
 use Rattle.path_theory.specs.BlockEdges.{Shows}
 use Rattle.report_model.specs.declared.report.Report.{Report}
 use Rattle.state_tuples.specs.declared.tuple.Tuple.{Tuple}
-use Rattle.block_flows.specs.TupleFlows.Facts.{listed, fact_in}
+use Rattle.block_flows.specs.TupleFlows.Facts.{listed, origins_in, fact_in}
 use Rattle.block_flows.proofs.TupleFlows.Lists.{contains-map, map-contains}
 
 module _ (c : Checker) (f : Function) (k : Bool) (followed : List Object) (hs : List Happening) (t : Tuple) where
   abbrev pub ShowsHere : Report → Type 0
-  ShowsHere r = Shows (model c) (origins c) (listed c followed) f k r hs t.global (fact_in t)
+  ShowsHere r = Shows (model c) (origins_in c followed followed) (listed c followed) f k r hs t.global (fact_in t)
 
   says-shown : (x : Fire) (r : Report) → TakenAt c hs f k followed t x → said c f hs x ≡ Some r → ShowsHere r
   says-shown x r w e =
@@ -59,6 +59,6 @@ module _ (c : Checker) (f : Function) (k : Bool) (followed : List Object) (hs : 
   pub nothing-here : AreOfEvents c.machine c.depth f hs [] → IsExactly [] ShowsHere
   nothing-here a = (λ r m. absurd (nothing r m), λ r w. absurd (by hs a r w))
     where
-      by : (es : List Happening) → AreOfEvents c.machine c.depth f es [] → (r : Report) → Shows (model c) (origins c) (listed c followed) f k r es t.global (fact_in t) → ⊥
+      by : (es : List Happening) → AreOfEvents c.machine c.depth f es [] → (r : Report) → Shows (model c) (origins_in c followed followed) (listed c followed) f k r es t.global (fact_in t) → ⊥
       by [] a r w = elim w [ ]
       by (e ∷ es) a r w = a

@@ -5,7 +5,7 @@ use Rattle.block_flows.specs.Firings.{if_acting, acting, ObjectActs, GlobalActs,
 use Rattle.block_flows.specs.declared.taken_rules.Firing.{Firing}
 use Rattle.c_objects.specs.Objects.{Object}
 use Rattle.path_model.proofs.CheckerModel.Sources.{given, tested, untested}
-use Rattle.path_model.specs.CheckerModel.Checkers.{model, origins}
+use Rattle.path_model.specs.CheckerModel.Checkers.{model}
 use Rattle.metal_tree.specs.MetalMachines.Machine.{stop}
 use Rattle.path_model.specs.CheckerModel.Choices.{State, Taken, first_some, is_asked, is_global_asked, scene, taken, taken_global, object_rule, global_rule}
 use Rattle.path_model.specs.CheckerModel.Happenings.{Function, Happening}
@@ -20,7 +20,7 @@ use Rattle.state_tuples.specs.Numbers.{IsRuleOf}
 use Rattle.state_tuples.specs.declared.tuple.Tuple.{Tuple}
 use Rattle.state_tuples.specs.TransitionReports.TakenRules.{checker_at}
 use Rattle.state_tuples.specs.declared.transition_reports.checker.Checker.{Checker}
-use Rattle.block_flows.specs.TupleFlows.Facts.{listed, fact_in}
+use Rattle.block_flows.specs.TupleFlows.Facts.{listed, origins_in, fact_in}
 
 -- what is taken with an action is taken
 acts : (q : Option Taken) (a : Taken) → acting q ≡ Some a → q ≡ Some a
@@ -48,12 +48,12 @@ module _ (k : Checker) (depth : ℕ) (f : Function) (is_root : Bool) (followed :
       (acts (taken_global c.machine depth h f is_root g) t e)).1
 
   here : (h : Happening) (g : ℕ) (u : FactOf Object State) (q : Option Object) (t : Taken) → taken_of x ≡ t
-      → HappensHere (model c) (origins c) (listed c followed) (ObjectActs c) (GlobalActs c) f is_root h g u q t → IsRuleOf k.machine.now x.rule.now
+      → HappensHere (model c) (origins_in c followed followed) (listed c followed) (ObjectActs c) (GlobalActs c) f is_root h g u q t → IsRuleOf k.machine.now x.rule.now
   here h g u _ t same (ToObject o s i w e) = of-object h g o s t same e
   here h g _ _ t same (ToGlobal e) = of-global h g t same e
 
   on-way : (hs : List Happening) (n g : ℕ) (u : FactOf Object State) (q : Option Object) (t : Taken) → taken_of x ≡ t
-      → HappensAt (model c) (origins c) (listed c followed) (ObjectActs c) (GlobalActs c) f is_root hs n g u q t → IsRuleOf k.machine.now x.rule.now
+      → HappensAt (model c) (origins_in c followed followed) (listed c followed) (ObjectActs c) (GlobalActs c) f is_root hs n g u q t → IsRuleOf k.machine.now x.rule.now
   on-way [] n g u q t same w = elim w [ ]
   on-way (h ∷ hs) _ g u q t same (Here w) = here h g u q t same w
   on-way (h ∷ hs) _ g u q t same (Later {n = n} {u = v} s w) = on-way hs n ((model c).next_global h f is_root g) v q t same w

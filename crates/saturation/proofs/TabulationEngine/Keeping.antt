@@ -5,7 +5,7 @@ use Rattle.std.proofs.lemmas.Option.{same_Some}
 use Rattle.std.specs.Map.{lookup}
 use Rattle.std.specs.Prelude.{Vec, Result, Ok, Err, OnOk, OnErr}
 use Rattle.path_edges.specs.EdgeSteps.Steps.{StandsBehind}
-use Rattle.function_tables.specs.EngineTables.Known.{AreKnown, checker_in, texts_in, graphs_in}
+use Rattle.function_tables.specs.EngineTables.Known.{AreKnown, checker_in, texts_in, graphs_in, objects_in}
 use Rattle.function_tables.specs.declared.engine_tables.tables.Tables.{Tables}
 use Rattle.indexmap.specs.IndexMap.{IndexMap, get, Updates, IsUnchanged}
 use Rattle.least_set.specs.Logs.{IsExactly}
@@ -17,7 +17,7 @@ use Rattle.state_tuples.specs.declared.tuple.Tuple.{Tuple}
 
 module _ {A : Type 0} (t : Tables) (edge : Edge) (tuples : Vec Tuple A) where
   abbrev Stands : Edge → Vec Tuple A → Type 0
-  Stands e list = IsExactly list.items (StandsBehind (checker_in t) (texts_in t) (graphs_in t) e)
+  Stands e list = IsExactly list.items (StandsBehind (checker_in t) (texts_in t) (graphs_in t) (objects_in t) e)
 
   -- one list more
   kept-more : (old new : Edge → Option (Vec Tuple A)) → ((e : Edge) → new e ≡ cond (edges_agree edge e) (Some tuples) (old e))

@@ -2,7 +2,7 @@
 
 ghost use Rattle.std.specs.Prelude.{◌≡◌, IfSome};
 ghost use Rattle.path_edges.specs.EdgeSteps.Steps.{StandsBehind};
-ghost use Rattle.function_tables.specs.EngineTables.Known.{AreKnown, checker_in, texts_in, graphs_in};
+ghost use Rattle.function_tables.specs.EngineTables.Known.{AreKnown, checker_in, texts_in, graphs_in, objects_in};
 ghost use Rattle.indexmap.specs.IndexMap.{get};
 ghost use Rattle.least_set.specs.Logs.{IsExactly};
 ghost use Rattle.path_edges.specs.Equality.{edges_agree};
@@ -48,7 +48,7 @@ impl<'e, 't, 'u, 'a> CachingEngine<'e, 't, 'u, 'a> {
 
     /// Keeps the tuples at the end of an edge's block.
     pub(crate) fn keep(&mut self, edge: &Edge, tuples: Vec<Tuple>) -> Result<(), AllocError>
-        requires { AreKnown self.old.engine.now.tables → IsExactly tuples.items (StandsBehind (checker_in self.old.engine.now.tables) (texts_in self.old.engine.now.tables) (graphs_in self.old.engine.now.tables) edge.now) }
+        requires { AreKnown self.old.engine.now.tables → IsExactly tuples.items (StandsBehind (checker_in self.old.engine.now.tables) (texts_in self.old.engine.now.tables) (graphs_in self.old.engine.now.tables) (objects_in self.old.engine.now.tables) edge.now) }
         ensures { self.new.engine ≡ self.old.engine }
     {
         self.ended.insert(copy_edge(edge), tuples)?;
@@ -57,7 +57,7 @@ impl<'e, 't, 'u, 'a> CachingEngine<'e, 't, 'u, 'a> {
 
     /// The tuples at the end of an edge's block, if they were kept.
     pub(crate) fn kept(&self, edge: &Edge) -> Option<&[Tuple]>
-        ensures { IfSome result (λ tuples. ∥ IsExactly tuples.now (StandsBehind (checker_in self.now.engine.now.tables) (texts_in self.now.engine.now.tables) (graphs_in self.now.engine.now.tables) edge.now) ∥₁) }
+        ensures { IfSome result (λ tuples. ∥ IsExactly tuples.now (StandsBehind (checker_in self.now.engine.now.tables) (texts_in self.now.engine.now.tables) (graphs_in self.now.engine.now.tables) (objects_in self.now.engine.now.tables) edge.now) ∥₁) }
     {
         match self.ended.get(edge) {
             Some(tuples) => Some(tuples.as_slice()),

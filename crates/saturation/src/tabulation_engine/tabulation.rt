@@ -10,7 +10,7 @@ use path_edges::{Context, Edge, Waiter};
 use std::alloc::{AllocError, Global};
 
 impl<'t, 'u, 'a> CachingRules for CachingEngine<'_, 't, 'u, 'a> {
-    ghost use Rattle.function_tables.specs.EngineTables.Known.{checker_in, texts_in, graphs_in};
+    ghost use Rattle.function_tables.specs.EngineTables.Known.{checker_in, texts_in, graphs_in, objects_in};
     ghost use Rattle.path_edges.specs.Relations.{Begins, LeadsTo, WaitsAt, IsEndOf, IsWoken};
 
     type Member = Edge;
@@ -23,15 +23,15 @@ impl<'t, 'u, 'a> CachingRules for CachingEngine<'_, 't, 'u, 'a> {
 
     ghost source = { λ c. c.engine.now };
 
-    ghost base = { λ e d. ∥ Begins (checker_in e.tables) (texts_in e.tables) (graphs_in e.tables) d ∥₁ };
+    ghost base = { λ e d. ∥ Begins (checker_in e.tables) (texts_in e.tables) (graphs_in e.tables) (objects_in e.tables) d ∥₁ };
 
-    ghost goes = { λ e a d. ∥ LeadsTo (checker_in e.tables) (texts_in e.tables) (graphs_in e.tables) a d ∥₁ };
+    ghost goes = { λ e a d. ∥ LeadsTo (checker_in e.tables) (texts_in e.tables) (graphs_in e.tables) (objects_in e.tables) a d ∥₁ };
 
-    ghost waits = { λ e a k w. ∥ WaitsAt (checker_in e.tables) (texts_in e.tables) (graphs_in e.tables) a k w ∥₁ };
+    ghost waits = { λ e a k w. ∥ WaitsAt (checker_in e.tables) (texts_in e.tables) (graphs_in e.tables) (objects_in e.tables) a k w ∥₁ };
 
-    ghost ends = { λ e a k. ∥ IsEndOf (checker_in e.tables) (texts_in e.tables) (graphs_in e.tables) a k ∥₁ };
+    ghost ends = { λ e a k. ∥ IsEndOf (checker_in e.tables) (texts_in e.tables) (graphs_in e.tables) (objects_in e.tables) a k ∥₁ };
 
-    ghost wakes = { λ e w a d. ∥ IsWoken (checker_in e.tables) (texts_in e.tables) (graphs_in e.tables) w a d ∥₁ };
+    ghost wakes = { λ e w a d. ∥ IsWoken (checker_in e.tables) (texts_in e.tables) (graphs_in e.tables) (objects_in e.tables) w a d ∥₁ };
 
     fn begin(&self, alloc: Global) -> Result<Vec<Edge>, AllocError> {
         begin(alloc, &self.engine.tables)

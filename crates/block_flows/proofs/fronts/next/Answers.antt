@@ -6,12 +6,12 @@ use Rattle.block_flows.proofs.fronts.next.Goals as goal
 
 pub loop-tuple-init : goal.loop-tuple-init
 loop-tuple-init c = λ k h f a are.
-    let G = IsBehind k h f c.args.is_root c.args.followed.now in
+    let G = IsBehind k h f c.args.is_root c.args.followed.now.keys in
     subst (λ l. Adds (SomeGives G []) [] l) (sym c.new-set.ensures.empty) (adds_nothing G [])
 
 pub loop-tuple-preserved : goal.loop-tuple-preserved
 loop-tuple-preserved c = λ k h f a are.
-    let G = IsBehind k h f c.args.is_root c.args.followed.now in
+    let G = IsBehind k h f c.args.is_root c.args.followed.now.keys in
     let old = c.loop-tuple.set.keys in
     let new = c.add_all.new.set.keys in
     let d = c.tuple-item.result in
@@ -20,7 +20,7 @@ loop-tuple-preserved c = λ k h f a are.
 
 pub returns : goal.returns
 returns c = λ k h f a are.
-    let G = IsBehind k h f c.args.is_root c.args.followed.now in
+    let G = IsBehind k h f c.args.is_root c.args.followed.now.keys in
     let adds = all_of (λ l. Adds (SomeGives G l) [] c.loop-tuple.set.keys) c.args.tuples.now c.loop-tuple.tuple-index c.loop-tuple-test.false c.loop-tuple.auto.tuple-index-end
     (c.loop-tuple.invariant k h f a are) in
     (λ y m. elim (either adds y m) [ inl o ↦ absurd (nothing y o) | inr p ↦ p ], adds.added)

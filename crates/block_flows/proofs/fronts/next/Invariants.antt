@@ -9,5 +9,5 @@ use Rattle.block_flows.proofs.fronts.next.Given as goal
 
 -- those of the tuples that were gone through have been added
 abbrev pub invariant-loop-tuple : goal.invariant-loop-tuple
-invariant-loop-tuple l = (c : Checker) (h : Happening) (f : Function) → AreOfEvent c.machine c.depth h f l.rules → AreObjects c.depth l.followed
-    → Adds (SomeGives (IsBehind c h f l.is_root l.followed) (take l.tuple-index l.tuples)) [] l.set.keys
+invariant-loop-tuple l = (c : Checker) (h : Happening) (f : Function) → AreOfEvent c.machine c.depth h f l.rules → AreObjects c.depth l.followed.keys
+    → Adds (SomeGives (IsBehind c h f l.is_root l.followed.keys) (take l.tuple-index l.tuples)) [] l.set.keys

@@ -1,19 +1,18 @@
 use Rattle.std.proofs.Common.{◌≡◌, ◌∙◌, ap, sym, ◌&&◌}
-use Rattle.std.specs.List.{list_all}
 use Rattle.block_flows.proofs.IdleEvents.{left_alone}
-use Rattle.block_flows.specs.IdleEvents.{is_within, leaves_all}
+use Rattle.block_flows.specs.IdleEvents.{leaves_all}
 use Rattle.block_flows.proofs.idle_events.leaves_all.Goals as goal
 
 pub returns-then-is_idle : goal.returns-then-is_idle
 returns-then-is_idle c =
     let r = c.args.rules.now in
-    let ts = c.args.tuples.now in
-    let test : c.are_within.result ≡ leaves_all r ts = c.are_within.ensures ∙ ap (λ x. x && list_all (is_within r.setting.depth) ts) c.if-is_idle.ensures in
-    record { test = test; kept = λ e k h f root followed of are. left_alone k h f root followed r ts (sym test ∙ e) of are }
+    let within = c.args.within in
+    let test : within ≡ leaves_all r within = ap (λ x. x && within) c.if-is_idle.ensures in
+    record { test = test; kept = λ e k h f root followed ts of are inside. left_alone k h f root followed r ts within (sym test ∙ e) of are inside }
 
 pub returns-else-is_idle : goal.returns-else-is_idle
 returns-else-is_idle c =
     let r = c.args.rules.now in
-    let ts = c.args.tuples.now in
-    let test : c.is_idle.result ≡ leaves_all r ts = c.if-is_idle.false ∙ ap (λ x. x && list_all (is_within r.setting.depth) ts) c.if-is_idle.ensures in
-    record { test = test; kept = λ e k h f root followed of are. left_alone k h f root followed r ts (sym test ∙ e) of are }
+    let within = c.args.within in
+    let test : c.is_idle.result ≡ leaves_all r within = c.if-is_idle.false ∙ ap (λ x. x && within) c.if-is_idle.ensures in
+    record { test = test; kept = λ e k h f root followed ts of are inside. left_alone k h f root followed r ts within (sym test ∙ e) of are inside }

@@ -13,7 +13,7 @@ pub returns-clause-rules : goal.returns-clause-rules
 returns-clause-rules c =
     let r = c.args.rules.now in
     let t = c.args.tuple.now in
-    let followed = c.args.followed.now in
+    let followed = c.args.followed.now.keys in
     let before = c.in_ok-before.before.items in
     if-ok _ _ c.fired_each.result
     (λ list made k h f a are.

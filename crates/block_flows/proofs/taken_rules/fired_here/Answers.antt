@@ -11,7 +11,7 @@ use Rattle.block_flows.proofs.taken_rules.fired_here.Goals as goal
 pub loop-tuple-init : goal.loop-tuple-init
 loop-tuple-init c = (
   λ k h f a are.
-      let G = TakenHere k h f c.args.is_root c.args.followed.now c.args.number in
+      let G = TakenHere k h f c.args.is_root c.args.followed.now.keys c.args.number in
       subst (λ l. IsExactly (map fire_in l) (SomeGives G [])) (sym c.new-list.ensures.items) (exactly_none G),
   λ k h f a. let P = IsFirstHere k h f c.args.number in All-same P _ [] c.new-list.ensures.items (All-nil P),
 )
@@ -19,7 +19,7 @@ loop-tuple-init c = (
 pub loop-tuple-preserved : goal.loop-tuple-preserved
 loop-tuple-preserved c = (
   λ k h f a are.
-      let G = TakenHere k h f c.args.is_root c.args.followed.now c.args.number in
+      let G = TakenHere k h f c.args.is_root c.args.followed.now.keys c.args.number in
       let xs = c.args.tuples.now in
       let i = c.loop-tuple.tuple-index in
       let old = c.loop-tuple.list.items in
@@ -33,7 +33,7 @@ loop-tuple-preserved c = (
 
 pub returns-clause-rules : goal.returns-clause-rules
 returns-clause-rules c = λ k h f a are.
-    let G = TakenHere k h f c.args.is_root c.args.followed.now c.args.number in
+    let G = TakenHere k h f c.args.is_root c.args.followed.now.keys c.args.number in
     all_of (λ l. IsExactly (map fire_in c.loop-tuple.list.items) (SomeGives G l)) c.args.tuples.now c.loop-tuple.tuple-index c.loop-tuple-test.false c.loop-tuple.auto.tuple-index-end
     (c.loop-tuple.invariant.0 k h f a are)
 

@@ -11,6 +11,6 @@ use Rattle.block_flows.proofs.taken_rules.fired_here.Given as goal
 -- what is taken from the tuples that were gone through
 abbrev pub invariant-loop-tuple : goal.invariant-loop-tuple
 invariant-loop-tuple l = (
-    (c : Checker) (h : Happening) (f : Function) → AreOfEvent c.machine c.depth h f l.rules → AreObjects c.depth l.followed
-    → IsExactly (map fire_in l.list.items) (SomeGives (TakenHere c h f l.is_root l.followed l.number) (take l.tuple-index l.tuples))
+    (c : Checker) (h : Happening) (f : Function) → AreOfEvent c.machine c.depth h f l.rules → AreObjects c.depth l.followed.keys
+    → IsExactly (map fire_in l.list.items) (SomeGives (TakenHere c h f l.is_root l.followed.keys l.number) (take l.tuple-index l.tuples))
     ) × ((c : Checker) (h : Happening) (f : Function) → AreOfEvent c.machine c.depth h f l.rules → All (IsFirstHere c h f l.number) l.list.items)

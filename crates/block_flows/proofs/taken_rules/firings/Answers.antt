@@ -9,7 +9,7 @@ use Rattle.block_flows.proofs.taken_rules.firings.Goals as goal
 pub returns-then-are_quiet-clause-rules : goal.returns-then-are_quiet-clause-rules
 returns-then-are_quiet-clause-rules c = λ k f hs a are.
     let root = c.args.is_root in
-    let followed = c.args.followed.now in
+    let followed = c.args.followed.now.keys in
     let t = c.args.tuple.now in
     subst (λ z. IsExactly (map fire_in z) (TakenAt k hs f root followed t)) (sym c.new.ensures.items) (
       λ y m. absurd (nothing y m),

@@ -1,4 +1,5 @@
 use Rattle.std.proofs.Common.{◌∙◌, ap}
+use Rattle.flow_graph.specs.Seen.{graph_in}
 use Rattle.path_edges.specs.EdgeSteps.Steps.{first_edges}
 use Rattle.edge_rules.proofs.Beginnings.{first-exactly}
 use Rattle.function_tables.proofs.EngineTables.Places.{if-ok, place}
@@ -9,4 +10,8 @@ returns c =
     let t = c.args.tables.now in
     let n = c.args.function in
     let f = c.args.frame.now in
-    if-ok _ _ c.first_edges.result (λ list x k h. first-exactly t n f (place t n f k h) list.items (x ∙ ap (λ b. first_edges n b f.objects.now) c.entry.ensures.number)) c.first_edges.ensures
+    let objects = c.as_slice-objects.result.now in
+    if-ok _ _ c.first_edges.result
+    (λ list x k h. first-exactly t n f (place t n f k h) list.items
+    (x ∙ ap (λ b. first_edges n b objects) c.entry.ensures.number ∙ ap (first_edges n (graph_in f.table.now.graph).entry) c.as_slice-objects.ensures.keys))
+    c.first_edges.ensures

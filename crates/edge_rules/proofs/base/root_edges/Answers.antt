@@ -1,7 +1,7 @@
 use Rattle.std.proofs.Common.{sym, subst}
 use Rattle.path_edges.specs.EdgeSteps.Steps.{BeginsIn}
 use Rattle.least_set.specs.Logs.{IsExactly}
-use Rattle.function_tables.specs.EngineTables.Known.{IsFrame, checker_in, texts_in, graphs_in}
+use Rattle.function_tables.specs.EngineTables.Known.{IsFrame, checker_in, texts_in, graphs_in, objects_in}
 use Rattle.edge_rules.proofs.Beginnings.{nothing-begins}
 use Rattle.function_tables.proofs.EngineTables.Places.{if-ok, if-some}
 use Rattle.edge_rules.proofs.base.root_edges.Goals as goal
@@ -13,5 +13,5 @@ returns-in-Some c =
 pub returns-in-None : goal.returns-in-None
 returns-in-None c =
     let t = c.args.tables.now in
-    λ k. subst (λ l. IsExactly l (BeginsIn (checker_in t) (texts_in t) (graphs_in t) c.args.root.number)) (sym c.new.ensures.items)
-    (nothing-begins (checker_in t) (texts_in t) (graphs_in t) c.args.root.number (c.frame.ensures.missing c.in-None.is k))
+    λ k. subst (λ l. IsExactly l (BeginsIn (checker_in t) (texts_in t) (graphs_in t) (objects_in t) c.args.root.number)) (sym c.new.ensures.items)
+    (nothing-begins (checker_in t) (texts_in t) (graphs_in t) (objects_in t) c.args.root.number (c.frame.ensures.missing c.in-None.is k))

@@ -6,5 +6,5 @@ pub returns : goal.returns
 returns c =
     let f = c.args.callee.now in
     if-ok _ _ c.entered.result
-    (λ list x k s h e i. entries-exactly k s h f.frame.objects.now f.number _ c.args.tuple.now c.in_ok-entries.entries.items list.items (c.in_ok-entries.ensures k s h e i) (of-entries f.number _ _ _ _ list.items c.entry.ensures.number c.as_slice.ensures.value x))
+    (λ list x k s h e i. entries-exactly k s h c.args.caller_objects.now.keys f.frame.objects.now.keys f.number _ c.args.tuple.now c.in_ok-entries.entries.items list.items (c.in_ok-entries.ensures k s h e i) (of-entries f.number _ _ _ _ list.items c.entry.ensures.number c.as_slice.ensures.value x))
     c.entered.ensures

@@ -4,7 +4,7 @@ use Rattle.path_edges.specs.EdgeSteps.Steps.{edge_at}
 use Rattle.edge_rules.proofs.Followed.{exit-leads, jump-leads}
 use Rattle.edge_rules.proofs.following.behind_end.Goals as goal
 use Rattle.function_tables.proofs.EngineTables.Places.{if-ok, place}
-use Rattle.function_tables.specs.EngineTables.Known.{checker_in, texts_in, graphs_in}
+use Rattle.function_tables.specs.EngineTables.Known.{checker_in, texts_in, graphs_in, objects_in}
 use Rattle.flow_graph.specs.declared.graph.End.{End}
 use Rattle.flow_graph.specs.Values.{ending_of}
 use Rattle.least_set.specs.Logs.{IsExactly}
@@ -30,5 +30,5 @@ returns-in-Exit c =
     let t = c.args.tables.now in
     let a = c.args.edge.now in
     let f = c.args.frame.now in
-    λ k h e b. subst (λ l. IsExactly l (LeadsTo (checker_in t) (texts_in t) (graphs_in t) a)) (sym c.new.ensures.items)
+    λ k h e b. subst (λ l. IsExactly l (LeadsTo (checker_in t) (texts_in t) (graphs_in t) (objects_in t) a)) (sym c.new.ensures.items)
     (exit-leads t a f (place t a.context.function f k h) (e ∙ ap (λ (n : End). Some (ending_of n)) c.in-Exit.is))

@@ -2,7 +2,7 @@ use Rattle.std.proofs.Common.{sym, subst}
 use Rattle.edge_rules.proofs.Followed.{no-function-leads}
 use Rattle.edge_rules.proofs.following.next_edges.Goals as goal
 use Rattle.function_tables.proofs.EngineTables.Places.{if-ok, if-some}
-use Rattle.function_tables.specs.EngineTables.Known.{IsFrame, checker_in, texts_in, graphs_in}
+use Rattle.function_tables.specs.EngineTables.Known.{IsFrame, checker_in, texts_in, graphs_in, objects_in}
 use Rattle.least_set.specs.Logs.{IsExactly}
 use Rattle.path_edges.specs.Relations.{LeadsTo}
 
@@ -14,5 +14,5 @@ pub returns-in-None : goal.returns-in-None
 returns-in-None c =
     let t = c.args.tables.now in
     let e = c.args.edge.now in
-    λ k b. subst (λ l. IsExactly l (LeadsTo (checker_in t) (texts_in t) (graphs_in t) e)) (sym c.new.ensures.items)
-    (no-function-leads (checker_in t) (texts_in t) (graphs_in t) e (c.frame.ensures.missing c.in-None.is k))
+    λ k b. subst (λ l. IsExactly l (LeadsTo (checker_in t) (texts_in t) (graphs_in t) (objects_in t) e)) (sym c.new.ensures.items)
+    (no-function-leads (checker_in t) (texts_in t) (graphs_in t) (objects_in t) e (c.frame.ensures.missing c.in-None.is k))

@@ -11,7 +11,7 @@ pub returns : goal.returns
 returns c =
     let r = c.args.rules.now in
     let t = c.args.tuple.now in
-    let followed = c.args.followed.now in
+    let followed = c.args.followed.now.keys in
     let next = c.next_global-next.result in
     let before = c.in_ok-before.before.items in
     if-ok _ _ c.chosen_each.result

@@ -12,5 +12,5 @@ pub returns : goal.returns
 returns c =
     let m = move_of (facts_in c.args.unit.now) c.args.depth (event_of c.args.event.now) in
     let out = c.in_ok-list.list.items in
-    λ none are. subst (λ l. IsExactly l (IsMoved c.args.depth m c.args.followed.now c.args.tuple.now)) (sym (c.in_ok-push.ensures.items ∙ ap (λ z. out ++ z ∷ []) c.without_object.ensures))
-    (of-none c.args.depth m c.args.followed.now c.args.tuple.now out none (c.in_ok-list.ensures are))
+    λ none are. subst (λ l. IsExactly l (IsMoved c.args.depth m c.args.followed.now.keys c.args.tuple.now)) (sym (c.in_ok-push.ensures.items ∙ ap (λ z. out ++ z ∷ []) c.without_object.ensures))
+    (of-none c.args.depth m c.args.followed.now.keys c.args.tuple.now out none (c.in_ok-list.ensures are))

@@ -8,7 +8,8 @@ use Rattle.block_flows.proofs.tuple_flows.passed.entered_none.Goals as goal
 pub returns : goal.returns
 returns c =
     let t = c.args.tuple.now in
-    let objects = c.args.callee_objects.now in
+    let here = c.args.caller_objects.now.keys in
+    let there = c.args.callee_objects.now.keys in
     let out = c.in_ok-list.list.items in
-    λ none k s f e is. subst (λ l. IsExactly l (IsEntered k s f objects t)) (sym (c.in_ok-push.ensures.items ∙ ap (λ z. out ++ z ∷ []) c.without_object.ensures))
-    (entered-without k s f objects t out none (into-there c.args.depth k.depth (site_of c.args.depth c.args.site.now) s objects t None out e is.formals is.actuals none c.in_ok-list.ensures))
+    λ none k s f e is. subst (λ l. IsExactly l (IsEntered k s f here there t)) (sym (c.in_ok-push.ensures.items ∙ ap (λ z. out ++ z ∷ []) c.without_object.ensures))
+    (entered-without k s f here there t out none (into-there c.args.depth k.depth (site_of c.args.depth c.args.site.now) s here there t None out e is.formals is.actuals none c.in_ok-list.ensures))

@@ -6,10 +6,11 @@ use Rattle.block_flows.proofs.tuple_flows.passed.into_call.Goals as goal
 pub returns-in-Some : goal.returns-in-Some
 returns-in-Some c =
     let t = c.args.tuple.now in
-    let objects = c.args.callee_objects.now in
+    let here = c.args.caller_objects.now.keys in
+    let there = c.args.callee_objects.now.keys in
     if-ok _ _ c.entered.result
-    (λ list x k s f e is. entered-object-alone k s f objects t list.items _ c.in-Some.is
-    (into-there c.args.depth k.depth (site_of c.args.depth c.args.site.now) s objects t _ list.items e is.formals is.actuals c.in-Some.is x))
+    (λ list x k s f e is. entered-object-alone k s f here there t list.items _ c.in-Some.is
+    (into-there c.args.depth k.depth (site_of c.args.depth c.args.site.now) s here there t _ list.items e is.formals is.actuals c.in-Some.is x))
     c.entered.ensures
 
 pub returns-in-None : goal.returns-in-None

@@ -9,16 +9,18 @@ use Rattle.block_flows.proofs.tuple_flows.passed.out_of_call.Goals as goal
 pub returns-in-Some : goal.returns-in-Some
 returns-in-Some c =
     let t = c.args.tuple.now in
-    let objects = c.args.caller_objects.now in
+    let here = c.args.caller_objects.now.keys in
+    let there = c.args.callee_objects.now.keys in
     if-ok _ _ c.returned.result
-    (λ list x k s f e is. returned-object-alone k s f objects t list.items _ c.in-Some.is
-    (out-there c.args.depth k.depth (site_of c.args.depth c.args.site.now) s objects t _ list.items e is.formals is.actuals c.in-Some.is x))
+    (λ list x k s f e is. returned-object-alone k s f here there t list.items _ c.in-Some.is
+    (out-there c.args.depth k.depth (site_of c.args.depth c.args.site.now) s here there t _ list.items e is.formals is.actuals c.in-Some.is x))
     c.returned.ensures
 
 pub returns-in-None : goal.returns-in-None
 returns-in-None c =
     let t = c.args.tuple.now in
-    let objects = c.args.caller_objects.now in
+    let here = c.args.caller_objects.now.keys in
+    let there = c.args.callee_objects.now.keys in
     if-ok _ _ c.alone.result
-    (λ list x k s f e is. subst (λ l. IsExactly l (IsReturned k s f objects t)) (sym (x ∙ ap (λ z. z ∷ []) c.without_object.ensures)) (returned-without k s f objects t c.in-None.is))
+    (λ list x k s f e is. subst (λ l. IsExactly l (IsReturned k s f here there t)) (sym (x ∙ ap (λ z. z ∷ []) c.without_object.ensures)) (returned-without k s f here there t c.in-None.is))
     c.alone.ensures

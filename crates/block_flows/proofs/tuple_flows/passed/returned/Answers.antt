@@ -1,20 +1,33 @@
-use Rattle.std.proofs.Common.{◌≡◌, subst, Some, Contains}
+use Rattle.std.proofs.Common.{◌≡◌, ◌∙◌, sym, subst, true, Some}
 use Rattle.path_model.specs.CheckerModel.Calls.{out}
 use Rattle.least_set.specs.Logs.{IsExactly, SomeGives}
 use Rattle.refine_restore.specs.Sites.{site_of}
-use Rattle.block_flows.specs.TupleFlows.Facts.{with_object}
-use Rattle.block_flows.proofs.TupleFlows.Followed.{exactly-followed}
+use Rattle.block_flows.specs.TupleFlows.Facts.{is_in, with_object}
+use Rattle.block_flows.specs.TupleFlows.Passed.{out_in}
+use Rattle.block_flows.proofs.TupleFlows.Followed.{exactly-taken, none-taken}
 use Rattle.block_flows.proofs.TupleFlows.Lists.{if-ok}
 use Rattle.block_flows.proofs.tuple_flows.passed.returned.Goals as goal
+
+pub returns-then-not-is_followed : goal.returns-then-not-is_followed
+returns-then-not-is_followed c =
+    let s = site_of c.args.depth c.args.site.now in
+    let t = c.args.tuple.now in
+    let b = c.args.object.now in
+    let here = c.args.caller_objects.now.keys in
+    let there = c.args.callee_objects.now.keys in
+    subst (λ l. IsExactly l (SomeGives (λ o u. (out_in c.args.depth s here there o ≡ Some b) × (with_object t o ≡ u)) here)) (sym c.new.ensures.items)
+    (none-taken (with_object t) (out c.args.depth s) b here there (sym c.is_followed.ensures ∙ c.if-not-is_followed.true))
 
 pub returns : goal.returns
 returns c =
     let s = site_of c.args.depth c.args.site.now in
     let t = c.args.tuple.now in
-    let followed = c.args.caller_objects.now in
+    let b = c.args.object.now in
+    let here = c.args.caller_objects.now.keys in
+    let there = c.args.callee_objects.now.keys in
     let handed = c.in_ok-handed.handed.items in
     let are = c.in_ok-handed.ensures in
     if-ok _ _ c.with_followed.result
-    (λ list x. exactly-followed (λ o. out c.args.depth s o ≡ Some c.args.object.now) (with_object t) handed followed list.items are.real are.whole
-    (subst (λ l. IsExactly list.items (SomeGives (λ o u. Contains followed o × (with_object t o ≡ u)) l)) c.as_slice.ensures.value x))
+    (λ list x. exactly-taken (with_object t) (out c.args.depth s) b here there handed list.items (sym c.is_followed.ensures ∙ c.if-not-is_followed.false) are.real are.whole
+    (subst (λ l. IsExactly list.items (SomeGives (λ o u. (is_in here o ≡ true) × (with_object t o ≡ u)) l)) c.as_slice.ensures.value x))
     c.with_followed.ensures

@@ -1,5 +1,5 @@
 use Rattle.std.proofs.Common.{sym, subst, refl}
-use Rattle.function_tables.specs.EngineTables.Known.{AreKnown, checker_in, texts_in, graphs_in}
+use Rattle.function_tables.specs.EngineTables.Known.{AreKnown, checker_in, texts_in, graphs_in, objects_in}
 use Rattle.function_tables.proofs.EngineTables.Places.{if-some, apart-in}
 use Rattle.least_set.specs.Logs.{IsExactly}
 use Rattle.path_edges.specs.Relations.{WaitsAt}
@@ -16,7 +16,7 @@ returns-in-Some c =
     if-ok _ _ c.waits_of_all.result
     (λ list x k all.
     let f = if-some (λ z. AreKnown t → IsFound t e.context.function e.block z) c.followed_call.result _ c.in-Some.is c.followed_call.ensures.there k in
-    exactly-waits (checker_in t) (texts_in t) (graphs_in t) (apart-in t) e call.callee call.behind f.site f.call call.objects.now f.objects c.args.tuples.now all list.items
+    exactly-waits (checker_in t) (texts_in t) (graphs_in t) (objects_in t) (apart-in t) e call.callee call.behind f.site f.call call.caller_objects.now.keys call.callee_objects.now.keys f.here f.there c.args.tuples.now all list.items
     (x (checker_in t) f.site f.call.called refl f.passes))
     c.waits_of_all.ensures
 
@@ -24,5 +24,5 @@ pub returns-in-None : goal.returns-in-None
 returns-in-None c =
     let t = c.args.tables.now in
     let e = c.args.edge.now in
-    λ k all. subst (λ l. IsExactly l (λ w. WaitsAt (checker_in t) (texts_in t) (graphs_in t) e w.on w.waiter)) (sym c.new.ensures.items)
-    (nobody-waits (checker_in t) (texts_in t) (graphs_in t) e (c.followed_call.ensures.missing c.in-None.is k))
+    λ k all. subst (λ l. IsExactly l (λ w. WaitsAt (checker_in t) (texts_in t) (graphs_in t) (objects_in t) e w.on w.waiter)) (sym c.new.ensures.items)
+    (nobody-waits (checker_in t) (texts_in t) (graphs_in t) (objects_in t) e (c.followed_call.ensures.missing c.in-None.is k))

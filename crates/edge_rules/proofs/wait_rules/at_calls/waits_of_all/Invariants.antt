@@ -9,4 +9,4 @@ use Rattle.edge_rules.proofs.wait_rules.at_calls.waits_of_all.Given as goal
 -- those of the tuples that were gone through
 abbrev pub invariant-loop-tuple : goal.invariant-loop-tuple
 invariant-loop-tuple l = (c : Checker) (s : Site) (h : Function) → c.depth ≡ l.depth → IsSite l.depth l.call.site s
-    → IsExactly l.waits.items (SomeGives (IsWaiting c s h l.call.objects.now l.call.callee l.call.behind l.edge) (take l.tuple-index l.tuples))
+    → IsExactly l.waits.items (SomeGives (IsWaiting c s h l.call.caller_objects.now.keys l.call.callee_objects.now.keys l.call.callee l.call.behind l.edge) (take l.tuple-index l.tuples))

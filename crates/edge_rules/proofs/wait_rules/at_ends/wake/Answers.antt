@@ -1,5 +1,5 @@
 use Rattle.std.proofs.Common.{sym, subst}
-use Rattle.function_tables.specs.EngineTables.Known.{IsFrame, checker_in, texts_in, graphs_in}
+use Rattle.function_tables.specs.EngineTables.Known.{IsFrame, checker_in, texts_in, graphs_in, objects_in}
 use Rattle.function_tables.proofs.EngineTables.Places.{if-some}
 use Rattle.least_set.specs.Logs.{IsExactly}
 use Rattle.path_edges.specs.Relations.{IsWoken}
@@ -17,5 +17,5 @@ pub returns-in-None : goal.returns-in-None
 returns-in-None c =
     let t = c.args.tables.now in
     let w = c.args.waiter.now in
-    λ k all. subst (λ l. IsExactly l (IsWoken (checker_in t) (texts_in t) (graphs_in t) w c.args.end.now)) (sym c.new.ensures.items)
-    (nobody-goes-on (checker_in t) (texts_in t) (graphs_in t) w c.args.end.now (c.frame.ensures.missing c.in-None.is k))
+    λ k all. subst (λ l. IsExactly l (IsWoken (checker_in t) (texts_in t) (graphs_in t) (objects_in t) w c.args.end.now)) (sym c.new.ensures.items)
+    (nobody-goes-on (checker_in t) (texts_in t) (graphs_in t) (objects_in t) w c.args.end.now (c.frame.ensures.missing c.in-None.is k))

@@ -10,4 +10,4 @@ use Rattle.edge_rules.proofs.wait_rules.at_ends.with_all_handed.Given as goal
 -- those of the tuples that were gone through
 abbrev pub invariant-loop-tuple : goal.invariant-loop-tuple
 invariant-loop-tuple l = (c : Checker) (s : Site) (f : Function) → c.depth ≡ l.depth → IsSite l.depth l.site s
-    → IsExactly l.edges.items (SomeGives (λ t d. (u : Tuple) × IsReturned c s f l.objects t u × (woken_edge l.waiter u ≡ d)) (take l.tuple-index l.tuples))
+    → IsExactly l.edges.items (SomeGives (λ t d. (u : Tuple) × IsReturned c s f l.caller_objects.keys l.callee_objects.keys t u × (woken_edge l.waiter u ≡ d)) (take l.tuple-index l.tuples))

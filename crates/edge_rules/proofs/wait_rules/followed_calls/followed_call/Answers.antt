@@ -50,4 +50,4 @@ returns-clause-there c k =
     let callee = c.in_ok-callee.callee in
     let p = place t n f k c.in_ok-frame.ensures.there in
     let q = place t callee c.in_ok-entered.entered k c.in_ok-entered.ensures.there in
-    found t n c.args.block f p (node_of end.call.now) end.behind c.in_ok-end.ensures (Some callee) c.in_ok-callee.ensures _ c.in_ok-entered.entered q refl refl refl (c.in_ok-site.ensures.there p.defined p.is)
+    found t n c.args.block f p (node_of end.call.now) end.behind c.in_ok-end.ensures (Some callee) c.in_ok-callee.ensures _ c.in_ok-entered.entered q refl refl refl refl (c.in_ok-site.ensures.there p.defined p.is)

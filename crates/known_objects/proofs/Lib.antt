@@ -1,0 +1,7 @@
+pub mod FunctionSets
+pub mod Listings
+pub mod Gifts
+pub mod SameLinks
+pub mod Describing
+pub mod MaskedLists
+pub mod KnownLists

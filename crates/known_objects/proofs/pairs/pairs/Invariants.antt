@@ -1,0 +1,7 @@
+use Rattle.std.proofs.Common.{◌≡◌, map, take}
+use Rattle.known_objects.proofs.pairs.pairs.Given as goal
+use Rattle.known_objects.specs.Linked.{pair_with}
+
+-- those that were gone through
+abbrev pub invariant-loop-object : goal.invariant-loop-object
+invariant-loop-object l = l.list.items ≡ map (pair_with l.function) (take l.object-index l.objects)

@@ -1,0 +1,5 @@
+pub mod Linked
+pub mod Listed
+pub mod ByFunction
+pub mod Followed
+pub mod Theorems

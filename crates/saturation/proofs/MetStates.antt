@@ -1,0 +1,3 @@
+pub mod AmongEvents
+pub mod Gifts
+pub mod MetEdges
