@@ -55,11 +55,11 @@ module _ (c : Checker) (ts : List Text) (gs : List Graph) (lists : List (List Ob
   listed-wakes a b e k w x h y t v =
       let u = (complete c ts gs lists).waits x.value k w (subst (λ z. Waits (model_under c ts lists) (origins_under c ts lists) (objects_under c ts lists) (graphs_under c ts gs lists) (function_at ts) z k w) (sym x.is) h) in
       let stops = (complete c ts gs lists).ends y.value u.on
-          (subst (λ z. Ends (model_under c ts lists) (origins_under c ts lists) (objects_under c ts lists) (graphs_under c ts gs lists) (function_at ts) (edge_in y.value) z) (sym u.is_on)
-          (subst (λ z. Ends (model_under c ts lists) (origins_under c ts lists) (objects_under c ts lists) (graphs_under c ts gs lists) (function_at ts) z k) (sym y.is) t)) in
+      (subst (λ z. Ends (model_under c ts lists) (origins_under c ts lists) (objects_under c ts lists) (graphs_under c ts gs lists) (function_at ts) (edge_in y.value) z) (sym u.is_on)
+      (subst (λ z. Ends (model_under c ts lists) (origins_under c ts lists) (objects_under c ts lists) (graphs_under c ts gs lists) (function_at ts) z k) (sym y.is) t)) in
       let s = (complete c ts gs lists).wakes u.who y.value e
-          (subst (λ z. Wakes (model_under c ts lists) (origins_under c ts lists) (objects_under c ts lists) (graphs_under c ts gs lists) (function_at ts) z (edge_in y.value) e) (sym u.is_who)
-          (subst (λ z. Wakes (model_under c ts lists) (origins_under c ts lists) (objects_under c ts lists) (graphs_under c ts gs lists) (function_at ts) w z e) (sym y.is) v)) in
+      (subst (λ z. Wakes (model_under c ts lists) (origins_under c ts lists) (objects_under c ts lists) (graphs_under c ts gs lists) (function_at ts) z (edge_in y.value) e) (sym u.is_who)
+      (subst (λ z. Wakes (model_under c ts lists) (origins_under c ts lists) (objects_under c ts lists) (graphs_under c ts gs lists) (function_at ts) w z e) (sym y.is) v)) in
       record { value = s.value; is = s.is; holds = closed s.value (FollowsTwo x.value y.value u.on u.who x.holds ∣ u.holds ∣₁ y.holds ∣ stops ∣₁ ∣ s.holds ∣₁) }
 
   listed-closed : IsClosedUnder (model_under c ts lists) (origins_under c ts lists) (objects_under c ts lists) (graphs_under c ts gs lists) (function_at ts) Listed
