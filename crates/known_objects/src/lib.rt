@@ -18,4 +18,5 @@ mod sets;
 mod theorems;
 
 pub use program_sets::known_sets;
+pub use sets::empty_sets;
 pub use theorems::known_lists_are_enough;

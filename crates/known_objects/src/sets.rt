@@ -8,8 +8,8 @@ use known_search::Known;
 use objects::{Object, copy};
 use std::alloc::{AllocError, Global};
 
-// So many sets without an object.
-fn empty_sets(alloc: Global, count: u32) -> Result<Vec<IndexSet<Object>>, AllocError>
+/// So many sets without an object. The only fault is want of memory.
+pub fn empty_sets(alloc: Global, count: u32) -> Result<Vec<IndexSet<Object>>, AllocError>
     ensures { IfOk result (λ sets. map (λ s. s.keys) sets.items ≡ replicate count []) }
 {
     let mut sets = Vec::new(alloc);

@@ -8,10 +8,11 @@ ghost use Rattle.path_theory.specs.Paths.{Reported};
 ghost use Rattle.saturation.specs.Reporting.{checker_of};
 ghost use Rattle.report_model.specs.declared.report.Report.{Report as Said};
 
-use crate::followed_sets::{empty_sets, followed_sets};
+use crate::followed_sets::followed_sets;
 use crate::tabulation_engine::{Engine, reported};
 use call_graph::Program;
 use function_tables::{Tables, build_tables};
+use known_objects::empty_sets;
 use metal_tree::Machine;
 use mx_base::Names;
 use report_model::Report;

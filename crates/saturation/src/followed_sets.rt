@@ -1,7 +1,7 @@
 //! What the engine follows. An engine that follows no object meets the global states of all paths, since these depend on none; and what
 //! rules bind in these states alone can be known, with what takes its state from it.
 
-ghost use Rattle.std.specs.Prelude.{◌≡◌, [], map, replicate, IfOk};
+ghost use Rattle.std.specs.Prelude.{map, IfOk};
 ghost use Rattle.function_tables.specs.EngineTables.Known.{checker_in, texts_in, graphs_in, objects_in};
 ghost use Rattle.saturation.specs.FollowedSets.{AreFollowable, HaveNone};
 
@@ -12,17 +12,6 @@ use known_objects::{known_lists_are_enough, known_sets};
 use objects::Object;
 use path_edges::empty_edges_meet;
 use std::alloc::{AllocError, Global};
-
-/// So many sets without an object.
-pub(crate) fn empty_sets(alloc: Global, count: u32) -> Result<Vec<IndexSet<Object>>, AllocError>
-    ensures { IfOk result (λ sets. map (λ s. s.keys) sets.items ≡ replicate count []) }
-{
-    let mut sets = Vec::new(alloc);
-    for _ in 0..count {
-        sets.push(IndexSet::new(alloc))?;
-    }
-    Ok(sets)
-}
 
 /// The objects that are to be followed in each function of a program, by its number, where this engine follows none. The only fault is want
 /// of memory.
