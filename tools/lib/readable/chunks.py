@@ -1,5 +1,6 @@
 """A text in chunks: one for each declaration and each function, as metalcheck cuts it, but with whole old-style definitions."""
 import re
+from itertools import repeat
 
 from .places import Places
 from .tokens import NOWHERE, Token, scanned
@@ -11,12 +12,22 @@ WHOLE, PROTOTYPE, TRIMMED, GONE = "whole", "prototype", "trimmed", "gone"
 CLEANUP = {"cleanup", "__cleanup__"}
 MOST_OLD_PARAMETERS = 40
 PARTNER = {")": "(", "]": "[", "}": "{"}
+CLOSED_BY = {opening: closing for closing, opening in PARTNER.items()}
 BRACKETS = OPENING | CLOSING
 BREAKING = BRACKETS | {";"}
+# one character for each token: brackets and semicolons are themselves, a word that is stripped with its group, any other
+SHAPES = {**{text: text for text in BREAKING}, **dict.fromkeys(STRIPPED, "#")}
+OTHER = "x"
+BRACKETS_ALONE = str.maketrans("", "", "#;" + OTHER)
+NEXT = re.compile(r"[;([{]")
+MOST_ROUNDS = 200
 # what may need a look, in spellings with one blank between; it is found too often rather than not
-HINT = re.compile(
-    r"\b(?:" + "|".join(sorted(FOREIGN)) + r")\b|\( \{|[,{] [.[]|\? :|[^,(] \.\.\.|[^\w)\]\"'] && \w|\b0[xX][0-9a-fA-F.]*[pP]|\b0[bB][01]"
-    r"|\bgoto \*|(?<![\w\"'])(?:u8|u|U)[\"']|\( (?:\w+ )*(?:struct|union|enum) (?:\w+ )?\{")
+PAIRS = ["( {", ", [", ", . ", "{ [", "{ . ", "? :", "goto *"]
+HINTS = [
+    ("...", re.compile(r"[^,(] \.\.\.")), ("&&", re.compile(r"[^\w)\]\"'] && \w")),
+    ("0", re.compile(r"0(?<!\w0)(?:[xX][0-9a-fA-F.]*[pP]|[bB][01])")),
+    ("u", re.compile(r"(?<![\w\"'])u8?[\"']")), ("U", re.compile(r"(?<![\w\"'])U[\"']")),
+    ("{", re.compile(r"\( (?:\w+ )*(?:struct|union|enum) (?:\w+ )?\{"))]
 
 
 class Chunk:
@@ -28,8 +39,9 @@ class Chunk:
         self.begin = self.end = 0
         self.name = None
         self.odd_assembler = self.cleanup = False
+        self.groups = []            # the positions of what is stripped in it and before it, as pairs of begin and end
         self.state = WHOLE
-        self.tokens = None          # what stands in place of its own tokens, where it was changed
+        self.tokens = None          # what stands in place of its own tokens, or of its own head, where that was changed
         self.forms = set()          # the forms outside the language that stand in it as it came
         self.left = set()           # those that are left after rewriting
         self.fault = None           # what metalcheck said of it
@@ -56,8 +68,9 @@ class Source:
         self.line_starts = [line[0] for line in self.lines]
         self.places = Places(text, self.lines)
         self.texts, self.starts, self.groups = stripped(texts, starts)
-        self.fault = self.places.fault or self._unbalanced()
-        self.chunks = [] if self.fault else whole_definitions(self, plain_chunks(self.texts))
+        shape = shape_of(self.texts)
+        self.fault = self.places.fault or (None if is_balanced(shape) else self._unbalanced())
+        self.chunks = [] if self.fault else whole_definitions(self, plain_chunks(shape))
         self._settle()
 
     def _unbalanced(self):
@@ -84,6 +97,7 @@ class Source:
             chunk.begin, chunk.end = self.starts[chunk.first], self.starts[last] + len(self.texts[last])
             while group is not None and group[0] < chunk.end:
                 chunk.begin = min(chunk.begin, max(group[0], end))
+                chunk.groups.append(group[:2])
                 chunk.odd_assembler |= group[2]
                 chunk.cleanup |= group[3]
                 group = next(waiting)
@@ -94,7 +108,11 @@ class Source:
         """A chunk's tokens as they stand, or as they were changed."""
         if chunk.tokens is not None:
             return chunk.tokens
-        return self.own_tokens(chunk)
+        return self.own_head(chunk) if chunk.state == PROTOTYPE else self.own_tokens(chunk)
+
+    def own_head(self, chunk):
+        """The tokens of a function as it came up to its body, and a semicolon in place of that."""
+        return self.own_tokens(chunk, chunk.body) + [Token(";", self.starts[chunk.body])]
 
     def own_tokens(self, chunk, behind=None):
         """The tokens of a chunk as it came, up to an index of the text where one is given."""
@@ -105,17 +123,21 @@ class Source:
         """The spellings of a chunk as it came."""
         return self.texts[chunk.first:chunk.behind]
 
+    def standing_texts(self, chunk):
+        """The spellings of a chunk as it stands now."""
+        if chunk.tokens is not None:
+            return [token.text for token in chunk.tokens]
+        return [*self.texts[chunk.first:chunk.body], ";"] if chunk.state == PROTOTYPE else self.own_texts(chunk)
+
     def own_words(self, chunk):
-        """The same as a set."""
+        """The spellings of a chunk as it came, as a set."""
         if chunk.words is None:
             chunk.words = frozenset(self.own_texts(chunk))
         return chunk.words
 
     def spelled(self, chunk):
         """A chunk's spellings with blanks between, as they are to be read."""
-        if chunk.tokens is not None:
-            return " ".join([token.text for token in chunk.tokens])
-        return " ".join(self.own_texts(chunk))
+        return " ".join(self.standing_texts(chunk))
 
     def body_at(self, chunk):
         """The position of a function's body, or of the chunk where it has none."""
@@ -126,25 +148,30 @@ class Source:
         return self.places.in_main(self.body_at(chunk))
 
 
+def shape_of(texts):
+    """A character for each token."""
+    return "".join(map(SHAPES.get, texts, repeat(OTHER)))
+
+
 def stripped(texts, starts):
     """The tokens that metalcheck keeps, and the groups that it strips: begin, end, whether it knows their spelling not, whether they
     name a cleanup."""
     kept, kept_starts, groups, done = [], [], [], 0
-    for i in [k for k, text in enumerate(texts) if text in STRIPPED]:
-        if i < done:
-            continue
-        behind, odd = group_behind(texts, i)
-        if behind == 0:
-            continue
-        kept += texts[done:i]
-        kept_starts += starts[done:i]
-        words = texts[i:behind]
-        groups.append((starts[i], starts[behind - 1] + len(words[-1]), odd, not CLEANUP.isdisjoint(words)))
-        done = behind
+    shape = shape_of(texts)
+    i = shape.find("#")
+    while i >= 0:
+        behind, odd = group_behind(texts, shape, i)
+        if behind:
+            kept += texts[done:i]
+            kept_starts += starts[done:i]
+            words = texts[i:behind]
+            groups.append((starts[i], starts[behind - 1] + len(words[-1]), odd, not CLEANUP.isdisjoint(words)))
+            done = behind
+        i = shape.find("#", behind or i + 1)
     return kept + texts[done:], kept_starts + starts[done:], groups
 
 
-def group_behind(texts, i):
+def group_behind(texts, shape, i):
     """The index behind the stripped word at i with its group in parentheses, 0 if it has none, and whether its spelling is odd."""
     if texts[i] == "__extension__":
         return i + 1, False
@@ -152,33 +179,45 @@ def group_behind(texts, i):
     while texts[i] in ASSEMBLER and k < len(texts) and texts[k] in ASSEMBLER_QUALIFIERS:
         odd = odd or texts[k] in ODD_QUALIFIERS
         k += 1
-    if k == len(texts) or texts[k] != "(":
-        return 0, odd
-    depth = 0
-    for k in range(k, len(texts)):
-        depth += (texts[k] == "(") - (texts[k] == ")")
-        if depth == 0:
-            return k + 1, odd
-    return 0, odd
+    return (behind_group(shape, k) if shape[k:k + 1] == "(" else 0), odd
 
 
-def plain_chunks(texts):
+def behind_group(shape, i):
+    """The index behind the bracket that ends the group which begins at i, by brackets of its kind alone, or 0 where there is none."""
+    opening, closing = shape[i], CLOSED_BY[shape[i]]
+    at, depth = i + 1, 1
+    while depth:
+        close = shape.find(closing, at)
+        if close < 0:
+            return 0
+        depth += shape.count(opening, at, close) - 1
+        at = close + 1
+    return at
+
+
+def is_balanced(shape):
+    """Whether each bracket has a partner of its kind, where that is seen by taking pairs away from the inside."""
+    left = shape.translate(BRACKETS_ALONE)
+    for _ in range(MOST_ROUNDS):
+        before = len(left)
+        left = left.replace("()", "").replace("[]", "").replace("{}", "")
+        if len(left) == before:
+            break
+    return not left
+
+
+def plain_chunks(shape):
     """The chunks as metalcheck has them: up to a `;` in no bracket, or to the `}` of a `{` in no bracket directly behind a `)`."""
-    found, first, depth, body = [], 0, 0, NOWHERE
-    for i in [k for k, text in enumerate(texts) if text in BREAKING]:
-        text = texts[i]
-        if text in OPENING:
-            if depth == 0 and text == "{":
-                body = i if i > first and texts[i - 1] == ")" else NOWHERE
-            depth += 1
-            continue
-        if text != ";" and depth:
-            depth -= 1
-        if depth == 0 and (text == ";" or text == "}" and body != NOWHERE):
-            found.append(Chunk(first, i + 1, body if text == "}" else NOWHERE))
-            first, body = i + 1, NOWHERE
-    if first < len(texts):
-        found.append(Chunk(first, len(texts)))
+    found, first, at = [], 0, 0
+    while (breaking := NEXT.search(shape, at)) is not None:
+        i = breaking.start()
+        at = behind_group(shape, i) if shape[i] != ";" else i + 1
+        is_body = shape[i] == "{" and i > first and shape[i - 1] == ")"
+        if is_body or shape[i] == ";":
+            found.append(Chunk(first, at, i if is_body else NOWHERE))
+            first = at
+    if first < len(shape):
+        found.append(Chunk(first, len(shape)))
         found[-1].kind = REST
     return found
 
@@ -255,33 +294,41 @@ def later(texts, first, chunk):
 
 def declared_name(texts):
     """The name that a function or declaration is called by in messages."""
-    for i, text in enumerate(texts):
-        if text == "(" and i:
-            if is_name(texts[i - 1]):
-                return texts[i - 1]
-            inner = next((word for word in texts[i:] if is_name(word)), None)
-            if inner:
-                return inner
-    names = [text for text in texts if is_name(text)]
-    return names[-1] if names else "?"
+    i = next((i for i, text in enumerate(texts) if text == "(" and i), 0)
+    if i and is_name(texts[i - 1]):
+        return texts[i - 1]
+    inner = next((word for word in texts[i:] if is_name(word)), None) if i else None
+    return inner or next((word for word in reversed(texts) if is_name(word)), "?")
 
 
 def needs_a_look(source, chunk):
     """Whether a form outside the language may stand in a chunk. A yes costs time alone."""
     texts, body = source.own_texts(chunk), chunk.body - chunk.first
     if chunk.kind != FUNCTION:
-        return chunk.kind != DECLARATION or HINT.search(" ".join(texts)) is not None or has_odd_brace(texts, NOWHERE)
-    return (HINT.search(" ".join(texts[:body])) or HINT.search(" ".join(texts[body + 1:]))) is not None or has_odd_brace(texts, body)
+        return chunk.kind != DECLARATION or may_be_foreign(texts) or has_odd_brace(texts, NOWHERE)
+    return may_be_foreign(texts[:body]) or may_be_foreign(texts[body + 1:]) or has_odd_brace(texts, body)
+
+
+def may_be_foreign(texts):
+    """Whether a form outside the language may stand in these spellings, odd braces apart."""
+    if not FOREIGN.isdisjoint(texts):
+        return True
+    joined = " ".join(texts)
+    if any(pair in joined for pair in PAIRS):
+        return True
+    return any(sign in joined and hint.search(joined) is not None for sign, hint in HINTS)
 
 
 def has_odd_brace(texts, body):
     """Whether a `{` stands behind a `)` that doesn't end the head of a statement, the function's own body apart."""
-    waiting = []
-    for i in [k for k, text in enumerate(texts) if text == "(" or text == ")"]:
-        if texts[i] == "(":
-            waiting.append(i)
-            continue
-        opening = waiting.pop()
-        if i + 1 < len(texts) and texts[i + 1] == "{" and i + 1 != body and texts[opening - 1] not in CONTROL:
-            return True
-    return False
+    behind = (k for k, text in enumerate(texts) if text == "{" and k and texts[k - 1] == ")" and k != body)
+    return any(texts[opening_of(texts, k - 1) - 1] not in CONTROL for k in behind)
+
+
+def opening_of(texts, close):
+    """The index of the parenthesis that the one at close ends."""
+    k, depth = close, 1
+    while depth:
+        k -= 1
+        depth += (texts[k] == ")") - (texts[k] == "(")
+    return k

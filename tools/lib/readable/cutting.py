@@ -20,7 +20,7 @@ def head(tokens):
 def prototype(source, chunk):
     """The tokens of a function's prototype, or None where it has no head."""
     if chunk.kind == FUNCTION and chunk.tokens is None:
-        return source.own_tokens(chunk, chunk.body) + [Token(";", source.starts[chunk.body])]
+        return source.own_head(chunk)
     tokens = source.tokens(chunk)
     if chunk.kind == OLD_STYLE and chunk.tokens is None:
         return old_prototype(tokens)

@@ -62,7 +62,7 @@ def rests(source, chunk, types, called):
     """Why a chunk as it stands now rests on something that is lost, or nothing."""
     if chunk.tokens is None and types.isdisjoint(source.own_words(chunk)) and called.isdisjoint(source.own_words(chunk)):
         return None
-    texts = source.own_texts(chunk) if chunk.tokens is None else [token.text for token in chunk.tokens]
+    texts = source.standing_texts(chunk)
     if not types.isdisjoint(texts) and any(texts[k] in types and not is_member(texts, k) for k in range(len(texts))):
         return LOST_TYPE
     if chunk.state == WHOLE and chunk.is_function() and not called.isdisjoint(texts):

@@ -1,6 +1,6 @@
 """The first step: chunks are pruned and rewritten, and what surely isn't read is cut without a question."""
 from .blocks import late_declarations
-from .chunks import GONE, LITERAL, OLD_STYLE, PROTOTYPE, REST, needs_a_look
+from .chunks import FUNCTION, GONE, LITERAL, OLD_STYLE, PROTOTYPE, REST, may_be_foreign, needs_a_look
 from .cutting import cut, prototype, trim
 from .foreign import forms
 from .pruning import unreached
@@ -36,6 +36,9 @@ def prepare(source, names, options):
 def prune(source, names, chunk, options):
     """Leaves the prototype of a function that isn't reached."""
     chunk.pruned = True
+    if has_plain_head(source, chunk):
+        chunk.state = PROTOTYPE
+        return
     try:
         shorter = pruned(source, names, chunk, options)
     except NOT_FOLLOWED:
@@ -46,14 +49,17 @@ def prune(source, names, chunk, options):
         chunk.state, chunk.tokens = PROTOTYPE, shorter
 
 
+def has_plain_head(source, chunk):
+    """Whether a function's own head is read as it stands."""
+    return chunk.kind == FUNCTION and not may_be_foreign(source.texts[chunk.first:chunk.body])
+
+
 def pruned(source, names, chunk, options):
     """The tokens of the prototype, or None."""
     if chunk.kind == OLD_STYLE and options.rewrite:
         chunk.tokens = new_style(source.own_tokens(chunk), Work(names))
     shorter = prototype(source, chunk)
-    if shorter is not None and options.rewrite and needs_a_look(source, chunk):
-        return rewritten(shorter, names)[0]
-    return shorter
+    return rewritten(shorter, names)[0] if shorter is not None and options.rewrite else shorter
 
 
 def look(source, names, chunk, options):

@@ -1,20 +1,24 @@
 """Tokens: how a preprocessed text is cut into them, and lists of them that are rewritten."""
 import re
+from itertools import accumulate
 
 from .words import CLOSING, OPENING
 
 NOWHERE = -1
-PIECE = re.compile(r"""
-    ^[ \t]*\#[^\n]*                                     # a marker line or a pragma
+# the alternatives that stand for most of a text come first: what one of them takes none of the others would
+PIECE = re.compile(r"""(
+    (?![LuU]8?["'])[A-Za-z_$][A-Za-z0-9_$]*
+  | [;,(){}[\]]
+  | ^[ \t]*\#[^\n]*                                     # a marker line or a pragma
+  | -> | [-+*/%&|^<>=!]= | \+\+ | -- | && | \|\| | <<=? | >>=? | \.\.\.
+  | 0[xX][0-9a-fA-F.]*[pP][+-]?[0-9]+[A-Za-z0-9_.]*     # a hexadecimal floating constant
+  | \.?[0-9](?:[eE][+-]|[A-Za-z0-9_.])*                 # any other number
   | /\*.*?\*/ | //[^\n]*                                # a comment
   | (?:L|u8|u|U)?"(?:\\[^\n]|[^"\\\n])*"
   | [LuU]?'(?:\\[^\n]|[^'\\\n])+'
   | [A-Za-z_$][A-Za-z0-9_$]*
-  | 0[xX][0-9a-fA-F.]*[pP][+-]?[0-9]+[A-Za-z0-9_.]*     # a hexadecimal floating constant
-  | \.?[0-9](?:[eE][+-]|[A-Za-z0-9_.])*                 # any other number
-  | \.\.\.|<<=|>>=|->|\+\+|--|<<|>>|<=|>=|==|!=|&&|\|\||\*=|/=|%=|\+=|-=|&=|\^=|\|=
   | [^\ \t\v\f\r\n]
-""", re.S | re.M | re.X)
+)""", re.S | re.M | re.X)
 
 
 class Token:
@@ -47,16 +51,23 @@ def spellings(tokens):
 
 def scanned(text):
     """The spellings and positions of all tokens, and the lines that begin with # as triples of begin, end and line."""
-    texts, places, lines = [], [], []
-    for piece in PIECE.finditer(text):
-        spelled = piece.group()
-        first = spelled[0]
-        if first == "#" or first in " \t":
-            lines.append((piece.start(), piece.end(), spelled))
-        elif first != "/" or spelled[:2] not in ("/*", "//"):
-            texts.append(spelled)
-            places.append(piece.start())
-    return texts, places, lines
+    pieces = PIECE.split(text)
+    texts, places = pieces[1::2], list(accumulate(map(len, pieces)))[:-1:2]
+    odd = {piece for piece in set(texts) if piece[0] in "# \t" or piece[:2] in ("/*", "//")}
+    if not odd:
+        return texts, places, []
+    found = [k for k, piece in enumerate(texts) if piece in odd]
+    lines = [(places[k], places[k] + len(texts[k]), texts[k]) for k in found if texts[k][0] != "/"]
+    return without(texts, found), without(places, found), lines
+
+
+def without(values, indices):
+    """A list without what stands at these indices, which are in order."""
+    kept, done = [], 0
+    for k in indices:
+        kept += values[done:k]
+        done = k + 1
+    return kept + values[done:]
 
 
 def partners(tokens):

@@ -3,7 +3,7 @@
 Such a line stands between two marker lines, so that the places of what follows stay. What was moved keeps its line and column too."""
 import bisect
 
-from .chunks import GONE, WHOLE
+from .chunks import GONE, PROTOTYPE, WHOLE
 from .places import marker
 from .tokens import NOWHERE, spellings
 
@@ -23,6 +23,8 @@ def written(source):
 
 def chunk_text(source, chunk):
     """What stands in place of a chunk that was changed or cut."""
+    if chunk.state == PROTOTYPE and chunk.tokens is None:
+        return head_text(source, chunk)
     blank = blanked(source, chunk.begin, chunk.end)
     if chunk.state == GONE:
         return blank
@@ -37,6 +39,17 @@ def chunk_text(source, chunk):
     return "".join(pieces + ([own_lines(source, chunk.end, last)] if last else []))
 
 
+def head_text(source, chunk):
+    """What stands in place of a function of which its own head is left."""
+    behind = source.starts[chunk.body]
+    pieces, done = [], chunk.begin
+    for begin, end in chunk.groups:
+        if done <= begin < behind:
+            pieces += [source.text[done:begin], blanked(source, begin, end)]
+            done = end
+    return "".join([*pieces, source.text[done:behind], ";", blanked(source, behind + 1, chunk.end)])
+
+
 def blanked(source, begin, end):
     """What stands between two positions as blanks, but for line feeds and marker lines."""
     pieces, done = [], begin
@@ -49,6 +62,8 @@ def blanked(source, begin, end):
 
 def blanks(text):
     """Blanks in place of a text, but for its line feeds."""
+    if "\n" not in text:
+        return " " * len(text)
     return "\n".join(" " * len(line) for line in text.split("\n"))
 
 
