@@ -69,6 +69,7 @@ class Source:
         self.places = Places(text, self.lines)
         self.texts, self.starts, self.groups = stripped(texts, starts)
         shape = shape_of(self.texts)
+        self.has_statement_expression = "({" in shape
         self.fault = self.places.fault or (None if is_balanced(shape) else self._unbalanced())
         self.chunks = [] if self.fault else whole_definitions(self, plain_chunks(shape))
         self._settle()
@@ -146,6 +147,12 @@ class Source:
     def in_main(self, chunk):
         """Whether a chunk stands in the main file."""
         return self.places.in_main(self.body_at(chunk))
+
+    def standing_at(self, file, line):
+        """The chunks that aren't gone of which a part stands on a presumed line."""
+        lines = list(self.places.lines_at(file, line))
+        return [chunk for chunk in self.chunks
+                if chunk.state != GONE and any(chunk.begin < end and begin < chunk.end for begin, end in lines)]
 
 
 def shape_of(texts):

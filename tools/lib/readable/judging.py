@@ -1,16 +1,19 @@
-"""The second step: metalcheck is asked about what is left, first the declarations and then the bodies, until it reads all of it.
+"""The second step: metalcheck is asked about the text, and what it refuses is cut, until it reads all that is left.
 
-Each chunk gets a presumed file of its own, so that a refusal names the chunk."""
+The question is the text that is to be written. Mostly the place of a refusal says which chunk is refused. Where several stand there, or
+refusals are many, each chunk gets a presumed file of its own, so that a refusal names it."""
 import os
 
 from .chunks import GONE, TRIMMED, WHOLE
 from .cutting import cut, names_that_are_lost, prototype, trim_those_that_name
 from .losing import cut_what_rests
 from .tokens import spellings
+from .writing import Writer
 
 # faults that come before any fault of types, wherever they stand: what stands in front of them may still have one
 EARLY_FAULTS = {"BadByte", "OpenText", "BadNumber", "BadMarker", "Syntax", "TooLarge"}
 DUPLICATE = "DuplicateFunction"
+MOST_PLACES = 3
 
 
 class NotRead(Exception):
@@ -18,98 +21,92 @@ class NotRead(Exception):
 
 
 class Judge:
-    """What is asked about a text. `heads` has the spelled prototype of each function that stays whole so far."""
+    """What is asked about a text."""
 
     def __init__(self, source, names, program, folder):
-        self.source, self.names, self.program = source, names, program
-        self.path = os.path.join(folder, "asked.i")
-        self.heads = {}
+        self.source, self.names, self.program, self.folder = source, names, program, folder
+        self.writer = Writer(source)
+        self.by_place = 0
 
-    def settle(self):
-        """Cuts until the program reads what is left."""
+    def settled(self):
+        """The text, after cutting until the program reads it."""
         cut_what_rests(self.source, self.names)
-        self._declarations()
-        self._bodies()
-        while cut_what_rests(self.source, self.names) or self._whole():
-            pass
+        while not self.source.chunks or any(chunk.state != GONE for chunk in self.source.chunks):
+            text = self.writer.text()
+            refusal = self._refusal("written.i", text)
+            if refusal is None:
+                return text
+            if not self._mended(refusal) and not self._mended_by_chunk():
+                raise NotRead(f"what can be made of it is refused at {refusal.file}:{refusal.line}: {refusal.fault}")
+        raise NotRead("nothing in it is read; is it preprocessed C?")
 
-    def _ask(self, spelled):
-        """The chunk that is refused and the fault, or None; spelled gives the text of a chunk."""
-        text = "".join(f'# 1 "{k}"\n{spelled(chunk)}\n' for k, chunk in enumerate(self.source.chunks) if chunk.state != GONE)
-        with open(self.path, "w", encoding="latin-1", newline="") as file:
+    def _refusal(self, name, text):
+        """What the program says of a text."""
+        path = os.path.join(self.folder, name)
+        with open(path, "w", encoding="latin-1", newline="") as file:
             file.write(text)
-        refusal = self.program.refusal(self.path)
+        return self.program.refusal(path)
+
+    def _mended(self, refusal):
+        """Cuts what is refused, where its place says what that is. Says whether it does."""
+        if refusal.fault == DUPLICATE and self._cut_duplicates():
+            return True
+        found = self.source.standing_at(refusal.file, refusal.line) if self.by_place < MOST_PLACES else []
+        self.by_place += 1
+        if len(found) == 1:
+            self._cut(found[0], refusal.fault)
+        return len(found) == 1
+
+    def _cut_duplicates(self):
+        """Leaves one body of each name, where no body has a fault of its own. Says whether one was cut."""
+        by_name = {}
+        for chunk in self.source.chunks:
+            if chunk.is_function() and chunk.state == WHOLE:
+                by_name.setdefault(chunk.name, []).append(chunk)
+        several = [same for same in by_name.values() if len(same) > 1]
+        for same in several:
+            while len(same) > 1:
+                least = self._least_wanted(same)
+                same.remove(least)
+                self._cut(least, DUPLICATE)
+        return several != []
+
+    def _least_wanted(self, same):
+        """Of functions of one name the second, if it is a header's; else the first of a header, or the second where there is none."""
+        of_headers = [one for one in same if not self.source.in_main(one)]
+        return same[1] if same[1] in of_headers or not of_headers else of_headers[0]
+
+    def _cut(self, chunk, fault):
+        """Cuts one step what is refused, and what rests on it."""
+        cut(self.source, self.names, chunk, fault)
+        if chunk.state == TRIMMED:
+            trim_those_that_name(self.source, self.names, names_that_are_lost(self.source))
+        cut_what_rests(self.source, self.names)
+
+    def _mended_by_chunk(self):
+        """Asks about chunks, and cuts what is refused: one at first, and all that is refused once that was often. Says whether anything was."""
+        read, cut_any = 0, False
+        while (asked := self._asked(read)) is not None:
+            k, fault = asked
+            if fault != DUPLICATE or not self._cut_duplicates():
+                self._cut(self.source.chunks[k], fault)
+            if self.by_place < MOST_PLACES:
+                return True
+            read, cut_any = read if fault in EARLY_FAULTS | {DUPLICATE} else k, True
+        return cut_any
+
+    def _asked(self, read):
+        """The index of the chunk that is refused and the fault, or None. Functions in front of an index were read, and stand as prototypes."""
+        pieces = [f'# 1 "{k}"\n{self._spelled(chunk, k < read)}\n' for k, chunk in enumerate(self.source.chunks) if chunk.state != GONE]
+        refusal = self._refusal("asked.i", "".join(pieces))
         if refusal is None:
             return None
         if not refusal.file.isdigit():
             raise NotRead(f"refused as a whole: {refusal.fault}")
-        return self.source.chunks[int(refusal.file)], refusal.fault
+        return int(refusal.file), refusal.fault
 
-    def _declarations(self):
-        """All functions stand as prototypes."""
-        for chunk in self.source.chunks:
-            if chunk.is_function() and chunk.state == WHOLE:
-                self._keep_head(chunk)
-        while (asked := self._ask(self._as_declaration)) is not None:
-            chunk, fault = asked
-            if chunk in self.heads:
-                del self.heads[chunk]
-                chunk.fault, chunk.state = fault, GONE
-            else:
-                cut(self.source, self.names, chunk, fault)
-            if chunk.state == TRIMMED:
-                trim_those_that_name(self.source, self.names, names_that_are_lost(self.source))
-            elif chunk.state == GONE:
-                self._cut_what_rests()
-
-    def _keep_head(self, chunk):
-        """Keeps the prototype of a function, or cuts it where it has none."""
-        head = prototype(self.source, chunk)
-        if head is None:
-            chunk.fault, chunk.state = "no head", GONE
-        else:
-            self.heads[chunk] = " ".join(spellings(head))
-
-    def _cut_what_rests(self):
-        """Cuts what rests on something that is gone, and forgets the heads of what was cut."""
-        cut_what_rests(self.source, self.names)
-        self.heads = {chunk: head for chunk, head in self.heads.items() if chunk.state == WHOLE}
-
-    def _as_declaration(self, chunk):
-        """A function as its prototype, anything else as it stands."""
-        return self.heads.get(chunk) or self.source.spelled(chunk)
-
-    def _bodies(self):
-        """Bodies are asked about together. What was read, or can't be, stands as a prototype from then on."""
-        waiting = set(self.heads)
-
-        def spelled(chunk):
-            """Functions that wait as they stand, all others as prototypes."""
-            return self.source.spelled(chunk) if chunk in waiting else self._as_declaration(chunk)
-
-        while (asked := self._ask(spelled)) is not None:
-            chunk, fault = asked
-            self._cut_body(self._least_wanted(chunk) if fault == DUPLICATE else chunk, fault, waiting)
-            if fault not in EARLY_FAULTS | {DUPLICATE}:
-                waiting -= set(self.source.chunks[:self.source.chunks.index(chunk)])
-
-    def _cut_body(self, chunk, fault, waiting):
-        """Cuts a function that is asked about."""
-        cut(self.source, self.names, chunk, fault)
-        waiting.discard(chunk)
-
-    def _least_wanted(self, chunk):
-        """Of two functions of one name that of a header, else the later one."""
-        if not self.source.in_main(chunk):
-            return chunk
-        same = [one for one in self.source.chunks if one.is_function() and one.state == WHOLE and one.name == chunk.name]
-        return next((one for one in same if not self.source.in_main(one)), chunk)
-
-    def _whole(self):
-        """Asks about all that is left as it stands, and cuts what is refused. Says whether something was."""
-        asked = self._ask(self.source.spelled)
-        if asked is None:
-            return False
-        chunk, fault = asked
-        cut(self.source, self.names, self._least_wanted(chunk) if fault == DUPLICATE else chunk, fault)
-        return True
+    def _spelled(self, chunk, was_read):
+        """The spellings of a chunk, of a function that was read without its body."""
+        if was_read and chunk.is_function() and chunk.state == WHOLE and (head := prototype(self.source, chunk)) is not None:
+            return " ".join(spellings(head))
+        return self.source.spelled(chunk)

@@ -6,14 +6,13 @@ from collections import Counter
 from .asking import Program
 from .chunks import GONE, TRIMMED, WHOLE, Source
 from .judging import Judge, NotRead
-from .losing import cut_what_rests
 from .names import names_of
 from .places import unescaped
 from .preparing import keep_plain_loops, prepare
 from .rewriting.classes import APPROXIMATION
-from .writing import written
 
 MOST_BYTES = 16777216
+STATEMENT_EXPRESSION = "({"
 
 
 class Options:
@@ -74,18 +73,23 @@ def make_readable(path, options=None, program=None):
 def make(record, options, program, folder):
     """Fills a record."""
     text = contents(record.path)
-    record.as_it_is = not options.always and program.refusal(record.path) is None
+    # what surely isn't read is looked at without a question
+    source = Source(text) if options.always or STATEMENT_EXPRESSION in text else None
+    asks = not options.always and not (source and source.has_statement_expression)
+    record.as_it_is = asks and program.refusal(record.path) is None
     if record.as_it_is and not options.plain_loops:
         record.text = text
         return
-    source = Source(text)
+    source = source or Source(text)
     if source.fault:
         raise NotRead(source.fault)
+    names = names_of(source)
     if record.as_it_is:
-        with_plain_loops(source)
-        record.text = verified(source, program, folder)
+        make_loops_plain(source, names)
     else:
-        record.text = with_all_steps(source, options, program, folder)
+        prepare(source, names, options)
+    # mostly what surely isn't read is all that isn't, so that one question is enough
+    record.text = Judge(source, names, program, folder).settled()
     note(record, source)
 
 
@@ -102,43 +106,11 @@ def contents(path):
     return text
 
 
-def with_plain_loops(source):
+def make_loops_plain(source, names):
     """Rewrites the loops that run once in a file that is read as it is."""
-    names = names_of(source)
     for chunk in source.chunks:
         if chunk.is_function() and "do" in source.own_texts(chunk):
             keep_plain_loops(source, names, chunk)
-
-
-def with_all_steps(source, options, program, folder):
-    """The text after pruning, rewriting and cutting. Mostly what surely isn't read is all, so that one question is enough."""
-    names = names_of(source)
-    prepare(source, names, options)
-    cut_what_rests(source, names)
-    text = written(source)
-    if refusal_of(text, program, folder) is not None:
-        Judge(source, names, program, folder).settle()
-        text = None
-    if source.chunks and all(chunk.state == GONE for chunk in source.chunks):
-        raise NotRead("nothing in it is read; is it preprocessed C?")
-    return text or verified(source, program, folder)
-
-
-def refusal_of(text, program, folder):
-    """What the program says of a text."""
-    path = os.path.join(folder, "written.i")
-    with open(path, "w", encoding="latin-1", newline="") as file:
-        file.write(text)
-    return program.refusal(path)
-
-
-def verified(source, program, folder):
-    """The text of a source, which the program reads."""
-    text = written(source)
-    refusal = refusal_of(text, program, folder)
-    if refusal is not None:
-        raise NotRead(f"what can be made of it is refused at {refusal.file}:{refusal.line}: {refusal.fault}")
-    return text
 
 
 def note(record, source):

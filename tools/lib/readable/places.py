@@ -13,6 +13,7 @@ class Places:
 
     def __init__(self, text, lines):
         self.feeds = [feed.start() for feed in re.finditer("\n", text)]
+        self.length = len(text)
         self.stretches = [(0, 1, 0, None, True)]
         self.fault = None
         self.main = None
@@ -71,6 +72,16 @@ class Places:
     def in_main(self, at):
         """Whether a position stands in the main file: no header is open, or it has the main file's name."""
         return self._stretch(at)[4]
+
+    def lines_at(self, file, line):
+        """The positions, as pairs of begin and end, of all lines that have this presumed file and line."""
+        ends = [*self.feeds, self.length]
+        for (first, presumed, real, name, _), following in zip(self.stretches, [*self.starts[1:], self.length]):
+            number = real + line - presumed
+            if real <= number < len(ends) and name is not None and unescaped(name) == file:
+                begin = ends[number - 1] + 1 if number else 0
+                if begin < following:
+                    yield max(begin, first), ends[number]
 
     def named(self, at, otherwise):
         """FILE:LINE of a position as messages have it; otherwise stands for a file that no marker line names."""

@@ -8,17 +8,32 @@ from .places import marker
 from .tokens import NOWHERE, spellings
 
 
-def written(source):
-    """The text of a source with its chunks as they stand."""
-    pieces, done = [], 0
-    for chunk in source.chunks:
-        if chunk.state == WHOLE and chunk.tokens is None and not chunk.odd_assembler:
-            continue
-        pieces.append(source.text[done:chunk.begin])
-        pieces.append(chunk_text(source, chunk))
-        done = chunk.end
-    pieces.append(source.text[done:])
-    return "".join(pieces)
+class Writer:
+    """Makes the text of a source with its chunks as they stand. What was made of a chunk is kept until that is changed again."""
+
+    def __init__(self, source):
+        self.source = source
+        self.made = {}
+
+    def text(self):
+        """The text."""
+        pieces, done = [], 0
+        for chunk in self.source.chunks:
+            if chunk.state == WHOLE and chunk.tokens is None and not chunk.odd_assembler:
+                continue
+            pieces.append(self.source.text[done:chunk.begin])
+            pieces.append(self._made(chunk))
+            done = chunk.end
+        pieces.append(self.source.text[done:])
+        return "".join(pieces)
+
+    def _made(self, chunk):
+        """The text of a chunk that was changed or cut."""
+        state, tokens, text = self.made.get(chunk, (None, None, ""))
+        if state != chunk.state or tokens is not chunk.tokens:
+            text = chunk_text(self.source, chunk)
+            self.made[chunk] = chunk.state, chunk.tokens, text
+        return text
 
 
 def chunk_text(source, chunk):
