@@ -1,26 +1,16 @@
 """A text in chunks: one for each declaration and each function, as metalcheck cuts it, but with whole old-style definitions."""
 import re
-from itertools import repeat
 
 from .places import Places
-from .tokens import NOWHERE, Token, scanned
-from .words import (
-    ASSEMBLER, ASSEMBLER_QUALIFIERS, CLOSING, CONTROL, FOREIGN, ODD_QUALIFIERS, OPENING, STRIPPED, WORD, is_name)
+from .shapes import PARTNER, behind_group, is_balanced
+from .stripping import Stripped
+from .tokens import NOWHERE, Token
+from .words import CLOSING, CONTROL, FOREIGN, OPENING, WORD, is_name
 
 DECLARATION, FUNCTION, OLD_STYLE, LITERAL, REST = "declaration", "function", "old-style definition", "literal", "rest"
 WHOLE, PROTOTYPE, TRIMMED, GONE = "whole", "prototype", "trimmed", "gone"
-CLEANUP = {"cleanup", "__cleanup__"}
 MOST_OLD_PARAMETERS = 40
-PARTNER = {")": "(", "]": "[", "}": "{"}
-CLOSED_BY = {opening: closing for closing, opening in PARTNER.items()}
-BRACKETS = OPENING | CLOSING
-BREAKING = BRACKETS | {";"}
-# one character for each token: brackets and semicolons are themselves, a word that is stripped with its group, any other
-SHAPES = {**{text: text for text in BREAKING}, **dict.fromkeys(STRIPPED, "#")}
-OTHER = "x"
-BRACKETS_ALONE = str.maketrans("", "", "#;" + OTHER)
 NEXT = re.compile(r"[;([{]")
-MOST_ROUNDS = 200
 # what may need a look, in spellings with one blank between; it is found too often rather than not
 PAIRS = ["( {", ", [", ", . ", "{ [", "{ . ", "? :", "goto *"]
 HINTS = [
@@ -64,20 +54,19 @@ class Source:
 
     def __init__(self, text):
         self.text = text
-        texts, starts, self.lines = scanned(text)
+        stripped = Stripped(text)
+        self.texts, self.starts, self.lines = stripped.texts, stripped.starts, stripped.lines
         self.line_starts = [line[0] for line in self.lines]
         self.places = Places(text, self.lines)
-        self.texts, self.starts, self.groups = stripped(texts, starts)
-        shape = shape_of(self.texts)
-        self.has_statement_expression = "({" in shape
-        self.fault = self.places.fault or (None if is_balanced(shape) else self._unbalanced())
-        self.chunks = [] if self.fault else whole_definitions(self, plain_chunks(shape))
-        self._settle()
+        self.has_statement_expression = "({" in stripped.shape
+        self.fault = self.places.fault or (None if is_balanced(stripped.shape) else self._unbalanced())
+        self.chunks = [] if self.fault else whole_definitions(self, plain_chunks(stripped.shape))
+        self._settle(stripped.groups)
 
     def _unbalanced(self):
         """The first bracket without a partner of its kind, in words, or nothing."""
         waiting = []
-        for i in [k for k, text in enumerate(self.texts) if text in BRACKETS]:
+        for i in [k for k, text in enumerate(self.texts) if text in OPENING or text in CLOSING]:
             text = self.texts[i]
             if text in OPENING:
                 waiting.append(i)
@@ -89,9 +78,9 @@ class Source:
         """The message about the bracket at an index."""
         return f"the text isn't balanced: `{self.texts[i]}` at {self.places.named(self.starts[i], 'line')} has no partner"
 
-    def _settle(self):
+    def _settle(self, groups):
         """Gives each chunk its positions, which cover the stripped words in and before it, and its name."""
-        end, waiting = 0, iter(self.groups + [None])
+        end, waiting = 0, iter(groups + [None])
         group = next(waiting)
         for chunk in self.chunks:
             last = chunk.behind - 1
@@ -153,64 +142,6 @@ class Source:
         lines = list(self.places.lines_at(file, line))
         return [chunk for chunk in self.chunks
                 if chunk.state != GONE and any(chunk.begin < end and begin < chunk.end for begin, end in lines)]
-
-
-def shape_of(texts):
-    """A character for each token."""
-    return "".join(map(SHAPES.get, texts, repeat(OTHER)))
-
-
-def stripped(texts, starts):
-    """The tokens that metalcheck keeps, and the groups that it strips: begin, end, whether it knows their spelling not, whether they
-    name a cleanup."""
-    kept, kept_starts, groups, done = [], [], [], 0
-    shape = shape_of(texts)
-    i = shape.find("#")
-    while i >= 0:
-        behind, odd = group_behind(texts, shape, i)
-        if behind:
-            kept += texts[done:i]
-            kept_starts += starts[done:i]
-            words = texts[i:behind]
-            groups.append((starts[i], starts[behind - 1] + len(words[-1]), odd, not CLEANUP.isdisjoint(words)))
-            done = behind
-        i = shape.find("#", behind or i + 1)
-    return kept + texts[done:], kept_starts + starts[done:], groups
-
-
-def group_behind(texts, shape, i):
-    """The index behind the stripped word at i with its group in parentheses, 0 if it has none, and whether its spelling is odd."""
-    if texts[i] == "__extension__":
-        return i + 1, False
-    k, odd = i + 1, False
-    while texts[i] in ASSEMBLER and k < len(texts) and texts[k] in ASSEMBLER_QUALIFIERS:
-        odd = odd or texts[k] in ODD_QUALIFIERS
-        k += 1
-    return (behind_group(shape, k) if shape[k:k + 1] == "(" else 0), odd
-
-
-def behind_group(shape, i):
-    """The index behind the bracket that ends the group which begins at i, by brackets of its kind alone, or 0 where there is none."""
-    opening, closing = shape[i], CLOSED_BY[shape[i]]
-    at, depth = i + 1, 1
-    while depth:
-        close = shape.find(closing, at)
-        if close < 0:
-            return 0
-        depth += shape.count(opening, at, close) - 1
-        at = close + 1
-    return at
-
-
-def is_balanced(shape):
-    """Whether each bracket has a partner of its kind, where that is seen by taking pairs away from the inside."""
-    left = shape.translate(BRACKETS_ALONE)
-    for _ in range(MOST_ROUNDS):
-        before = len(left)
-        left = left.replace("()", "").replace("[]", "").replace("{}", "")
-        if len(left) == before:
-            break
-    return not left
 
 
 def plain_chunks(shape):

@@ -5,9 +5,10 @@ from itertools import accumulate
 from .words import CLOSING, OPENING
 
 NOWHERE = -1
-# the alternatives that stand for most of a text come first: what one of them takes none of the others would
+# an attribute with its group is one piece where that is plain; what stands most often comes first
 PIECE = re.compile(r"""(
-    (?![LuU]8?["'])[A-Za-z_$][A-Za-z0-9_$]*
+    __attribute__[ ]?\(\([^()"'/\#\n]*(?:\([^()"'/\#\n]*\)[^()"'/\#\n]*)*\)\)
+  | (?![LuU]8?["'])[A-Za-z_$][A-Za-z0-9_$]*
   | [;,(){}[\]]
   | ^[ \t]*\#[^\n]*                                     # a marker line or a pragma
   | -> | [-+*/%&|^<>=!]= | \+\+ | -- | && | \|\| | <<=? | >>=? | \.\.\.
@@ -50,24 +51,9 @@ def spellings(tokens):
 
 
 def scanned(text):
-    """The spellings and positions of all tokens, and the lines that begin with # as triples of begin, end and line."""
+    """The spellings and positions of all pieces of a text: tokens, comments, lines that begin with #, and attributes that are one piece."""
     pieces = PIECE.split(text)
-    texts, places = pieces[1::2], list(accumulate(map(len, pieces)))[:-1:2]
-    odd = {piece for piece in set(texts) if piece[0] in "# \t" or piece[:2] in ("/*", "//")}
-    if not odd:
-        return texts, places, []
-    found = [k for k, piece in enumerate(texts) if piece in odd]
-    lines = [(places[k], places[k] + len(texts[k]), texts[k]) for k in found if texts[k][0] != "/"]
-    return without(texts, found), without(places, found), lines
-
-
-def without(values, indices):
-    """A list without what stands at these indices, which are in order."""
-    kept, done = [], 0
-    for k in indices:
-        kept += values[done:k]
-        done = k + 1
-    return kept + values[done:]
+    return pieces[1::2], list(accumulate(map(len, pieces)))[:-1:2]
 
 
 def partners(tokens):
