@@ -1,6 +1,6 @@
 """Which forms outside the language stand in a list of tokens. The names are those that messages and summaries have."""
 from .blocks import late_declarations
-from .tokens import enclosing, partners, text_at
+from .tokens import seen, text_at
 from .words import (
     ALIGNMENT, BINARY, COMPLEX, CONTROL, DROPPED, FOREIGN, HEXADECIMAL_FLOATING, QUALIFIERS, STEPPING, TAGGED, TYPEOF, WIDE, is_name)
 
@@ -15,21 +15,17 @@ class Look:
 
     def __init__(self, tokens, names, is_function):
         self.tokens, self.names, self.is_function = tokens, names, is_function
-        self.partner = partners(tokens)
-        self._open = None
+        known = seen(tokens)
+        self.texts, self.partner = known.texts, known.partners()
 
     def text(self, i):
         """The spelling at an index, or nothing outside the list."""
-        return text_at(self.tokens, i)
+        return self.texts[i] if 0 <= i < len(self.texts) else ""
 
     def in_brace(self, i):
         """Whether any brace is open in front of a token."""
-        if self._open is None:
-            self._open = enclosing(self.tokens)
-        k = self._open[i]
-        while k >= 0 and self.tokens[k].text != "{":
-            k = self._open[k]
-        return k >= 0
+        before = self.texts[:i]
+        return before.count("{") > before.count("}")
 
     def is_type(self, i):
         """Whether a type name begins at an index."""
@@ -53,10 +49,12 @@ def brace(look, i):
 def behind_parenthesis(look, i, opening):
     """What a `{` at i behind the group in parentheses that begins at opening is, if it is outside the language."""
     called = look.text(opening - 1)
+    if called in CONTROL:
+        return None
     inside = look.in_brace(i)
     if called == ")" and not inside:
         return None
-    if look.is_type(opening + 1) and called not in CONTROL and not is_name(called):
+    if look.is_type(opening + 1) and not is_name(called):
         return "compound literal"
     return "nested function" if is_name(called) and look.is_function and inside else None
 
@@ -130,12 +128,12 @@ def constant(text):
 def forms(tokens, names, is_function=False):
     """The forms outside the language in these tokens, as a set of names."""
     look, found = Look(tokens, names, is_function), set()
-    for i, token in enumerate(tokens):
-        text = token.text
+    for i, text in enumerate(look.texts):
+        if text in LOOKS:
+            found.add(LOOKS[text](look, i))
+    for text in seen(tokens).words:
         if text in NAMED:
             found.add(NAMED[text])
-        elif text in LOOKS:
-            found.add(LOOKS[text](look, i))
         elif text[0] in "0uU" and len(text) > 2:
             found.add(constant(text))
     if is_function and late_declarations(tokens, look.partner, names):

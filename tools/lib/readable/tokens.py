@@ -5,6 +5,8 @@ from itertools import accumulate
 from .words import CLOSING, OPENING
 
 NOWHERE = -1
+BRACKETS = OPENING | CLOSING
+SHORT = 40
 # an attribute with its group is one piece where that is plain; what stands most often comes first
 PIECE = re.compile(r"""(
     __attribute__[ ]?\(\([^()"'/\#\n]*(?:\([^()"'/\#\n]*\)[^()"'/\#\n]*)*\)\)
@@ -56,13 +58,54 @@ def scanned(text):
     return pieces[1::2], list(accumulate(map(len, pieces)))[:-1:2]
 
 
+class Seen:
+    """What is asked again and again of one list of tokens, which isn't changed once it is made."""
+
+    def __init__(self, tokens):
+        self.tokens, self.texts = tokens, spellings(tokens)
+        self.words = frozenset(self.texts)
+        self._partners = None
+
+    def partners(self):
+        """For the index of each bracket that of its partner, both ways."""
+        if self._partners is None:
+            self._partners = partners_of(self.texts)
+        return self._partners
+
+
+class Last:
+    """The list of tokens that was asked about last, shorter ones apart."""
+
+    seen = Seen([])
+
+
+def seen(tokens):
+    """What is known of a list of tokens."""
+    if Last.seen.tokens is tokens and len(Last.seen.texts) == len(tokens):
+        return Last.seen
+    found = Seen(tokens)
+    if len(tokens) > SHORT:
+        Last.seen = found
+    return found
+
+
+def names_any(tokens, texts):
+    """Whether one of these spellings, which are a set, stands among tokens."""
+    return not texts.isdisjoint(seen(tokens).words)
+
+
 def partners(tokens):
     """For the index of each bracket that of its partner, both ways. Brackets without one aren't in it."""
+    return seen(tokens).partners() if len(tokens) > SHORT else partners_of(spellings(tokens))
+
+
+def partners_of(texts):
+    """The same of spellings."""
     found, waiting = {}, []
-    for i, token in enumerate(tokens):
-        if token.text in OPENING:
+    for i, text in [(i, text) for i, text in enumerate(texts) if text in BRACKETS]:
+        if text in OPENING:
             waiting.append(i)
-        elif token.text in CLOSING and waiting:
+        elif waiting:
             opening = waiting.pop()
             found[opening], found[i] = i, opening
     return found
@@ -114,15 +157,14 @@ def apply(rule, triggers, tokens, context):
     A rule is asked at each token whose spelling is among the triggers, as rule(tokens, i, partner, context). It answers None, or the new
     tokens and the index behind those that they replace.
     """
-    if triggers.isdisjoint(spellings(tokens)):
+    known = seen(tokens)
+    if triggers.isdisjoint(known.words):
         return tokens
-    partner, result, i = partners(tokens), [], 0
-    while i < len(tokens):
-        found = rule(tokens, i, partner, context) if tokens[i].text in triggers else None
-        if found is None:
-            result.append(tokens[i])
-            i += 1
-        else:
+    partner, result, done = known.partners(), [], 0
+    for i in [i for i, text in enumerate(known.texts) if text in triggers]:
+        found = rule(tokens, i, partner, context) if i >= done else None
+        if found is not None:
+            result += tokens[done:i]
             result += found[0]
-            i = found[1]
-    return result
+            done = found[1]
+    return result + tokens[done:] if done else tokens

@@ -1,6 +1,6 @@
 """Initial values: designators, and at file scope the values themselves, which give no event there."""
 from ..foreign import behind_designators, forms, is_foreign
-from ..tokens import NOWHERE, enclosing, partners, spellings, text_at
+from ..tokens import NOWHERE, enclosing, partners, seen, spellings, text_at
 from ..words import CLOSING, CONTROL, OPENING, is_name
 
 
@@ -25,7 +25,8 @@ def is_literal(tokens, k, partner, around):
 
 def designators(tokens, work):
     """`.m = v` and `[i] = v` as `v`: the order of values isn't looked at."""
-    if not {".", "["} & set(spellings(tokens)):
+    texts = seen(tokens).texts
+    if not any(text in (".", "[") and before in ("{", ",") for before, text in zip(texts, texts[1:])):
         return tokens
     partner = partners(tokens)
     lists, around = lists_of_values(tokens, partner)

@@ -1,7 +1,7 @@
 """`f(x) ?: b`, of which f may not be called twice: what it gives is kept in a variable in front of the statement, `{ T r = f(x); .. r ? r : b .. }`,
 where it is evaluated first and always, and where T is what f is declared to give."""
 from ..statements import divided
-from ..tokens import Token, partners, put_in, spellings, text_at
+from ..tokens import Token, names_any, partners, put_in, spellings, text_at
 from ..words import CLOSING, OPENING
 from .conditionals import condition_begin
 from .fresh import fresh_name
@@ -15,7 +15,7 @@ BEHIND_CONDITIONAL = {",", ";"}
 
 def kept_results(tokens, work):
     """All conditionals without a middle whose condition can stand in front."""
-    for _ in range(ROUNDS):
+    for _ in range(ROUNDS if names_any(tokens, {"?"}) else 0):
         partner = partners(tokens)
         changed = next((found for i in range(len(tokens) - 1, 0, -1)
                         if tokens[i].text == "?" and text_at(tokens, i + 1) == ":"

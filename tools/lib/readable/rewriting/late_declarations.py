@@ -1,14 +1,14 @@
 """Declarations in the head of a `for` and behind statements, which get a block of their own."""
 from ..blocks import late_declarations
 from ..statements import NoStatement, behind_semicolon, is_typed, statement_end
-from ..tokens import partners, put_in, spellings, text_at
+from ..tokens import names_any, partners, put_in, text_at
 
 ROUNDS = 200
 
 
 def declarations_in_heads(tokens, work):
     """`for (T i = 0; c; s) S` as `{ T i = 0; for (; c; s) S }`."""
-    if "for" not in spellings(tokens):
+    if not names_any(tokens, {"for"}):
         return tokens
     for _ in range(ROUNDS):
         partner = partners(tokens)

@@ -2,7 +2,7 @@
 
 The pointer is 0, not the last value, so that nothing that is known of a value is taken for what the literal holds."""
 from ..statements import is_typed
-from ..tokens import NOWHERE, Token, apply, enclosing, index_of, partners, put_in, spellings, text_at
+from ..tokens import NOWHERE, Token, apply, enclosing, index_of, names_any, partners, put_in, spellings, text_at
 from ..words import CONTROL, is_name
 
 FOREIGN_IN_TYPE = {"(", "{"}
@@ -49,4 +49,4 @@ def flat_values(tokens):
 
 def literals(tokens, work):
     """All compound literals that have a plain type, inner ones too."""
-    return apply(literal, {"("}, tokens, work) if "{" in spellings(tokens) else tokens
+    return apply(literal, {"("}, tokens, work) if names_any(tokens, {"{"}) else tokens

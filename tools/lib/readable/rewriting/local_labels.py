@@ -1,12 +1,12 @@
 """`__label__ l;` at the head of a block left out; l gets a name of its own where it stands elsewhere in the function too."""
-from ..tokens import Token, partners, spellings, text_at
+from ..tokens import Token, names_any, partners, spellings, text_at
 
 ROUNDS = 50
 
 
 def local_labels(tokens, work):
     """All local labels of blocks. One of a statement expression waits until that is a block."""
-    for number in range(1, ROUNDS):
+    for number in range(1, ROUNDS if names_any(tokens, {"__label__"}) else 1):
         at = next((i for i in range(2, len(tokens) - 2) if is_declared(tokens, i)), None)
         if at is None:
             return tokens

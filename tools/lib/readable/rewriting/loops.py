@@ -1,5 +1,5 @@
 """`do { S } while (0)`: what runs once, and assertions at compile time, which a compiler takes for nothing."""
-from ..tokens import NOWHERE, apply, index_of, partners, spellings, text_at
+from ..tokens import NOWHERE, apply, index_of, names_any, partners, spellings, text_at
 from .around import ends_value
 
 ASSERTION = "__compiletime_assert_"
@@ -44,7 +44,7 @@ def assertions(tokens, work):
 
 def plain_loops(tokens, work):
     """`do { S } while (0);` as `{ S }` where neither `break` nor `continue` stands in S: it isn't run again, and nothing leaves it."""
-    if "do" not in spellings(tokens):
+    if not names_any(tokens, {"do"}):
         return tokens
     partner, dropped = partners(tokens), set()
     for i, token in enumerate(tokens):

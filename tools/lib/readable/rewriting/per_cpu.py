@@ -2,7 +2,7 @@
 
 This comes before the types are looked at: what is read stands in a `typeof` alone."""
 from ..effects import only_reads
-from ..tokens import NOWHERE, apply, partners, put_in, spellings, text_at
+from ..tokens import NOWHERE, apply, names_any, partners, put_in, spellings, text_at
 from ..words import TYPEOF
 
 RESULTS = {"pscr_ret__", "pto_ret__", "pao_ret__"}
@@ -52,4 +52,4 @@ def pointer(body, name, work):
 
 def per_cpu_data(tokens, work):
     """All reads of per-CPU data and pointers to it."""
-    return tokens if TYPEOF.isdisjoint(spellings(tokens)) else apply(per_cpu, {"("}, tokens, work)
+    return apply(per_cpu, {"("}, tokens, work) if names_any(tokens, TYPEOF) else tokens

@@ -1,6 +1,6 @@
 """Statement expressions, from the innermost outward: as an expression with commas, a block, branches, or in front of the statement."""
 from ..statements import divided, is_label, is_typed
-from ..tokens import NOWHERE, Token, partners, put_in, spellings, text_at
+from ..tokens import NOWHERE, Token, partners, put_in, seen, spellings, text_at
 from ..words import KEYWORDS, WORD
 from .around import begins_statement, ends_value
 from .hoisting import in_front
@@ -26,8 +26,12 @@ def statement_expressions(tokens, work):
 
 def has_one(tokens):
     """Whether a statement expression is there at all."""
-    texts = spellings(tokens)
-    return any(first == "(" and second == "{" for first, second in zip(texts, texts[1:]))
+    texts, k = seen(tokens).texts, 0
+    for _ in range(texts.count("{")):
+        k = texts.index("{", k) + 1
+        if k > 1 and texts[k - 2] == "(":
+            return True
+    return False
 
 
 def last_one(tokens, work):

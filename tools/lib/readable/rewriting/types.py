@@ -1,5 +1,5 @@
 """`typeof` and `__auto_type`: as the type where it can be read off, and casts to an operand's own type left out."""
-from ..tokens import Token, apply, index_of, parts, partners, put_in, spellings, text_at
+from ..tokens import Token, apply, index_of, names_any, parts, partners, put_in, spellings, text_at
 from ..words import CLOSING, OPENING, QUALIFIERS, TYPEOF
 from .arithmetic import cast_type, has_name, is_arithmetic, operands
 from .lookup import declared_type, plain_type, typing
@@ -131,6 +131,6 @@ def is_alone(tokens, i):
 
 def plain_types(tokens, work):
     """All of the above."""
-    tokens = apply(own_type, {"("}, tokens, work) if not TYPEOF.isdisjoint(spellings(tokens)) else tokens
+    tokens = apply(own_type, {"("}, tokens, work) if names_any(tokens, TYPEOF) else tokens
     tokens = apply(automatic, {"__auto_type"}, tokens, work)
     return apply(plain_typeof, TYPEOF, tokens, work)
