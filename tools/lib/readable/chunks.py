@@ -1,9 +1,11 @@
 """A text in chunks: one for each declaration and each function, as metalcheck cuts it, but with whole old-style definitions."""
+import bisect
+import math
 import re
 
+from .bodies import Bodies
 from .places import Places
 from .shapes import PARTNER, behind_group, is_balanced
-from .stripping import Stripped
 from .tokens import NOWHERE, Token
 from .words import CLOSING, CONTROL, FOREIGN, OPENING, WORD, is_name
 
@@ -18,6 +20,10 @@ HINTS = [
     ("0", re.compile(r"0(?<!\w0)(?:[xX][0-9a-fA-F.]*[pP]|[bB][01])")),
     ("u", re.compile(r"(?<![\w\"'])u8?[\"']")), ("U", re.compile(r"(?<![\w\"'])U[\"']")),
     ("{", re.compile(r"\( (?:\w+ )*(?:struct|union|enum) (?:\w+ )?\{"))]
+
+
+class NotRead(Exception):
+    """No text can be made of a file, for the reason that is given."""
 
 
 class Chunk:
@@ -52,16 +58,55 @@ class Chunk:
 class Source:
     """A preprocessed text: its tokens without those that metalcheck strips, its chunks, and its places."""
 
-    def __init__(self, text):
-        self.text = text
-        stripped = Stripped(text)
+    def __init__(self, text, leaves_out=False):
+        """Bodies of functions of headers may be left out, until they are asked for."""
+        self.text, self.bodies = text, Bodies(text, leaves_out)
+        stripped = self.bodies.stripped()
         self.texts, self.starts, self.lines = stripped.texts, stripped.starts, stripped.lines
         self.line_starts = [line[0] for line in self.lines]
         self.places = Places(text, self.lines)
-        self.has_statement_expression = "({" in stripped.shape
+        self.has_statement_expression = "({" in stripped.shape or self.bodies.has_statement_expression
         self.fault = self.places.fault or (None if is_balanced(stripped.shape) else self._unbalanced())
         self.chunks = [] if self.fault else whole_definitions(self, plain_chunks(stripped.shape))
-        self._settle(stripped.groups)
+        own = {self.starts[chunk.body] + 1 for chunk in self.chunks if chunk.kind == FUNCTION}
+        others = [begin for begin in self.bodies.ends if begin not in own] if self.chunks else []
+        self._put_in(others)
+        self._settle(sorted([*stripped.groups, *(group for begin in others for group in self.bodies.made(begin).groups)]))
+
+    def is_left_out(self, chunk):
+        """Whether the body of a chunk has no tokens."""
+        return chunk.kind == FUNCTION and chunk.body + 2 == chunk.behind and self.starts[chunk.body] + 1 in self.bodies.ends
+
+    def all_texts(self, chunk):
+        """The spellings of a chunk as it came, with those that were left out."""
+        left_out = self.bodies.made(self.starts[chunk.body] + 1).texts if self.is_left_out(chunk) else []
+        return self.own_texts(chunk) + left_out
+
+    def put_in_bodies(self, chunks):
+        """Puts the tokens of bodies in, where they were left out."""
+        chunks = [chunk for chunk in chunks if self.is_left_out(chunk)]
+        for chunk in chunks:
+            for _, _, odd, cleanup in self.bodies.made(self.starts[chunk.body] + 1).groups:
+                chunk.odd_assembler |= odd
+                chunk.cleanup |= cleanup
+        self._put_in(sorted(self.starts[chunk.body] + 1 for chunk in chunks))
+
+    def _put_in(self, begins):
+        """Puts the tokens in that were left out at these positions, which are in order."""
+        if not begins:
+            return
+        texts, starts, done, shifts = [], [], 0, []
+        for begin in begins:
+            behind = bisect.bisect_left(self.starts, begin)
+            body = self.bodies.made(begin)
+            texts += self.texts[done:behind] + body.texts
+            starts += self.starts[done:behind] + body.starts
+            shifts.append((behind, len(body.texts)))
+            done = behind
+        self.texts, self.starts = texts + self.texts[done:], starts + self.starts[done:]
+        move_chunks(self.chunks, shifts)
+        if not all(is_balanced(self.bodies.made(begin).shape) for begin in begins):
+            self.fault = self._unbalanced()
 
     def _unbalanced(self):
         """The first bracket without a partner of its kind, in words, or nothing."""
@@ -142,6 +187,21 @@ class Source:
         lines = list(self.places.lines_at(file, line))
         return [chunk for chunk in self.chunks
                 if chunk.state != GONE and any(chunk.begin < end and begin < chunk.end for begin, end in lines)]
+
+
+def move_chunks(chunks, shifts):
+    """Moves chunks by what was put in: pairs of an index and a number of tokens."""
+    waiting, moved = iter([*shifts, (math.inf, 0)]), 0
+    at, number = next(waiting)
+    for chunk in chunks:
+        body, behind = chunk.body, chunk.behind
+        chunk.first += moved
+        chunk.body += moved if body != NOWHERE else 0
+        while at < behind:
+            moved += number
+            chunk.body += number if at <= body else 0
+            at, number = next(waiting)
+        chunk.behind += moved
 
 
 def plain_chunks(shape):

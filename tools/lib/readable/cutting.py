@@ -82,4 +82,4 @@ def values_of(texts):
 
 def names_that_are_lost(source):
     """The names in all declarations and functions that are gone."""
-    return {text for chunk in source.chunks if chunk.state == GONE for text in source.own_words(chunk) if is_name(text)}
+    return {text for chunk in source.chunks if chunk.state == GONE for text in source.all_texts(chunk) if is_name(text)}

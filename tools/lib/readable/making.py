@@ -5,8 +5,8 @@ import tempfile
 from collections import Counter
 
 from .asking import Program
-from .chunks import GONE, TRIMMED, WHOLE, Source
-from .judging import Judge, NotRead
+from .chunks import GONE, TRIMMED, WHOLE, NotRead, Source
+from .judging import Judge
 from .names import names_of
 from .places import unescaped
 from .preparing import keep_plain_loops, prepare
@@ -80,13 +80,14 @@ def make(record, options, program, folder):
     """Fills a record."""
     text = contents(record.path)
     # what surely isn't read is looked at without a question
-    source = Source(text) if options.always or STATEMENT_EXPRESSION in text else None
+    leaves_out = options.prune and not options.plain_loops
+    source = Source(text, leaves_out) if options.always or STATEMENT_EXPRESSION in text else None
     asks = not options.always and not (source and source.has_statement_expression)
     record.as_it_is = asks and program.refusal(record.path) is None
     if record.as_it_is and not options.plain_loops:
         record.text = text
         return
-    source = source or Source(text)
+    source = source or Source(text, leaves_out)
     if source.fault:
         raise NotRead(source.fault)
     names = names_of(source)

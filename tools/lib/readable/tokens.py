@@ -6,6 +6,7 @@ from .words import CLOSING, OPENING
 
 NOWHERE = -1
 BRACKETS = OPENING | CLOSING
+TEXT = re.compile(r"""(?:L|u8|u|U)?"(?:\\[^\n]|[^"\\\n])*"|[LuU]?'(?:\\[^\n]|[^'\\\n])+'""")
 SHORT = 40
 # an attribute with its group is one piece where that is plain; what stands most often comes first
 PIECE = re.compile(r"""(
@@ -17,8 +18,7 @@ PIECE = re.compile(r"""(
   | 0[xX][0-9a-fA-F.]*[pP][+-]?[0-9]+[A-Za-z0-9_.]*     # a hexadecimal floating constant
   | \.?[0-9](?:[eE][+-]|[A-Za-z0-9_.])*                 # any other number
   | /\*.*?\*/ | //[^\n]*                                # a comment
-  | (?:L|u8|u|U)?"(?:\\[^\n]|[^"\\\n])*"
-  | [LuU]?'(?:\\[^\n]|[^'\\\n])+'
+  | """ + TEXT.pattern + r"""
   | [A-Za-z_$][A-Za-z0-9_$]*
   | [^\ \t\v\f\r\n]
 )""", re.S | re.M | re.X)
