@@ -62,6 +62,26 @@ static int another(int a) { return ({ other(a); }); }
 int main_one(int a) { return lower(a); }
 int odd(int a) { return ({ a; }); }
 """
+# bodies of headers that brackets in literals, comments, marker lines, stripped groups and types could hide or end too early
+BODIES = """# 1 "main.c"
+# 1 "low.h" 1
+static inline __attribute__((cold)) int one(int a) { return a ? '}' : *"}{" + one(a / 2); }
+static int two(int a)
+{
+  if (a) { asm volatile("} { %0" : : "r" (a)); }
+# 9 "low.h"
+  return two(a);
+}
+static int three(int a) { return a; } static int four(int a) { int b __attribute__((cleanup(c))); return b; // }
+}
+struct packed __attribute__((packed)) { int a; };
+struct both __attribute__((packed)) { int a; } five(int a) { struct both b; return b; }
+const char *text = "six(int a) {"; int t[] = (int[]) { 1, 2 };
+old(a, b) int (*a)(void); { return 1; }
+static int seven(int a) { return 1; }
+# 3 "main.c" 2
+int main_one(int a) { if (a) { return seven(a); } return 2; }
+"""
 BAD = [
     (b"", "empty"),
     (b"\x7fELF\0\0\0", "bytes that are 0"),
@@ -215,6 +235,37 @@ class Promises(Folder):
         self.assertEqual(done.stderr, "readable: a.i: 0 of 2 functions aren't read; of headers 0 of 4; 2 pruned\n")
         self.assertEqual(text.count("return"), 4)
         self.assertEqual(self.made(PRUNED)[0].count("return"), 6)
+
+    def test_bodies_that_are_left_out(self):
+        """With the bodies put in that were left out, a text is cut into the same tokens and chunks."""
+        def seen(source):
+            chunks = [(chunk.first, chunk.behind, chunk.body, chunk.kind, chunk.begin, chunk.end, chunk.name, chunk.odd_assembler, chunk.cleanup)
+                      for chunk in source.chunks]
+            return source.texts, source.starts, source.lines, source.fault, chunks
+        for text, number in [(PRUNED, 4), (UNREAD, 1), (BODIES, 7), (BODIES.replace("// }", "/* } */"), 0), (PLACES, 1)]:
+            source = Source(text, leaves_out=True)
+            self.assertEqual(len(source.bodies.ends), number, text)
+            source.put_in_bodies(source.chunks)
+            self.assertEqual(seen(source), seen(Source(text)))
+
+    def test_pruned_bodies(self):
+        record = self.record(BODIES, prune=True)
+        self.assertEqual((record.fault, record.unread, record.pruned), (None, [], 6))
+        self.assertEqual(re.findall(r"return [^;]*", record.text), ["return 1", "return seven(a)", "return 2"])
+        text = BODIES.replace("int seven(int a) { return 1; }", "int seven(int a) { return (1; }")
+        self.assertEqual(self.record(text, prune=True).fault, "the text isn't balanced: `}` at low.h:17 has no partner")
+
+    def test_questions(self):
+        """What surely isn't read isn't asked about as it is. A refusal's place says what is refused, where one declaration stands there."""
+        whole = "int a(int b) { return ({ b; }); }\n"
+        named = '# 1 "m.c"\n' + whole
+        for text, unread, runs in [
+                (whole, [], 1), (READ, [], 1), (named + "int c(void) { return x; }\n", ["c"], 2),
+                (named + "int c(void) { return x; } int d(void) { return 1; }\n", ["c"], 3),
+                (named + "int c(void) { return 1; }\n" * 4, ["c"] * 3, 2),
+                (named + "".join(f"int c{k}(void) {{ return x; }}\n" for k in range(7)), [f"c{k}" for k in range(7)], 10)]:
+            record = self.record(text)
+            self.assertEqual(([one.name for one in record.unread], record.runs), (unread, runs), text)
 
     def test_approximations_are_named(self):
         text = "int f(int a) { return __builtin_choose_expr(1, a, 2) + ({ int b = a; b * b; }); }\n"

@@ -1,8 +1,9 @@
 """The first step: chunks are pruned and rewritten, and what surely isn't read is cut without a question."""
 from .blocks import late_declarations
-from .chunks import FUNCTION, GONE, LITERAL, OLD_STYLE, PROTOTYPE, REST, may_be_foreign, needs_a_look
+from .chunks import FUNCTION, GONE, LITERAL, OLD_STYLE, PROTOTYPE, REST
 from .cutting import cut, prototype, trim
 from .foreign import forms
+from .hints import may_be_foreign, needs_a_look
 from .pruning import unreached
 from .rewriting import loops_rewritten, rewritten
 from .rewriting.late_declarations import declares_in_head
