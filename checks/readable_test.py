@@ -252,8 +252,9 @@ class Promises(Folder):
         record = self.record(BODIES, prune=True)
         self.assertEqual((record.fault, record.unread, record.pruned), (None, [], 6))
         self.assertEqual(re.findall(r"return [^;]*", record.text), ["return 1", "return seven(a)", "return 2"])
-        text = BODIES.replace("int seven(int a) { return 1; }", "int seven(int a) { return (1; }")
-        self.assertEqual(self.record(text, prune=True).fault, "the text isn't balanced: `}` at low.h:17 has no partner")
+        for before, line in [("seven(int a) { return ", 17), ("three(int a) { return ", 11)]:
+            text = BODIES.replace(before, before + "(")
+            self.assertEqual(self.record(text, prune=True).fault, f"the text isn't balanced: `}}` at low.h:{line} has no partner")
 
     def test_questions(self):
         """What surely isn't read isn't asked about as it is. A refusal's place says what is refused, where one declaration stands there."""

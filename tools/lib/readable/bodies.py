@@ -3,37 +3,38 @@ import bisect
 import re
 
 from .places import Places
+from .shapes import are_pairs, is_balanced
 from .stripping import Stripped
-from .tokens import TEXT
+from .tokens import BRACKETS, TEXT
 
 LINE = re.compile(r"\n([ \t]*#[^\n]*)")
 BEGIN = re.compile(r"\)[ \t\n]*\{")
 SIGN = re.compile(r"[{}\"'/#]")
 ODD = re.compile(r"[\"'#]|//")
 HIDING = re.compile(r"[\"'#]|asm|__attribute")
+BRACKETS_ALONE = {character: None for character in range(256) if chr(character) not in BRACKETS}
 
 
 class Bodies:
     """The bodies that are left out of the tokens of a text: `ends` has for the position behind each `{` that of its `}`."""
 
     def __init__(self, text, leaves_out):
-        self.text, self.ends = text, {}
-        self.has_statement_expression = False
-        self._made = {}
+        self.text, self.ends, self._made = text, {}, {}
         # a `{` in a comment would be taken for one of the text
         if leaves_out and "/*" not in text:
             self._find(Places(text, lines_of(text)))
+        if not all(self._is_balanced(begin) for begin in self.ends):
+            self.ends = {}  # the fault is told by the tokens of the whole
+        self.has_statement_expression = any(surely_has_one(text[begin:end]) for begin, end in self.ends.items())
 
     def _find(self, places):
         """Finds the bodies of headers by their brackets."""
         at = 0
         while places.fault is None and (found := BEGIN.search(self.text, at)) is not None:
             at = found.end()
-            if not places.in_main(at - 1) and self._is_plain_line(found.start()):
-                close = self._close(at - 1)
-                if close:
-                    self.has_statement_expression = self.has_statement_expression or surely_has_one(self.text[at:close])
-                    self.ends[at], at = close, close
+            close = self._close(at - 1) if not places.in_main(at - 1) and self._is_plain_line(found.start()) else 0
+            if close:
+                self.ends[at], at = close, close
 
     def _is_plain_line(self, at):
         """Whether a position stands in no literal, in no comment and in no line that begins with #."""
@@ -56,6 +57,12 @@ class Bodies:
                 if not at:
                     return 0
         return 0
+
+    def _is_balanced(self, begin):
+        """Whether each bracket of a body has a partner of its kind. Mostly that is seen without its tokens."""
+        text = self.text[begin:self.ends[begin]]
+        plain = TEXT.sub("", LINE.sub("", text)) if ODD.search(text) is not None else text
+        return are_pairs(plain.translate(BRACKETS_ALONE)) or is_balanced(self.made(begin).shape)
 
     def _behind(self, sign, i):
         """The position behind the literal or the line that begins with a sign at i, or 0 where it is neither."""

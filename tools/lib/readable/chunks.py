@@ -15,10 +15,6 @@ MOST_OLD_PARAMETERS = 40
 NEXT = re.compile(r"[;([{]")
 
 
-class NotRead(Exception):
-    """No text can be made of a file, for the reason that is given."""
-
-
 class Chunk:
     """A declaration or a function: its tokens [first, behind) of the text, the positions that it covers, and what becomes of it."""
 
@@ -98,8 +94,6 @@ class Source:
             done = behind
         self.texts, self.starts = texts + self.texts[done:], starts + self.starts[done:]
         move_chunks(self.chunks, shifts)
-        if not all(is_balanced(self.bodies.made(begin).shape) for begin in begins):
-            self.fault = self._unbalanced()
 
     def _unbalanced(self):
         """The first bracket without a partner of its kind, in words, or nothing."""

@@ -4,7 +4,7 @@ The question is the text that is to be written. Mostly the place of a refusal sa
 refusals are many, each chunk gets a presumed file of its own, so that a refusal names it."""
 import os
 
-from .chunks import GONE, TRIMMED, WHOLE, NotRead
+from .chunks import GONE, TRIMMED, WHOLE
 from .cutting import cut, names_that_are_lost, prototype, trim_those_that_name
 from .losing import cut_what_rests
 from .tokens import spellings
@@ -14,6 +14,10 @@ from .writing import Writer
 EARLY_FAULTS = {"BadByte", "OpenText", "BadNumber", "BadMarker", "Syntax", "TooLarge"}
 DUPLICATE = "DuplicateFunction"
 MOST_PLACES = 3
+
+
+class NotRead(Exception):
+    """No text can be made of a file, for the reason that is given."""
 
 
 class Judge:

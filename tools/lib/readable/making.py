@@ -5,8 +5,8 @@ import tempfile
 from collections import Counter
 
 from .asking import Program
-from .chunks import GONE, TRIMMED, WHOLE, NotRead, Source
-from .judging import Judge
+from .chunks import GONE, TRIMMED, WHOLE, Source
+from .judging import Judge, NotRead
 from .names import names_of
 from .places import unescaped
 from .preparing import keep_plain_loops, prepare

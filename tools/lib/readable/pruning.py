@@ -1,5 +1,4 @@
 """Pruning: functions of headers that no function of the main file names, directly or through others, need no body."""
-from .chunks import NotRead
 
 
 def unreached(source):
@@ -18,6 +17,4 @@ def unreached(source):
         kept |= set(found)
         waiting += found
     source.put_in_bodies([chunk for chunk in functions if chunk in kept])
-    if source.fault:
-        raise NotRead(source.fault)
     return [chunk for chunk in functions if chunk not in kept]

@@ -33,10 +33,14 @@ def behind_group(shape, i):
 
 def is_balanced(shape):
     """Whether each bracket has a partner of its kind, where that is seen by taking pairs away from the inside."""
-    left = shape.translate(BRACKETS_ALONE)
+    return are_pairs(shape.translate(BRACKETS_ALONE))
+
+
+def are_pairs(brackets):
+    """The same of brackets alone."""
     for _ in range(MOST_ROUNDS):
-        before = len(left)
-        left = left.replace("()", "").replace("[]", "").replace("{}", "")
-        if len(left) == before:
+        before = len(brackets)
+        brackets = brackets.replace("()", "").replace("[]", "").replace("{}", "")
+        if len(brackets) == before:
             break
-    return not left
+    return not brackets
