@@ -239,8 +239,8 @@ class Promises(Folder):
     def test_bodies_that_are_left_out(self):
         """With the bodies put in that were left out, a text is cut into the same tokens and chunks."""
         def seen(source):
-            chunks = [(chunk.first, chunk.behind, chunk.body, chunk.kind, chunk.begin, chunk.end, chunk.name, chunk.odd_assembler, chunk.cleanup)
-                      for chunk in source.chunks]
+            chunks = [(chunk.first, chunk.behind, chunk.body, chunk.kind, chunk.begin, chunk.end, chunk.name, chunk.odd_assembler,
+                       chunk.cleanup) for chunk in source.chunks]
             return source.texts, source.starts, source.lines, source.fault, chunks
         for text, number in [(PRUNED, 4), (UNREAD, 1), (BODIES, 7), (BODIES.replace("// }", "/* } */"), 0), (PLACES, 1)]:
             source = Source(text, leaves_out=True)

@@ -86,6 +86,7 @@ class Bodies:
         found.starts = moved(found.starts, places, removed)
 
         def whole(at):
+            """A position in the whole text."""
             return at + removed[bisect.bisect_right(places, at)]
         found.groups = [(whole(begin), whole(end - 1) + 1, *rest) for begin, end, *rest in found.groups]
         odd = {whole(begin): line for begin, _, line in found.lines}

@@ -59,17 +59,15 @@ class Judge:
 
     def _cut_duplicates(self):
         """Leaves one body of each name, where no body has a fault of its own. Says whether one was cut."""
-        by_name = {}
+        by_name, found = {}, False
         for chunk in self.source.chunks:
-            if chunk.is_function() and chunk.state == WHOLE:
+            if chunk.is_function():
                 by_name.setdefault(chunk.name, []).append(chunk)
-        several = [same for same in by_name.values() if len(same) > 1]
-        for same in several:
-            while len(same) > 1:
-                least = self._least_wanted(same)
-                same.remove(least)
-                self._cut(least, DUPLICATE)
-        return several != []
+        for same in by_name.values():
+            while len(whole := [chunk for chunk in same if chunk.state == WHOLE]) > 1:
+                self._cut(self._least_wanted(whole), DUPLICATE)
+                found = True
+        return found
 
     def _least_wanted(self, same):
         """Of functions of one name the second, if it is a header's; else the first of a header, or the second where there is none."""
@@ -84,7 +82,7 @@ class Judge:
         cut_what_rests(self.source, self.names)
 
     def _mended_by_chunk(self):
-        """Asks about chunks, and cuts what is refused: one at first, and all that is refused once that was often. Says whether anything was."""
+        """Asks about chunks and cuts what is refused: one at first, and all of it where that was often. Says whether anything was."""
         read, cut_any = 0, False
         while (asked := self._asked(read)) is not None:
             k, fault = asked
@@ -96,7 +94,7 @@ class Judge:
         return cut_any
 
     def _asked(self, read):
-        """The index of the chunk that is refused and the fault, or None. Functions in front of an index were read, and stand as prototypes."""
+        """The index of the chunk that is refused and the fault, or None. What stands in front of an index was read."""
         pieces = [f'# 1 "{k}"\n{self._spelled(chunk, k < read)}\n' for k, chunk in enumerate(self.source.chunks) if chunk.state != GONE]
         refusal = self._refusal("asked.i", "".join(pieces))
         if refusal is None:
