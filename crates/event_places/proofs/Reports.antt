@@ -150,7 +150,7 @@ module _ (c : Checker) (ts : List Text) (stand : StandInFiles ts) where
 
   -- an event in the text of a definition, over the tokens of its file
   in-definition : (F : Facts) (d : Defined) (tokens : List Token) (e : Event) → Places (HaveTokenAt tokens) (line_of d.body) → is_declaration e ≡ false
-      → InFlow (EventMark e) (flow_of F d.place d.body) ⊎ (EventMark e ≡ EventMark (Exited d.place (closing_brace tokens (first_of d.body)))) → HaveTokenAt tokens (event_place e)
+      → InFlow (EventMark e) (flow_of F d.place d.body) ⊎ (◌≡◌ {A = Item} (EventMark e) (EventMark (Exited d.place (closing_brace tokens (first_of d.body))))) → HaveTokenAt tokens (event_place e)
   in-definition F d tokens e places n (inl i) =
       stood-at tokens e n (of-flow (Stood (HaveTokenAt tokens) (λ x. ⊤)) (EventMark e) (flow_of F d.place d.body) (flow-all (HaveTokenAt tokens) (λ x. ⊤) F (λ g x k. tt) d.place d.body places) i)
   in-definition F d tokens e places n (inr i) =
@@ -167,7 +167,7 @@ module _ (c : Checker) (ts : List Text) (stand : StandInFiles ts) where
       ap (λ (o : Option Defined). if_there o (empty f.place) (with_close ts)) w.first ∙ ap (λ (us : List Token). record { place = w.defined.place; body = w.defined.body; close = closing_brace us (first_of w.defined.body) }) (at w.defined.file file) in
       let there : HaveTokenAt k.text.tokens (event_place x.event) =
       in-definition (flow_facts ts f) w.defined k.text.tokens x.event k.is_of.body (ap (λ (y : Happening). is_declaration y.event) (sym x.is) ∙ n)
-      (subst (λ (D : Definition). InFlow (EventMark x.event) (flow_of (flow_facts ts f) D.place D.body) ⊎ (EventMark x.event ≡ EventMark (Exited D.place D.close))) is x.stands) in
+      (subst (λ (D : Definition). InFlow (EventMark x.event) (flow_of (flow_facts ts f) D.place D.body) ⊎ (◌≡◌ {A = Item} (EventMark x.event) (EventMark (Exited D.place D.close)))) is x.stands) in
       subst (λ (y : Happening). HaveTokenAt y.tokens (event_place y.event)) (sym x.is) (subst (λ (us : List Token). HaveTokenAt us (event_place x.event)) (sym (at f.place.file own)) there)
 
   module _ {f : Function} {k : Bool} {p q : K.Place} {b : Callers (model c) (program c ts)} (P : Path (model c) (program c ts) f k p b) (h : Happening) (goes : K.Goes f p h q) where

@@ -17,7 +17,7 @@ pub record HaveTokenAt (ts : List Token) (p : Place) : Type 0 where
 pub further : (t : Token) (ts : List Token) (p : Place) → HaveTokenAt ts p → HaveTokenAt (t ∷ ts) p
 further t ts p h = record { token = h.token; among = inr h.among; place = h.place }
 
-is-there : (p : Place) (t : Token) → t.place ≡ p → is_at p t ≡ true
+pub is-there : (p : Place) (t : Token) → t.place ≡ p → is_at p t ≡ true
 is-there p t e = subst (λ (q : Place). is_at q t ≡ true) e (rw (eq-eqb t.place.file t.place.file refl) (eq-eqb t.place.token t.place.token refl))
 
 -- the first one there is found

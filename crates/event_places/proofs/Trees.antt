@@ -225,7 +225,7 @@ module _ (P : Place → Type 0) (V : Variable → Type 0) (F : Facts) (variables
 
       iteration-all : (k : IterationShape) → Places P (iteration_line k) → EachInFlow (Stood P V) (iteration_flow F f k)
       iteration-all (While condition body) h = (form-all condition h.0.0.1, flow-all body h.1)
-      iteration-all (Do body condition) h = (flow-all body h.0.0.0.0.0.1, form-all condition h.0.0.1)
+      iteration-all (Do body condition) h = (form-all condition h.0.0.1, flow-all body h.0.0.0.0.0.1)
       iteration-all (For first condition step body) h = (maybe-row first h.0.0.0.0.0.0.1, maybe-form condition h.0.0.0.0.1, maybe-row step h.0.0.1, flow-all body h.1)
       iteration-all (ForDeclaration declaration condition step body) h = (declaration-all declaration h.0.0.0.0.0.1, maybe-form condition h.0.0.0.0.1, maybe-row step h.0.0.1, flow-all body h.1)
 

@@ -11,7 +11,7 @@ use Rattle.call_graph.specs.Followed.{machine_calls}
 use Rattle.call_graph.specs.OfPrograms.Calls.{body_called}
 use Rattle.flow_graph.specs.CPaths.BlockGraphs.{events_at, block_graphs}
 use Rattle.flow_graph.specs.CPaths.Building.{Graph, graph_of}
-use Rattle.flow_graph.specs.CPaths.Events.{Event, Exited}
+use Rattle.flow_graph.specs.CPaths.Events.{Event, Exited, Item}
 use Rattle.flow_graph.specs.CPaths.Graphs.{Block}
 use Rattle.flow_graph.specs.CPaths.Occurrences.{InFlow, InEvents, InGraph}
 use Rattle.flow_graph.specs.CPaths.TreeFlow.{flow_of}
@@ -95,7 +95,7 @@ module _ (c : Checker) (ts : List Text) where
   pub record IsInText (f : Function) (h : Happening) : Type 0 where
     pub event : Event
     pub is : h ≡ happening ts f event
-    pub stands : InFlow (EventMark event) (flow_of (flow_facts ts f) (definition_of ts f).place (definition_of ts f).body) ⊎ (EventMark event ≡ EventMark (Exited (definition_of ts f).place (definition_of ts f).close))
+    pub stands : InFlow (EventMark event) (flow_of (flow_facts ts f) (definition_of ts f).place (definition_of ts f).body) ⊎ (◌≡◌ {A = Item} (EventMark event) (EventMark (Exited (definition_of ts f).place (definition_of ts f).close)))
 
   event-in-text : (f : Function) (h : Happening) → EventOf (model c) (program c ts) f h → IsInText f h
   event-in-text f h e =
