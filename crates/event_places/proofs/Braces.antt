@@ -1,5 +1,5 @@
 -- In a line whose kept tokens are no braces, each brace that opens is closed in the line.
-use Rattle.std.proofs.Common.{◌≡◌, ℕ, suc, ◌-◌, leb, List, [], ◌∷◌, ◌++◌, Bool, true, false, cond, ◌||◌, Option, None, Some, refl, sym, ap, ◌∙◌, arith}
+use Rattle.std.proofs.Common.{◌≡◌, ℕ, suc, ◌-◌, leb, List, [], ◌∷◌, ◌++◌, Bool, true, false, cond, ◌||◌, Option, Some, refl, ap, ◌∙◌, arith}
 use borrow.Author.Tests.{lt-leb}
 use Rattle.c_tree.specs.declared.keyword.Keyword.{Keyword}
 use Rattle.c_tree.specs.declared.operator.AssignOp.{AssignOp}
@@ -13,7 +13,7 @@ use Rattle.c_tree.specs.declared.token.Token.{Token}
 use Rattle.c_tree.specs.declared.token.TokenKind.{TokenKind}
 use Rattle.c_tree.specs.declared.token.TokenKind.TheVariants as kinds
 use Rattle.c_tree.specs.Node.{Node, node, Shape}
-use Rattle.c_tree.specs.Symbol.{Symbol, Word, Reserved, Sign, IntLiteral, FloatLiteral, CharLiteral, StringLiteral, symbol_as, symbol_of, symbols_of}
+use Rattle.c_tree.specs.Symbol.{Symbol, Reserved, Sign, symbol_as, symbol_of, symbols_of}
 use Rattle.c_tree.specs.Tokens.{binary_sign, assign_sign}
 use Rattle.c_grammar.specs.CPlaces.Lines.{Line, nothing, kept, all_kept, fixed, at, numbered, names, ◌⨾◌, sign, line_of, shape_line}
 use Rattle.c_grammar.specs.CPlaces.Stands.{Stands, OfNothing, OfKept, OfAll, OfFixed, OfPlace, OfNumber, OfName, OfBoth}

@@ -1,33 +1,28 @@
 -- The trees of the grammar have calm lines: the only braces in them are those of bodies, initial values and blocks.
-use Rattle.std.proofs.Common.{◌≡◌, ℕ, nat_eq, suc, List, [], ◌∷◌, Bool, true, false, ◌||◌, not, Option, None, Some, inl, inr, refl, sym, ap, ◌∙◌}
-use Rattle.std.proofs.lemmas.Bool.{true≢false}
-use Rattle.std.specs.Prelude.{⊤}
+use Rattle.std.proofs.Common.{◌≡◌, nat_eq, List, [], ◌∷◌, Bool, true, false, ◌||◌, not, Option, None, Some, inl, inr, refl, ap}
 use Rattle.std.specs.Option.{option_map}
-use Rattle.c_tree.specs.declared.keyword.Keyword.{Keyword}
 use Rattle.c_tree.specs.declared.keyword.Keyword.TheVariants as words
-use Rattle.c_tree.specs.declared.operator.StructOrUnion.{StructOrUnion}
 use Rattle.c_tree.specs.declared.operator.UnaryOp.{UnaryOp}
 use Rattle.c_tree.specs.declared.operator.UnaryOp.TheVariants as unary
-use Rattle.c_tree.specs.declared.place.Place.{Place}
 use Rattle.c_tree.specs.declared.punctuator.Punctuator.{Punctuator}
 use Rattle.c_tree.specs.declared.punctuator.Punctuator.TheVariants as marks
 use Rattle.c_tree.specs.declared.token.Token.{Token}
 use Rattle.c_tree.specs.Codes.{punctuator_code}
-use Rattle.c_tree.specs.Forget.{syntax_of, shape_syntax, primary_syntax, operation_syntax, initializer_syntax, specifier_syntax, declarator_syntax, part_syntax, outer_syntax, statement_syntax, iteration_syntax, jump_syntax, maybe_syntax, syntaxes_of}
-use Rattle.c_tree.specs.Node.{Node, node, Primary, Operation, Initializer, Specifier, Declarator, Part, Outer, Statement, Iteration, Jump, PrimaryShape, OperationShape, InitializerShape, SpecifierShape, DeclaratorShape, PartShape, OuterShape, StatementShape, IterationShape, JumpShape, Ident, Constant, StrConst, Paren, VaArg, Offsetof, Hole, Index, Call, Member, Arrow, CompoundLit, Unary, SizeofType, Cast, Binary, Cond, Assign, Init, Braces, Designated, TypeName, Specs, StructTag, StructBody, EnumTag, EnumBody, StructDeclaration, BitField, Param, Named, Nested, Unnamed, SpecWord, ArrayBound, VoidParams, Params, Enumerator, MemberDesignator, IndexDesignator, Declaration, Function, Empty, Block, ExprStmt, If, Switch, Case, Default, Label, While, Do, For, ForDeclaration, Goto, Continue, Break, Return, MaybeNode, absent, present, Nodes, no_more, more}
+use Rattle.c_tree.specs.Forget.{syntax_of, primary_syntax, operation_syntax, initializer_syntax, specifier_syntax, declarator_syntax, part_syntax, statement_syntax, iteration_syntax, jump_syntax, maybe_syntax, syntaxes_of}
+use Rattle.c_tree.specs.Node.{Node, node, Primary, Operation, Initializer, Specifier, Declarator, Part, Outer, Statement, Iteration, Jump, PrimaryShape, OperationShape, InitializerShape, SpecifierShape, DeclaratorShape, PartShape, StatementShape, IterationShape, JumpShape, Ident, Constant, StrConst, Paren, VaArg, Offsetof, Hole, Index, Call, Member, Arrow, CompoundLit, Unary, SizeofType, Cast, Binary, Cond, Assign, Init, Braces, Designated, TypeName, Specs, StructTag, StructBody, EnumTag, EnumBody, StructDeclaration, BitField, Param, Named, Nested, Unnamed, SpecWord, ArrayBound, VoidParams, Params, Enumerator, MemberDesignator, IndexDesignator, Declaration, Function, Empty, Block, ExprStmt, If, Switch, Case, Default, Label, While, Do, For, ForDeclaration, Goto, Continue, Break, Return, MaybeNode, absent, present, Nodes, no_more, more}
 use Rattle.c_tree.specs.Symbol.{Symbol, Word, Reserved, Sign, IntLiteral, FloatLiteral, CharLiteral, StringLiteral, symbol_of, symbols_of}
 use Rattle.c_tree.specs.Tokens.{binary_sign, assign_sign, word_of}
-use Rattle.c_grammar.specs.CPlaces.Lines.{Line, nothing, kept, all_kept, fixed, at, numbered, ◌⨾◌, sign, line_of, primary_line, operation_line, initializer_line, specifier_line, declarator_line, part_line, outer_line, statement_line, iteration_line, jump_line, unary_line, maybe_line, assigned_line, else_line, row_line, list_line, more_line, tag_if, comma_if, ellipsis_if, declared_token}
+use Rattle.c_grammar.specs.CPlaces.Lines.{Line, kept, all_kept, line_of, primary_line, operation_line, initializer_line, specifier_line, declarator_line, part_line, statement_line, iteration_line, jump_line, unary_line, maybe_line, assigned_line, else_line, row_line, list_line, more_line, tag_if, comma_if, ellipsis_if, declared_token}
 use Rattle.c_grammar.specs.Grammar.{IsOrdinary, AreStrings, IsItem, AreItems, AreSpecifiers, IsTag, is_pointer_word, ArePointers, is_bound_word, IsExpr, IsPrimary, IsOperation, AreArguments, IsPath, IsDesignator, IsDesignatorPart, IsTypeName, IsTypeNameSpecifier, IsMaybeDeclarator, IsDeclarator, IsDirect, AreSuffixes, IsSuffix, IsSuffixPart, IsBound, AreParams, IsParam, IsParamSpecifier}
 use Rattle.c_grammar.specs.Names.{Names, with_param}
 use Rattle.c_grammar.specs.Nonterminal.{Form, Abstract, Either, WithName}
 use Rattle.c_grammar.specs.Specifiers as specifiers
 use Rattle.c_grammar.specs.Specifiers.{is_specifier, types}
 use Rattle.c_grammar.specs.Symbols.{is_sign, is_word, is_string, is_constant, AreAll}
-use Rattle.c_grammar.specs.UnitGrammar.Declarations.{IsConstant, IsMaybeConstant, IsMaybeTag, IsEnumerator, AreEnumerators, IsMemberDeclarator, AreMemberDeclarators, AreFullSpecifiers, AreSpecs, AreFullItems, IsFullItem, IsTagged, AreMembers, IsMember, IsMemberDeclaration, IsInitial, IsBraces, AreInitials, IsInitDeclarator, AreInitDeclarators, IsDeclaration}
-use Rattle.c_grammar.specs.UnitGrammar.Names.{declared, declared_name}
+use Rattle.c_grammar.specs.UnitGrammar.Declarations.{IsMaybeConstant, IsMaybeTag, IsEnumerator, AreEnumerators, IsMemberDeclarator, AreMemberDeclarators, AreFullSpecifiers, AreSpecs, AreFullItems, IsFullItem, IsTagged, AreMembers, IsMember, IsMemberDeclaration, IsInitial, IsBraces, AreInitials, IsInitDeclarator, AreInitDeclarators, IsDeclaration}
+use Rattle.c_grammar.specs.UnitGrammar.Names.{declared}
 use Rattle.c_grammar.specs.UnitGrammar.Statements.{IsMaybeExpr, IsStatement, IsPlain, IsElse, IsIteration, IsJump, AreBlockItems, AreStatements}
-use Rattle.event_places.proofs.Braces.{is_brace, IsCalm, calm-nothing, calm-kept, calm-all, calm-fixed, calm-at, calm-numbered, calm-names, ◌⨟◌, open-brace, calm-open, open-calm, close-brace, calm-node, calm-sign, calm-keyword, binary-plain, assign-plain}
+use Rattle.event_places.proofs.Braces.{is_brace, IsCalm, calm-nothing, calm-kept, calm-all, calm-at, calm-names, ◌⨟◌, open-brace, calm-open, open-calm, close-brace, calm-node, calm-sign, calm-keyword, binary-plain, assign-plain}
 
 -- SYMBOLS that are no braces
 word-plain : (s : Symbol) → is_word s ≡ true → is_brace s ≡ false

@@ -1,5 +1,5 @@
 -- What holds of each item that stands in a form, a row or a flow.
-use Rattle.std.proofs.Common.{◌≡◌, Bool, true, false, Option, None, Some, inl, inr, sym, subst}
+use Rattle.std.proofs.Common.{Bool, true, false, Option, None, Some, inl, inr, sym, subst}
 use Rattle.std.specs.Prelude.{⊤}
 use Rattle.path_theory.specs.Marks.{EventMark}
 use Rattle.flow_graph.specs.CPaths.Events.{Item, branched}

@@ -1,6 +1,6 @@
 -- Each event of a path stands at a token, so each rule with an action that is taken there has its report.
-use Rattle.std.proofs.Common.{◌≡◌, ◌⊎◌, ℕ, suc, leb, ◌+◌, ◌-◌, List, [], ◌∷◌, slice_get, Bool, true, false, cond, not, nat_eq, ◌&&◌, ◌||◌, Option, None, Some, inl, inr, refl, sym, ap, subst, ◌∙◌, arith}
-use Rattle.std.specs.Prelude.{⊤, filter}
+use Rattle.std.proofs.Common.{◌≡◌, ◌⊎◌, ℕ, suc, leb, ◌-◌, List, [], ◌∷◌, Bool, true, false, cond, not, nat_eq, ◌&&◌, ◌||◌, Option, None, Some, inl, inr, refl, sym, ap, subst, ◌∙◌, arith}
+use Rattle.std.specs.Prelude.{⊤}
 use Rattle.std.specs.Option.{option_map}
 use Rattle.c_objects.specs.Objects.{Object}
 use Rattle.c_tree.specs.Node.{Node, node}
@@ -21,16 +21,15 @@ use Rattle.call_graph.specs.FunctionGraphs.Closing.{opens, closes, closing, clos
 use Rattle.hole_matching.specs.Holes.{Setting}
 use Rattle.hole_matching.specs.Matching.{Binding}
 use Rattle.metal_tree.specs.MetalMachines.Machine.{stop, Rule, Machine, Piece}
-use Rattle.path_theory.specs.Marks.{Mark, EventMark}
-use Rattle.path_theory.specs.Paths.{Callers, Path, after, Reported, ReportOf, ReportOfGlobal}
+use Rattle.path_theory.specs.Marks.{EventMark}
+use Rattle.path_theory.specs.Paths.{Callers, Path, after, ReportOf, ReportOfGlobal}
 use Rattle.path_theory.specs.Supergraph.{Supergraph}
 use Rattle.path_model.specs.CheckerModel.Checkers.{model, source_at}
 use Rattle.path_model.specs.CheckerModel.Choices.{State, Taken, first_some, applied, by_alternative, target_at, variable_of, leads_to_global, from_global, from_object, always, binds, is_exit, is_asked, is_global_asked, global_rule, unknown_rule, known_rule, object_rule, scene, taken, taken_global}
 use Rattle.path_model.specs.CheckerModel.Happenings.{Function, Happening}
 use Rattle.path_model.specs.CheckerModel.Reports.{Checker, token_at, report_at, report_of}
 use Rattle.path_model.specs.CheckerPrograms.Paths.{program}
-use Rattle.path_model.specs.CheckerPrograms.Texts.{functions_in, function_of, defined_as, definition_of, empty, with_close, flow_facts, tokens_of, happening}
-use Rattle.report_model.specs.declared.report.Report.{Report}
+use Rattle.path_model.specs.CheckerPrograms.Texts.{functions_in, definition_of, empty, with_close, flow_facts, tokens_of}
 use Rattle.typed_unit.specs.Texts.{Text}
 use Rattle.typed_unit.specs.TokenSearch.Numbers.{from}
 use Rattle.event_places.specs.Standing.{StandInFiles}

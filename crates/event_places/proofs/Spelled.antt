@@ -1,5 +1,5 @@
 -- The tokens over which a tree stands are those of its line of the grammar.
-use Rattle.std.proofs.Common.{◌≡◌, ℕ, suc, List, [], ◌∷◌, ◌++◌, map, length, take, Bool, true, false, Option, None, Some, refl, sym, ap, ◌∙◌, append_assoc}
+use Rattle.std.proofs.Common.{◌≡◌, ℕ, List, [], ◌∷◌, ◌++◌, Bool, true, false, Option, None, Some, refl, sym, ap, ◌∙◌, append_assoc}
 use Rattle.std.proofs.lemmas.List.{map-append, append-nil}
 use Rattle.std.specs.Option.{option_map}
 use Rattle.c_tree.specs.declared.keyword.Keyword.TheVariants as words
@@ -15,8 +15,8 @@ use Rattle.c_tree.specs.Phrase.{Phrase, nothing as no_phrase, one, all, ◌⨾�
 use Rattle.c_tree.specs.Symbol.{Symbol, Reserved, Sign, symbol_of, symbols_of}
 use Rattle.c_tree.specs.Tokens as tokens
 use Rattle.c_tree.specs.Tokens.{binary_sign, assign_sign, word_of, phrase_of, primary_phrase, operation_phrase, initializer_phrase, specifier_phrase, declarator_phrase, part_phrase, outer_phrase, statement_phrase, iteration_phrase, jump_phrase, unary_phrase, maybe_phrase, assigned_phrase, else_phrase, row_phrase, list_phrase, more_phrase, tokens_of}
-use Rattle.c_grammar.specs.CPlaces.Lines.{Line, nothing, kept, all_kept, fixed, at, numbered, names, ◌⨾◌, line_of, shape_line, primary_line, operation_line, initializer_line, specifier_line, declarator_line, part_line, outer_line, statement_line, iteration_line, jump_line, unary_line, maybe_line, assigned_line, else_line, row_line, list_line, more_line, tag_if, comma_if, ellipsis_if, declared_token}
-use Rattle.c_grammar.specs.CPlaces.Stands.{Stands, OfNothing, OfKept, OfAll, OfFixed, OfPlace, OfNumber, OfName, OfBoth, StandsOver}
+use Rattle.c_grammar.specs.CPlaces.Lines.{Line, nothing, kept, all_kept, fixed, at, numbered, names, ◌⨾◌, line_of, primary_line, operation_line, initializer_line, specifier_line, declarator_line, part_line, outer_line, statement_line, iteration_line, jump_line, unary_line, maybe_line, assigned_line, else_line, row_line, list_line, more_line, tag_if, comma_if, ellipsis_if, declared_token}
+use Rattle.c_grammar.specs.CPlaces.Stands.{Stands, OfNothing, OfKept, OfAll, OfFixed, OfPlace, OfNumber, OfName, OfBoth}
 
 -- the symbols of a line, and then these
 abbrev line_then : Line → List Symbol → List Symbol

@@ -1,16 +1,14 @@
 -- What a message spells of a tree are the tokens over which it stands.
-use Rattle.std.proofs.Common.{◌≡◌, ◌≤◌, ◌<◌, ◌+◌, ℕ, suc, nat_eq, List, [], ◌∷◌, ◌++◌, length, take, Bool, true, false, cond, ◌&&◌, refl, sym, ap, subst, ◌∙◌, append_assoc, arith}
-use Rattle.std.proofs.lemmas.Bool.{eq-eqb}
+use Rattle.std.proofs.Common.{◌≡◌, ◌<◌, ◌+◌, ℕ, nat_eq, List, [], ◌∷◌, ◌++◌, length, take, Bool, true, false, cond, ◌&&◌, refl, sym, ap, subst, ◌∙◌, arith}
 use Rattle.std.proofs.lemmas.List.{length-map}
-use Rattle.c_grammar.specs.CPlaces.Lines.{Line, nothing, kept, all_kept, fixed, at, numbered, names, ◌⨾◌, line_of, shape_line}
-use Rattle.c_grammar.specs.CPlaces.Stands.{Stands, OfPlace, OfBoth, StandsOver}
+use Rattle.c_grammar.specs.CPlaces.Lines.{line_of}
+use Rattle.c_grammar.specs.CPlaces.Stands.{OfPlace, OfBoth, StandsOver}
 use Rattle.c_tree.specs.Forget.{syntax_of}
-use Rattle.c_tree.specs.Node.{Node, node, Shape}
+use Rattle.c_tree.specs.Node.{Node, node}
 use Rattle.c_tree.specs.PathSubjects.Subjects.{first_of}
-use Rattle.c_tree.specs.Symbol.{Symbol, symbol_of, symbols_of}
-use Rattle.c_tree.specs.TokenPlaces.{AreOfFile, Rises, StandInFile}
+use Rattle.c_tree.specs.Symbol.{symbol_of, symbols_of}
+use Rattle.c_tree.specs.TokenPlaces.{Rises, StandInFile}
 use Rattle.c_tree.specs.Tokens.{tokens_of}
-use Rattle.c_tree.specs.declared.place.Place.{Place}
 use Rattle.c_tree.specs.declared.token.Token.{Token}
 use Rattle.hole_matching.specs.Message.{Source, is_at, from_place, tree_tokens}
 use Rattle.event_places.proofs.Closing.{later}

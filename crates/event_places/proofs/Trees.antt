@@ -1,19 +1,18 @@
 -- Each item in the text of a tree stands at a place of the tree's line.
 use Rattle.std.proofs.Common.{◌≡◌, ℕ, Bool, true, false, Option, None, Some, refl}
 use Rattle.std.specs.Prelude.{⊤}
-use Rattle.c_grammar.specs.CPlaces.Lines.{Line, nothing, kept, all_kept, fixed, at, numbered, names, ◌⨾◌, line_of, primary_line, operation_line, initializer_line, outer_line, statement_line, iteration_line, jump_line, unary_line, maybe_line, assigned_line, else_line, row_line, list_line, more_line, declared_token}
-use Rattle.c_tree.specs.PathSubjects.Subjects.{Subject, Tree, DerefOf, first_of, tree_place, subject_place}
+use Rattle.c_grammar.specs.CPlaces.Lines.{Line, line_of, primary_line, operation_line, initializer_line, outer_line, statement_line, iteration_line, jump_line, unary_line, maybe_line, else_line, row_line, list_line, more_line, declared_token}
+use Rattle.c_tree.specs.PathSubjects.Subjects.{first_of, tree_place, subject_place}
 use Rattle.c_tree.specs.declared.operator.BinaryOp.{BinaryOp}
 use Rattle.c_tree.specs.declared.operator.BinaryOp.TheVariants as binary
 use Rattle.c_tree.specs.declared.operator.UnaryOp.{UnaryOp}
 use Rattle.c_tree.specs.declared.operator.UnaryOp.TheVariants as unary
 use Rattle.c_tree.specs.declared.place.Place.{Place}
-use Rattle.c_tree.specs.declared.token.Token.{Token}
 use Rattle.c_tree.specs.Node.{Node, node, Primary, Operation, Initializer, Specifier, Declarator, Part, Outer, Statement, Iteration, Jump, PrimaryShape, OperationShape, InitializerShape, OuterShape, StatementShape, IterationShape, JumpShape, Ident, Constant, StrConst, Paren, VaArg, Offsetof, Hole, Index, Call, Member, Arrow, CompoundLit, Unary, SizeofType, Cast, Binary, Cond, Assign, Init, Braces, Designated, Declaration, Function, Empty, Block, ExprStmt, If, Switch, Case, Default, Label, While, Do, For, ForDeclaration, Goto, Continue, Break, Return, MaybeNode, absent, present, Nodes, no_more, more}
 use Rattle.path_theory.specs.Marks.{EventMark, CallMark}
-use Rattle.flow_graph.specs.CPaths.Events.{Event, Evaluated, Declared, Branched, Exited, Item, Variable, branched, evaluated}
+use Rattle.flow_graph.specs.CPaths.Events.{Evaluated, Declared, Branched, Exited, Item, Variable}
 use Rattle.flow_graph.specs.CPaths.Facts.{Facts}
-use Rattle.flow_graph.specs.CPaths.Forms.{Form, Row, done, operand, item}
+use Rattle.flow_graph.specs.CPaths.Forms.{Form, Row, done}
 use Rattle.flow_graph.specs.CPaths.TreeForms.{form_of, primary_form, operation_form, initializer_form, operands, unary_form, binary_form, is_zero, call_itself}
 use Rattle.flow_graph.specs.CPaths.TreeFlow.{flow_of, statement_flow, iteration_flow, jump_flow, maybe_flow, flows_of, maybe_row, maybe_form, declared_then, initialized_then, declarator_then, declarators_row, outer_row, declaration_row}
 use Rattle.event_places.proofs.Items.{EachInForm, EachInRow, EachInMaybe, EachInFlow, EachInFlows}

@@ -1,10 +1,9 @@
 -- The events of a path stand in the texts of their functions, and these are functions of the program.
-use Rattle.std.proofs.Common.{◌≡◌, ◌⊎◌, ℕ, zero, suc, List, [], ◌∷◌, map, slice_get, Bool, true, false, cond, ◌&&◌, nat_eq, Option, None, Some, inl, inr, refl, sym, ap, subst, ◌∙◌}
+use Rattle.std.proofs.Common.{◌≡◌, ◌⊎◌, ℕ, zero, suc, List, [], ◌∷◌, map, slice_get, Bool, true, false, cond, Option, None, Some, inl, inr, refl, sym, ap, subst, ◌∙◌}
 use Rattle.std.proofs.lemmas.Bool.{eq-eqb}
 use Rattle.std.specs.Prelude.{⊤}
 use Rattle.std.specs.Option.{option_map}
 use Rattle.c_tree.specs.Node.{Node}
-use Rattle.c_tree.specs.declared.place.Place.{Place}
 use Rattle.type_rules.specs.Functions.{Defined}
 use Rattle.type_rules.specs.Options.{◌>?◌}
 use Rattle.call_graph.specs.Followed.{machine_calls}
@@ -15,7 +14,6 @@ use Rattle.flow_graph.specs.CPaths.Events.{Event, Exited, Item}
 use Rattle.flow_graph.specs.CPaths.Graphs.{Block}
 use Rattle.flow_graph.specs.CPaths.Occurrences.{InFlow, InEvents, InGraph}
 use Rattle.flow_graph.specs.CPaths.TreeFlow.{flow_of}
-use Rattle.flow_graph.specs.CPaths.Traces.{Definition}
 use Rattle.flow_graph.proofs.CPaths.BuiltGraphs.{built_traces}
 use Rattle.flow_graph.proofs.CPaths.BuiltTexts.{built_graph_text}
 use Rattle.flow_graph.proofs.CPaths.EngineGraphs.{blocks_have_steps}
@@ -34,7 +32,7 @@ use Rattle.path_model.specs.CheckerModel.Happenings.{Function, Happening, Site}
 use Rattle.path_model.specs.CheckerModel.Reports.{Checker}
 use Rattle.path_model.specs.CheckerPrograms.Paths.{program}
 use Rattle.path_model.specs.CheckerPrograms.Roots.{followed_into, IsRootFunction}
-use Rattle.path_model.specs.CheckerPrograms.Texts.{functions_in, function_of, same_place, defines, defined_as, definition_of, flow_facts, table_of, happening, site}
+use Rattle.path_model.specs.CheckerPrograms.Texts.{functions_in, function_of, defines, defined_as, definition_of, flow_facts, table_of, happening, site}
 use Rattle.path_model.proofs.CheckerGraphs.Numbers.{defines-is}
 use Rattle.path_model.proofs.CheckerGraphs.SameTraces.{event_on}
 use Rattle.typed_unit.specs.Texts.{Text}

@@ -20,7 +20,6 @@ use Rattle.path_model.specs.CheckerModel.Reports.{Checker, token_at, report_at}
 use Rattle.path_model.specs.CheckerPrograms.Paths.{program}
 use Rattle.path_model.specs.CheckerPrograms.Texts.{functions_in, tokens_of as tokens_in, with_close}
 use Rattle.path_theory.specs.Paths.{Callers, Path, after, Reported}
-use Rattle.path_theory.specs.Supergraph.{Supergraph}
 use Rattle.type_rules.specs.Functions.{Defined}
 use Rattle.type_rules.specs.Options.{◌>?◌}
 use Rattle.typed_unit.specs.Texts.{Text}
