@@ -1,0 +1,12 @@
+pub mod Lines
+pub mod Items
+pub mod Trees
+pub mod Tokens
+pub mod Functions
+pub mod Walks
+pub mod Reports
+pub mod Braces
+pub mod Calm
+pub mod Closing
+pub mod Spelled
+pub mod Spelling

@@ -1,0 +1,3 @@
+pub mod Standing
+pub mod Bodies
+pub mod Theorems

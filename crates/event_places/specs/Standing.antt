@@ -1,0 +1,14 @@
+-- Texts whose trees stand over their tokens: what is known of the texts of files.
+use Rattle.std.specs.Prelude.{◌≡◌, ℕ, List, Some, slice_get}
+use Rattle.c_tree.specs.TokenPlaces.{StandInFile}
+use Rattle.typed_unit.specs.Places.{StandOver}
+use Rattle.typed_unit.specs.Texts.{Text}
+
+-- the tokens stand in the file with this number, one after the other, and the trees stand over them
+pub record StandsIn (file : ℕ) (t : Text) : Type 0 where
+  pub placed : StandInFile file t.tokens
+  pub standing : StandOver t.trees t.tokens
+
+-- each text stands in the file with its position
+abbrev pub StandInFiles : List Text → Type 0
+StandInFiles ts = (file : ℕ) (t : Text) → slice_get ts file ≡ Some t → StandsIn file t
