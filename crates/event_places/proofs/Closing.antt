@@ -85,12 +85,12 @@ record BlockParts (p : Place) (items : Nodes) (ts rest : List Token) : Type 0 wh
   place : p ≡ first.place
   tokens : ts ≡ first ∷ inside
   opens : symbol_of first ≡ Sign marks.OpenBrace
-  row : Stands (row_line items) low high inside (last ∷ rest)
+  stand : Stands (row_line items) low high inside (last ∷ rest)
   closes : symbol_of last ≡ Sign marks.CloseBrace
 
 block-parts : (i : ℕ) (p : Place) (items : Nodes) (low high : ℕ) (ts rest : List Token) → Stands (line_of (node i p (Statement (Block items)))) low high ts rest → BlockParts p items ts rest
-block-parts i p items low high ts rest (OfBoth (OfBoth OfPlace (OfBoth (OfBoth (OfFixed {t = t} {ts = us} e) row) (OfFixed {t = u} f))) OfNumber) =
-    record { first = t; inside = us; last = u; low = _; high = _; place = refl; tokens = refl; opens = e; row = row; closes = f }
+block-parts i p items low high ts rest (OfBoth (OfBoth OfPlace (OfBoth (OfBoth (OfFixed {t = t} {ts = us} e) stand) (OfFixed {t = u} f))) OfNumber) =
+    record { first = t; inside = us; last = u; low = _; high = _; place = refl; tokens = refl; opens = e; stand = stand; closes = f }
 
 module _ (tokens : List Token) (end : ℕ) (rises : Rises 0 tokens end) where
   closing-from : (before : List Token) (t : Token) (ts : List Token) (p : Place) → tokens ≡ before ++ (t ∷ ts) → closing 0 (t ∷ ts) ≡ Some p → closing_brace tokens t.place ≡ p
@@ -103,7 +103,7 @@ module _ (tokens : List Token) (end : ℕ) (rises : Rises 0 tokens end) where
       → EndsAt tokens (node i p (Statement (Block items))) (closing_brace tokens p)
   block-ends i p items calm low high ts rest h s =
       let b = block-parts i p items low high ts rest h in
-      let x = front (row_line items) b.low b.high b.inside (b.last ∷ rest) b.row in
+      let x = front (row_line items) b.low b.high b.inside (b.last ∷ rest) b.stand in
       let own : ts ≡ (b.first ∷ x.0) ++ (b.last ∷ rest) = b.tokens ∙ ap (λ (vs : List Token). b.first ∷ vs) x.1 in
       record {
         before = s.before;
@@ -118,7 +118,7 @@ module _ (tokens : List Token) (end : ℕ) (rises : Rises 0 tokens end) where
         place =
             ap (closing_brace tokens) b.place
             ∙ closing-from s.before b.first b.inside b.last.place (s.whole ∙ ap (λ (vs : List Token). s.before ++ vs) b.tokens)
-            (opened 0 b.first b.inside b.opens ∙ calm.passed b.low b.high b.inside (b.last ∷ rest) b.row 0 ∙ closed-last b.last rest b.closes);
+            (opened 0 b.first b.inside b.opens ∙ calm.passed b.low b.high b.inside (b.last ∷ rest) b.stand 0 ∙ closed-last b.last rest b.closes);
       }
 
   -- a block of the grammar

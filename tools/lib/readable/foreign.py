@@ -1,4 +1,6 @@
 """Which forms outside the language stand in a list of tokens. The names are those that messages and summaries have."""
+from itertools import accumulate
+
 from .blocks import late_declarations
 from .tokens import seen, text_at
 from .words import (
@@ -17,6 +19,7 @@ class Look:
         self.tokens, self.names, self.is_function = tokens, names, is_function
         known = seen(tokens)
         self.texts, self.partner = known.texts, known.partners()
+        self._depths = None
 
     def text(self, i):
         """The spelling at an index, or nothing outside the list."""
@@ -24,8 +27,9 @@ class Look:
 
     def in_brace(self, i):
         """Whether any brace is open in front of a token."""
-        before = self.texts[:i]
-        return before.count("{") > before.count("}")
+        if self._depths is None:
+            self._depths = list(accumulate(((text == "{") - (text == "}") for text in self.texts), initial=0))
+        return self._depths[i] > 0
 
     def is_type(self, i):
         """Whether a type name begins at an index."""
