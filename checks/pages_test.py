@@ -13,7 +13,7 @@ import tempfile
 import unittest
 
 from program import ROOT, built
-from public_calls import can_refuse, may_change, public_calls, rooms
+from public_calls import can_refuse, may_change, public_calls, records_of, rooms
 from textmate import Grammar
 
 PROGRAM = built()
@@ -247,9 +247,17 @@ class Checkers(unittest.TestCase):
 class Promises(unittest.TestCase):
     """README.md, against the contract of the call that the program makes."""
 
-    def test_clauses(self):
-        source = page("crates/metalcheck/src/styles.rt")
-        clauses = re.findall(r"(?m)^    ensures (\w+) \{", source[source.index("fn run_in_styles"):])
+    def test_one_clause(self):
+        for name, call, record in (("metalcheck/src/styles.rt", "fn run_in_styles", "PromiseInStyles"), ("command/src/program.rt", "fn run", "Promise")):
+            source = page(f"crates/{name}")
+            contract = source[source.index(f"{call}<"):].split("\n{\n")[0]
+            self.assertEqual(re.findall(r"\b(?:requires|ensures)\b.*", contract), [f"ensures {{ {record} files.old files.new (record {{"])
+
+    def test_fields(self):
+        clauses = records_of("command")["Promise"]
+        self.assertEqual(len(clauses), 23)
+        self.assertEqual(records_of("metalcheck")["PromiseInStyles"], ["promise", "in_format"])
+        clauses = clauses + ["in_format"]
         told = section(page("README.md"), "## What is promised")
         promises = re.findall(r"(?ms)^- (.*?)(?=^- |^$)", told)
         self.assertEqual(len(promises), 4)

@@ -1,5 +1,6 @@
 """The public calls of the rooms under crates/: what a library's root hands out by `pub use` and `pub mod`, with the contract of each."""
 import collections
+import functools
 import os
 import re
 
@@ -61,12 +62,31 @@ def handed_out(room):
     return found
 
 
-def contract(text, start):
-    """What a call takes and gives, and the names of its clauses; a clause without one counts as ''."""
+@functools.lru_cache(None)
+def records_of(room):
+    """The records that a room defines, each with the names of its fields."""
+    found = {}
+    for folder, _, files in os.walk(os.path.join(CRATES, room, "specs")):
+        for file in files:
+            with open(os.path.join(folder, file), encoding="utf-8") as opened:
+                blocks = opened.read().split("\n\n")
+            for block in blocks:
+                head = re.search(r"(?m)^pub record (\w+)", block)
+                if head:
+                    found[head[1]] = re.findall(r"(?m)^  pub (\w+) :", block[head.end():])
+    return found
+
+
+def contract(room, text, start):
+    """What a call of a room takes and gives, and the names of its clauses: a clause without one counts as '', and as the fields of the
+    record that it is, if it is one of the room."""
     behind = re.compile(r"\n *\{\n|;\n| \{\n").search(text, start)
     head = text[start:behind.start()] if behind else text[start:]
     takes, gives = re.match(r"[^(]*(\((?:[^()]|\([^()]*\))*\))(?: -> (.*?))?(?=\n +(?:requires|ensures|where)|$|;| where)", head, re.DOTALL).groups()
-    return takes, " ".join((gives or "").split()), re.findall(r"\bensures (\w*) ?\{", head)
+    clauses = []
+    for name, word in re.findall(r"\bensures (\w*) ?\{ ?(\w*)", head):
+        clauses += [name] if name else ["", *records_of(room).get(word, [])]
+    return takes, " ".join((gives or "").split()), clauses
 
 
 def calls_in(room, path, names):
@@ -77,10 +97,10 @@ def calls_in(room, path, names):
         if name not in names or " for " in block["head"] or kind != "impl" and names[name] != path or kind == "fn" and not block["public"]:
             continue
         if kind == "fn":
-            yield Call(room, name, *contract(text, block.start()))
+            yield Call(room, name, *contract(room, text, block.start()))
             continue
         for method in METHODS[kind].finditer(text, block.end(), text.index("\n}", block.start())):
-            yield Call(room, f"{name}::{method[1]}", *contract(text, method.start()))
+            yield Call(room, f"{name}::{method[1]}", *contract(room, text, method.start()))
 
 
 def public_calls(room):

@@ -1,11 +1,12 @@
 -- A command whose files are told: without a fault and without a failed call its reports are printed, and with a fault it is refused in a line.
-use Rattle.std.proofs.Common.{◌≡◌, ◌≢◌, ◌⊎◌, inl, inr, ℕ, ◌+◌, List, [], ◌∷◌, ◌++◌, length, Option, Some, None, refl, sym, ap, ◌∙◌, subst, length-append, arith}
+use Rattle.std.proofs.Common.{◌≡◌, ◌≢◌, inl, inr, ℕ, ◌+◌, List, [], ◌∷◌, ◌++◌, length, Option, Some, None, refl, sym, ap, ◌∙◌, subst, length-append, arith}
 use Rattle.mx_io.specs.Reads.{Stands}
 use Rattle.report_model.specs.declared.report.Report.{Report}
-use Rattle.command.specs.Commands.{Command, IsCommand, checkers_of, sources_of, turns_of}
-use Rattle.command.specs.Due.{IsDue, IsDueFor, IsRefused}
-use Rattle.command.specs.Ran.{Ran, ReporterStep, NoRise, Completes, DidAs}
-use Rattle.command.specs.Written.{SinkStep, Written, Took}
+use Rattle.command.specs.Bytes.{Bytes}
+use Rattle.command.specs.Commands.{Command, checkers_of, sources_of, turns_of}
+use Rattle.command.specs.Due.{HasTask, IsDueFor, IsRefused}
+use Rattle.command.specs.Run.{Completes, Did, EndsIn, Gives, MayBeDue, NoReadFailed, RanAsDue, Run, called_in, rendered_in, reporters_in}
+use Rattle.command.specs.Written.{NoWriteFailed, Took, Written}
 use Rattle.command.specs.declared.status.Status.{Status}
 use Rattle.command.specs.declared.status.Status.TheVariants.{Clean, Reports, Usage, Refused, ReadFault, WriteFault, NoMemory}
 use Rattle.command.proofs.GivenCommands.{command_alone, one_command}
@@ -55,53 +56,57 @@ module _ (told : List ℕ → Option (List ℕ)) (command : Command) (contents :
       let j = told_reports reports a tells in
       record { names = j.names; machines = j.machines; texts = j.texts; meanings = j.meanings; linked = j.linked }
 
-module _ (told : List ℕ → Option (List ℕ)) (words : List (List ℕ)) (r : ReporterStep) (old new : List (List ℕ)) (result : Status) (out errs : SinkStep)
-    (command : Command) (given : IsCommand words r.called command) (same : new ≡ old) where
+module _ (run : Run) (command : Command) (given : Gives run command) (same : NoReadFailed run) where
   -- the line of the first fault is due
-  pub faulty : (l : Located) → IsFirstFault (surely_holds told) (checkers_of command) (sources_of command) l → Ran (may_hold told) words r old new result out errs → DidAs Refused [] (refused_line l) result out errs
+  pub faulty : (l : Located) → IsFirstFault (surely_holds run.told) (checkers_of command) (sources_of command) l → RanAsDue run → Did run Refused [] (refused_line l)
   faulty l first ran =
-      let due : IsRefused (surely_holds told) command old new [] (refused_line l) = record { fault = l; first = first; none_failed = same; text_is = refl; line_is = refl } in
-      determined told words r old new result out errs Refused [] (refused_line l) ran (inr (inl (record { command = command; given = given; due = due })))
+      let due : IsRefused (surely_holds run.told) command run.failed_before run.failed_after [] (refused_line l) = record { fault = l; first = first; none_failed = same; text_is = refl; line_is = refl } in
+      determined run.told run.words (reporters_in run) run.failed_before run.failed_after run.status run.out run.errs Refused [] (refused_line l) ran (inr (inl (record { command = command; given = given; due = due })))
 
-  pub complete : (contents : List (List ℕ)) → Tells told (turns_of command) contents → ((l : Located) → IsFirstFault (surely_holds told) (checkers_of command) (sources_of command) l → ⊥)
-      → Ran (may_hold told) words r old new result out errs → NoRise out.faults_before out.faults_after → NoRise errs.faults_before errs.faults_after → result ≢ NoMemory → Completes command contents r.rendered result out errs
+  -- what is due for the command that the words give
+  due_for_command : (s : Status) (text line : Bytes) (t : HasTask (may_hold run.told) run.words (called_in run) (rendered_in run) run.failed_before run.failed_after s text line)
+      → IsDueFor (may_hold run.told) command (rendered_in run) run.failed_before run.failed_after s text line
+  due_for_command s text line t =
+      subst (λ (k : Command). IsDueFor (may_hold run.told) k (rendered_in run) run.failed_before run.failed_after s text line) (one_command run.words (called_in run) t.command command t.given given) t.due
+
+  pub complete : (contents : List Bytes) → Tells run.told (turns_of command) contents → ((l : Located) → IsFirstFault (surely_holds run.told) (checkers_of command) (sources_of command) l → ⊥)
+      → RanAsDue run → NoWriteFailed run.out → NoWriteFailed run.errs → run.status ≢ NoMemory → Completes run command contents
   complete contents tells fine (inl stops) no-out no-errs ne = absurd (ne stops.status)
   complete contents tells fine (inr c) no-out no-errs ne = by c.due c.written
     where
-      for : (s : Status) → IsDueFor (may_hold told) command r.rendered old new s c.text c.line → result ≡ s → Took out c.text → Took errs c.line → Completes command contents r.rendered result out errs
-      for Clean due e o l = record { reports = due.reports; judged = told_reports told command contents due.reports due.accepted tells; status = inl (e, due.asked); text = c.text; text_is = due.text_is; printed = o; nothing = subst (Took errs) due.line_is l }
-      for Reports due e o l = record { reports = due.reports; judged = told_reports told command contents due.reports due.accepted tells; status = inr (e, due.asked); text = c.text; text_is = due.text_is; printed = o; nothing = subst (Took errs) due.line_is l }
+      for : (s : Status) → IsDueFor (may_hold run.told) command (rendered_in run) run.failed_before run.failed_after s c.text c.line → run.status ≡ s → Took run.out c.text → Took run.errs c.line → Completes run command contents
+      for Clean due e o l = record { reports = due.reports; judged = told_reports run.told command contents due.reports due.accepted tells; status = inl (e, due.asked); text = c.text; text_is = due.text_is; printed = o; nothing = subst (Took run.errs) due.line_is l }
+      for Reports due e o l = record { reports = due.reports; judged = told_reports run.told command contents due.reports due.accepted tells; status = inr (e, due.asked); text = c.text; text_is = due.text_is; printed = o; nothing = subst (Took run.errs) due.line_is l }
       for Usage due e o l = absurd due
-      for Refused due e o l = absurd (fine due.fault (first_sure told (checkers_of command) (sources_of command) contents tells due.fault due.first))
-      for ReadFault due e o l = absurd (longer old due.failed.is_turn.turn.word (sym due.failed.grew ∙ same))
+      for Refused due e o l = absurd (fine due.fault (first_sure run.told (checkers_of command) (sources_of command) contents tells due.fault due.first))
+      for ReadFault due e o l = absurd (longer run.failed_before due.failed.is_turn.turn.word (sym due.failed.grew ∙ same))
       for WriteFault due e o l = absurd due
       for NoMemory due e o l = absurd due
 
-      by : IsDue (may_hold told) words r.called r.rendered old new c.status c.text c.line → Written c.status c.text c.line result out errs → Completes command contents r.rendered result out errs
+      by : MayBeDue run c.status c.text c.line → Written c.status c.text c.line run.status run.out run.errs → Completes run command contents
       by due (inr (inl w)) = absurd (no-out w.1.0)
       by due (inr (inr w)) = absurd (no-errs w.2.0)
       by (inl m) (inl w) = absurd (m.none.no_command command given)
-      by (inr (inr g)) (inl w) = absurd (command_alone words r.called command given g.count g.is_generation)
-      by (inr (inl t)) (inl w) = for c.status (subst (λ (k : Command). IsDueFor (may_hold told) k r.rendered old new c.status c.text c.line) (one_command words r.called t.command command t.given given) t.due) w.0 w.1 w.2
+      by (inr (inr g)) (inl w) = absurd (command_alone run.words (called_in run) command given g.count g.is_generation)
+      by (inr (inl t)) (inl w) = for c.status (due_for_command c.status c.text c.line t) w.0 w.1 w.2
 
   -- what no accepted command comes to is refused
-  pub refused_where : ((reports : List Report) → AreAccepted (may_hold told) (checkers_of command) (sources_of command) command.depth reports → ⊥) → Ran (may_hold told) words r old new result out errs
-      → (result ≡ Refused) ⊎ ((result ≡ WriteFault) ⊎ (result ≡ NoMemory))
+  pub refused_where : ((reports : List Report) → AreAccepted (may_hold run.told) (checkers_of command) (sources_of command) command.depth reports → ⊥) → RanAsDue run → EndsIn run Refused
   refused_where not-accepted (inl stops) = inr (inr stops.status)
   refused_where not-accepted (inr c) = by c.due c.written
     where
-      for : (s : Status) → IsDueFor (may_hold told) command r.rendered old new s c.text c.line → result ≡ s → (result ≡ Refused) ⊎ ((result ≡ WriteFault) ⊎ (result ≡ NoMemory))
+      for : (s : Status) → IsDueFor (may_hold run.told) command (rendered_in run) run.failed_before run.failed_after s c.text c.line → run.status ≡ s → EndsIn run Refused
       for Clean due e = absurd (not-accepted due.reports due.accepted)
       for Reports due e = absurd (not-accepted due.reports due.accepted)
       for Usage due e = absurd due
       for Refused due e = inl e
-      for ReadFault due e = absurd (longer old due.failed.is_turn.turn.word (sym due.failed.grew ∙ same))
+      for ReadFault due e = absurd (longer run.failed_before due.failed.is_turn.turn.word (sym due.failed.grew ∙ same))
       for WriteFault due e = absurd due
       for NoMemory due e = absurd due
 
-      by : IsDue (may_hold told) words r.called r.rendered old new c.status c.text c.line → Written c.status c.text c.line result out errs → (result ≡ Refused) ⊎ ((result ≡ WriteFault) ⊎ (result ≡ NoMemory))
+      by : MayBeDue run c.status c.text c.line → Written c.status c.text c.line run.status run.out run.errs → EndsIn run Refused
       by due (inr (inl w)) = inr (inl w.0)
       by due (inr (inr w)) = inr (inl w.0)
       by (inl m) (inl w) = absurd (m.none.no_command command given)
-      by (inr (inr g)) (inl w) = absurd (command_alone words r.called command given g.count g.is_generation)
-      by (inr (inl t)) (inl w) = for c.status (subst (λ (k : Command). IsDueFor (may_hold told) k r.rendered old new c.status c.text c.line) (one_command words r.called t.command command t.given given) t.due) w.0
+      by (inr (inr g)) (inl w) = absurd (command_alone run.words (called_in run) command given g.count g.is_generation)
+      by (inr (inl t)) (inl w) = for c.status (due_for_command c.status c.text c.line t) w.0

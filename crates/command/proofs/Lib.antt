@@ -8,6 +8,7 @@ mod Statuses
 mod Complete
 mod Contents
 mod Generating
+pub mod Promised
 pub mod GeneratedProgram
 pub mod CheckerReports
 pub mod JudgedFiles

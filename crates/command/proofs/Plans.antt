@@ -10,7 +10,7 @@ use Rattle.command.specs.Plans.{IsAmong, IsPlanOf}
 use Rattle.command.specs.Ran.{CarriesOut, Leaves, ReporterStep, Spares}
 use Rattle.command.specs.Rendered.{IsPlanFor}
 use Rattle.command.specs.Tasks.{LeavesAt}
-use Rattle.command.specs.Written.{SinkStep, Written}
+use Rattle.command.specs.Written.{Fits, SinkStep, Written}
 use Rattle.command.specs.declared.status.Status.{Status}
 use Rattle.command.specs.declared.status.Status.TheVariants as status
 use Rattle.command.proofs.GivenCommands.{command_alone}
@@ -118,8 +118,8 @@ leaves_unasked words called count rendered before after status.NoMemory is kept 
 -- ---- what is due was written
 
 pub carried_out : (Holds : List ℕ → List ℕ → Type 0) (words : List (List ℕ)) (r : ReporterStep) (old new : List (List ℕ)) (result : Status) (out errs : SinkStep) (s : Status) (text handed line rest : List ℕ)
-    → handed ≡ text → rest ≡ line → IsDue Holds words r.called r.rendered old new s text line → Leaves words r s → Spares words r → Written s handed rest result out errs → CarriesOut Holds words r old new result out errs
-carried_out Holds words r old new result out errs s text handed line rest e f due leaves spares written = record {
+    → handed ≡ text → rest ≡ line → IsDue Holds words r.called r.rendered old new s text line → Leaves words r s → Spares words r → Written s handed rest result out errs → (Fits handed rest out errs → result ≡ s) → CarriesOut Holds words r old new result out errs
+carried_out Holds words r old new result out errs s text handed line rest e f due leaves spares written fitting = record {
   status = s;
   text = text;
   line = line;
@@ -127,4 +127,5 @@ carried_out Holds words r old new result out errs s text handed line rest e f du
   leaves = leaves;
   spares = spares;
   written = of_both (λ t l. Written s t l result out errs) handed rest text line e f written;
+  fitting = of_both (λ t l. Fits t l out errs → result ≡ s) handed rest text line e f fitting;
 }

@@ -1,7 +1,8 @@
 -- THE FIXED CHECKER: what is freed is neither used nor freed again.
-use Rattle.std.specs.Prelude.{ℕ, List, ◌++◌, codes}
+use Rattle.std.specs.Prelude.{◌++◌, codes}
+use Rattle.command.specs.Bytes.{Bytes}
 
-abbrev pub free_text : List ℕ
+abbrev pub free_text : Bytes
 free_text =
     codes "sm free_checker {\n"
     ++ (codes " state decl any_pointer v;\n"

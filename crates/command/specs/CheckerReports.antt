@@ -1,1 +1,2 @@
 pub mod Checkers
+pub mod Errors

@@ -5,20 +5,21 @@ use Rattle.std.specs.Str.{bytes_eq}
 use Rattle.command_words.specs.Generation.{IsGeneration}
 use Rattle.command_words.specs.Words.{Request, IsRequest, is_checker_word, is_source_word}
 use Rattle.request_files.specs.Turns.{Turn, turns}
+use Rattle.command.specs.Bytes.{Bytes, Words}
 
 -- what is to be done: objects with at most so many steps, the reporter at this place or none, and these files
 pub record Command : Type 0 where
   pub depth : ℕ
   pub place : Option ℕ
-  pub files : List (List ℕ)
+  pub files : Words
 
 -- the place of the first reporter of the name that is asked for; there is none where no name is
-abbrev pub IsPlace : List (List ℕ) → Option (List ℕ) → Option ℕ → Type 0
+abbrev pub IsPlace : Words → Option Bytes → Option ℕ → Type 0
 IsPlace called None place = place ≡ None
 IsPlace called (Some name) place = (k : ℕ) × (place ≡ Some k) × (position (bytes_eq name) called ≡ Some k)
 
 -- the words stand for a request that asks for no statistics, and whose format is the name of a reporter
-pub record IsCommand (words called : List (List ℕ)) (command : Command) : Type 0 where
+pub record IsCommand (words called : Words) (command : Command) : Type 0 where
   pub request : Request
   pub is_request : IsRequest words request
   pub plain : request.stats ≡ false
@@ -27,23 +28,23 @@ pub record IsCommand (words called : List (List ℕ)) (command : Command) : Type
   pub files : command.files ≡ request.files
 
 -- the words give no command
-abbrev pub GiveNoCommand : List (List ℕ) → List (List ℕ) → Type 0
+abbrev pub GiveNoCommand : Words → Words → Type 0
 GiveNoCommand words called = (command : Command) → IsCommand words called command → ⊥
 
 -- the words give no command, and ask for no generation either
-pub record GiveNone (words called : List (List ℕ)) : Type 0 where
+pub record GiveNone (words called : Words) : Type 0 where
   pub no_command : GiveNoCommand words called
   pub no_generation : (count : ℕ) → IsGeneration words count → ⊥
 
 -- the reporter at this place isn't the one that the words choose
-abbrev pub IsOther : List (List ℕ) → List (List ℕ) → ℕ → Type 0
+abbrev pub IsOther : Words → Words → ℕ → Type 0
 IsOther words called k = (command : Command) → IsCommand words called command → command.place ≡ Some k → ⊥
 
 -- the files of each kind, in the order of the words
-abbrev pub checkers_of : Command → List (List ℕ)
+abbrev pub checkers_of : Command → Words
 checkers_of command = filter is_checker_word command.files
 
-abbrev pub sources_of : Command → List (List ℕ)
+abbrev pub sources_of : Command → Words
 sources_of command = filter is_source_word command.files
 
 -- the order in which they are read

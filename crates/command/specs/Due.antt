@@ -2,6 +2,7 @@
 use Rattle.std.specs.Prelude.{◌≡◌, ◌≢◌, ◌⊎◌, ℕ, List, [], ◌∷◌, ◌++◌, codes}
 use Rattle.report_model.specs.declared.report.Report.{Report}
 use Rattle.command_words.specs.Generation.{IsGeneration}
+use Rattle.command.specs.Bytes.{Bytes, Words}
 use Rattle.command.specs.Commands.{Command, IsCommand, GiveNone, checkers_of, sources_of, turns_of}
 use Rattle.command.specs.Measured.{IsMeasured, measure_line}
 use Rattle.command.specs.Rendered.{IsText}
@@ -12,21 +13,21 @@ use Rattle.command.specs.JudgedFiles.Judged.{AreAccepted}
 use Rattle.request_files.specs.Faults.{Located, refused_line}
 use Rattle.request_files.specs.Reading.{FailedAt, at_first}
 
-abbrev pub usage_line : List ℕ
+abbrev pub usage_line : Bytes
 usage_line = codes "usage: metalcheck [--depth N] [--format NAME] [--stats] FILE..." ++ 10 ∷ []
 
-abbrev pub not_read_line : List ℕ → List ℕ
+abbrev pub not_read_line : Bytes → Bytes
 not_read_line name = name ++ (codes ": not read" ++ 10 ∷ [])
 
 -- at most one read failed: that of a file of the command whose turn had come
-abbrev pub FailedInTurnOf : (List ℕ → List ℕ → Type 0) → Command → List (List ℕ) → List (List ℕ) → Type 0
+abbrev pub FailedInTurnOf : (Bytes → Bytes → Type 0) → Command → Words → Words → Type 0
 FailedInTurnOf Holds command old new = (new ≡ old) ⊎ ((position : ℕ) × FailedAt Holds at_first (turns_of command) old new position)
 
-abbrev pub FailedInTurn : (List ℕ → List ℕ → Type 0) → List (List ℕ) → List (List ℕ) → List (List ℕ) → List (List ℕ) → Type 0
+abbrev pub FailedInTurn : (Bytes → Bytes → Type 0) → Words → Words → Words → Words → Type 0
 FailedInTurn Holds words called old new = (new ≡ old) ⊎ ((command : Command) × IsCommand words called command × ((position : ℕ) × FailedAt Holds at_first (turns_of command) old new position))
 
 -- the files of the command were read without a fault, and these are their reports, of the kind that is asked
-pub record IsReported (Holds : List ℕ → List ℕ → Type 0) (command : Command) (rendered : List Report → List (List ℕ)) (old new : List (List ℕ)) (text line : List ℕ) (IsAsked : List Report → Type 0) : Type 0 where
+pub record IsReported (Holds : Bytes → Bytes → Type 0) (command : Command) (rendered : List Report → List Bytes) (old new : Words) (text line : Bytes) (IsAsked : List Report → Type 0) : Type 0 where
   pub reports : List Report
   pub accepted : AreAccepted Holds (checkers_of command) (sources_of command) command.depth reports
   pub none_failed : new ≡ old
@@ -35,7 +36,7 @@ pub record IsReported (Holds : List ℕ → List ℕ → Type 0) (command : Comm
   pub line_is : line ≡ []
 
 -- a file has the first fault, or linking has it, and no read failed before
-pub record IsRefused (Holds : List ℕ → List ℕ → Type 0) (command : Command) (old new : List (List ℕ)) (text line : List ℕ) : Type 0 where
+pub record IsRefused (Holds : Bytes → Bytes → Type 0) (command : Command) (old new : Words) (text line : Bytes) : Type 0 where
   pub fault : Located
   pub first : IsFirstFault Holds (checkers_of command) (sources_of command) fault
   pub none_failed : new ≡ old
@@ -43,14 +44,14 @@ pub record IsRefused (Holds : List ℕ → List ℕ → Type 0) (command : Comma
   pub line_is : line ≡ refused_line fault
 
 -- a read failed
-pub record IsLacking (Holds : List ℕ → List ℕ → Type 0) (command : Command) (old new : List (List ℕ)) (text line : List ℕ) : Type 0 where
+pub record IsLacking (Holds : Bytes → Bytes → Type 0) (command : Command) (old new : Words) (text line : Bytes) : Type 0 where
   pub position : ℕ
   pub failed : FailedAt Holds at_first (turns_of command) old new position
   pub text_is : text ≡ []
   pub line_is : line ≡ not_read_line failed.is_turn.turn.word
 
 -- what is due for a command
-abbrev pub IsDueFor : (List ℕ → List ℕ → Type 0) → Command → (List Report → List (List ℕ)) → List (List ℕ) → List (List ℕ) → Status → List ℕ → List ℕ → Type 0
+abbrev pub IsDueFor : (Bytes → Bytes → Type 0) → Command → (List Report → List Bytes) → Words → Words → Status → Bytes → Bytes → Type 0
 IsDueFor Holds command rendered old new Clean text line = IsReported Holds command rendered old new text line (λ reports. reports ≡ [])
 IsDueFor Holds command rendered old new Reports text line = IsReported Holds command rendered old new text line (λ reports. reports ≢ [])
 IsDueFor Holds command rendered old new Usage text line = ⊥
@@ -60,7 +61,7 @@ IsDueFor Holds command rendered old new WriteFault text line = ⊥
 IsDueFor Holds command rendered old new NoMemory text line = ⊥
 
 -- the generated program of a number was judged, and this is the line of its reports, which are of the kind that is asked
-pub record IsMeasuredAs (count : ℕ) (text line : List ℕ) (IsAsked : List Report → Type 0) : Type 0 where
+pub record IsMeasuredAs (count : ℕ) (text line : Bytes) (IsAsked : List Report → Type 0) : Type 0 where
   pub reports : List Report
   pub measured : IsMeasured count reports
   pub asked : IsAsked reports
@@ -68,7 +69,7 @@ pub record IsMeasuredAs (count : ℕ) (text line : List ℕ) (IsAsked : List Rep
   pub line_is : line ≡ []
 
 -- what is due for a generation
-abbrev pub IsDueForCount : ℕ → Status → List ℕ → List ℕ → Type 0
+abbrev pub IsDueForCount : ℕ → Status → Bytes → Bytes → Type 0
 IsDueForCount count Clean text line = IsMeasuredAs count text line (λ reports. reports ≡ [])
 IsDueForCount count Reports text line = IsMeasuredAs count text line (λ reports. reports ≢ [])
 IsDueForCount count Usage text line = ⊥
@@ -78,7 +79,7 @@ IsDueForCount count WriteFault text line = ⊥
 IsDueForCount count NoMemory text line = ⊥
 
 -- the words give no command and ask for no generation, and nothing was read
-pub record IsMisused (words called old new : List (List ℕ)) (status : Status) (text line : List ℕ) : Type 0 where
+pub record IsMisused (words called old new : Words) (status : Status) (text line : Bytes) : Type 0 where
   pub none : GiveNone words called
   pub none_failed : new ≡ old
   pub status_is : status ≡ Usage
@@ -86,19 +87,19 @@ pub record IsMisused (words called old new : List (List ℕ)) (status : Status) 
   pub line_is : line ≡ usage_line
 
 -- the words give a command, and this is due for it
-pub record HasTask (Holds : List ℕ → List ℕ → Type 0) (words called : List (List ℕ)) (rendered : List Report → List (List ℕ)) (old new : List (List ℕ)) (status : Status) (text line : List ℕ) : Type 0 where
+pub record HasTask (Holds : Bytes → Bytes → Type 0) (words called : Words) (rendered : List Report → List Bytes) (old new : Words) (status : Status) (text line : Bytes) : Type 0 where
   pub command : Command
   pub given : IsCommand words called command
   pub due : IsDueFor Holds command rendered old new status text line
 
 -- the words ask for a generation, nothing was read, and this is due for it
-pub record HasGeneration (words old new : List (List ℕ)) (status : Status) (text line : List ℕ) : Type 0 where
+pub record HasGeneration (words old new : Words) (status : Status) (text line : Bytes) : Type 0 where
   pub count : ℕ
   pub is_generation : IsGeneration words count
   pub none_failed : new ≡ old
   pub due : IsDueForCount count status text line
 
 -- WHAT A RUN IS DUE
-abbrev pub IsDue : (List ℕ → List ℕ → Type 0) → List (List ℕ) → List (List ℕ) → (List Report → List (List ℕ)) → List (List ℕ) → List (List ℕ) → Status → List ℕ → List ℕ → Type 0
+abbrev pub IsDue : (Bytes → Bytes → Type 0) → Words → Words → (List Report → List Bytes) → Words → Words → Status → Bytes → Bytes → Type 0
 IsDue Holds words called rendered old new status text line =
     IsMisused words called old new status text line ⊎ (HasTask Holds words called rendered old new status text line ⊎ HasGeneration words old new status text line)

@@ -1,6 +1,3 @@
--- Words of the crates below in which the clauses of `run` speak, for those who call it.
-pub use Rattle.command.specs.JudgedFiles.FirstFault.{IsFirstFault}
-pub use Rattle.command.specs.JudgedFiles.Judged.{AreAccepted, AreLinked}
-pub use Rattle.request_files.specs.Faults.{Located, refused_line}
-pub use Rattle.request_files.specs.Reading.{UnsoundAt, at_first}
-pub use Rattle.request_files.specs.Telling.{Tells, may_hold, surely_holds}
+-- Words of the crates below in which callers of `run` speak.
+pub use Rattle.command.specs.JudgedFiles.Judged.{AreAccepted}
+pub use Rattle.request_files.specs.Telling.{may_hold}

@@ -1,3 +1,4 @@
+pub mod Bytes
 pub mod Checker
 pub mod Commands
 pub mod Due
@@ -7,6 +8,7 @@ pub mod Plans
 pub mod Ran
 pub mod Rendered
 pub mod Requests
+pub mod Run
 pub mod Statuses
 pub mod Tasks
 pub mod Written

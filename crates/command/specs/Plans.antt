@@ -1,5 +1,6 @@
 -- What is planned where the files of a command gave no reports.
-use Rattle.std.specs.Prelude.{◌≡◌, ◌<◌, ℕ, List, [], slice_get, Some}
+use Rattle.std.specs.Prelude.{◌≡◌, ◌<◌, ℕ, [], slice_get, Some}
+use Rattle.command.specs.Bytes.{Bytes, Words}
 use Rattle.command.specs.Due.{not_read_line}
 use Rattle.command.specs.declared.status.Status.{Status}
 use Rattle.command.specs.declared.status.Status.TheVariants as status
@@ -16,7 +17,7 @@ IsAmong count (Faulty l) = Unit {0}
 IsAmong count NoMemory = Unit {0}
 
 -- what is planned for it
-abbrev pub IsPlanOf : List (List ℕ) → List (List ℕ) → Unjudged → Status → List ℕ → List ℕ → Type 0
+abbrev pub IsPlanOf : Words → Words → Unjudged → Status → Bytes → Bytes → Type 0
 IsPlanOf checkers sources (NotRead position) s text line =
     (s ≡ status.ReadFault) × (text ≡ []) × ((t : Turn) → slice_get (turns checkers sources) position ≡ Some t → line ≡ not_read_line t.word)
 IsPlanOf checkers sources (Faulty l) s text line = (s ≡ status.Refused) × (text ≡ []) × (line ≡ refused_line (located_of l))

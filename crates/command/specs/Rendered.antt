@@ -2,16 +2,17 @@
 use Rattle.std.specs.Prelude.{◌≡◌, ◌≢◌, ℕ, List, [], slice_get, Option, None, Some}
 use Rattle.report_model.specs.declared.report.Report.{Report}
 use Rattle.report_model.specs.Lines.{text_of}
+use Rattle.command.specs.Bytes.{Bytes}
 use Rattle.command.specs.declared.status.Status.{Status}
 use Rattle.command.specs.declared.status.Status.TheVariants as status
 
 -- a line for each report, or what the reporter at the place renders
-abbrev pub IsText : Option ℕ → List (List ℕ) → List Report → List ℕ → Type 0
+abbrev pub IsText : Option ℕ → List Bytes → List Report → Bytes → Type 0
 IsText None renderings reports text = text ≡ text_of reports
 IsText (Some place) renderings reports text = slice_get renderings place ≡ Some text
 
 -- what is planned for a list of reports
-abbrev pub IsPlanFor : Option ℕ → List (List ℕ) → List Report → Status → List ℕ → List ℕ → Type 0
+abbrev pub IsPlanFor : Option ℕ → List Bytes → List Report → Status → Bytes → Bytes → Type 0
 IsPlanFor place renderings reports status.Clean text line = (reports ≡ []) × IsText place renderings reports text × (line ≡ [])
 IsPlanFor place renderings reports status.Reports text line = (reports ≢ []) × IsText place renderings reports text × (line ≡ [])
 IsPlanFor place renderings reports status.Usage text line = ⊥

@@ -1,9 +1,9 @@
 //! What a run writes, once all is decided.
 
-ghost use Rattle.std.specs.Prelude.{◌≡◌, ◌≤◌, OnOk, OnErr};
+ghost use Rattle.std.specs.Prelude.{◌≡◌, ◌≤◌, IsOk, OnOk, OnErr, length};
 ghost use Rattle.std.specs.Io.KnownBytes.{Appends};
 ghost use Rattle.mx_io.specs.Causes.{Rose};
-ghost use Rattle.command.specs.Written.{AppendsPart, Written, SinkStep};
+ghost use Rattle.command.specs.Written.{AppendsPart, Written};
 
 use crate::status::Status;
 use mx_io::{Sink, SinkFailed};
@@ -15,6 +15,7 @@ fn write_whole<S: Sink>(text: &[u8], sink: &mut S) -> Result<(), SinkFailed>
     ensures part { OnErr result (AppendsPart (S.received sink.old) (S.received sink.new) text.now) }
     ensures rose { OnErr result (Rose (S.faults sink.old) (S.faults sink.new)) }
     ensures still { OnOk result (S.faults sink.new ≡ S.faults sink.old) }
+    ensures fitting { length text.now ≤ S.sure sink.old → IsOk result }
 {
     let mut at = 0;
     while at < text.len() {
@@ -31,7 +32,10 @@ pub fn carry_out<O: Sink, E: Sink>(
     out: &mut O,
     errs: &mut E,
 ) -> Status
-    ensures { Written status text.now line.now result (record { before = O.received out.old; after = O.received out.new; faults_before = O.faults out.old; faults_after = O.faults out.new }) (record { before = E.received errs.old; after = E.received errs.new; faults_before = E.faults errs.old; faults_after = E.faults errs.new }) }
+    ensures written { Written status text.now line.now result
+        (record { before = O.received out.old; after = O.received out.new; faults_before = O.faults out.old; faults_after = O.faults out.new; sure = O.sure out.old })
+        (record { before = E.received errs.old; after = E.received errs.new; faults_before = E.faults errs.old; faults_after = E.faults errs.new; sure = E.sure errs.old }) }
+    ensures fitting { (length text.now ≤ O.sure out.old) × (length line.now ≤ E.sure errs.old) → result ≡ status }
 {
     if write_whole(text, out).is_err() {
         return Status::WriteFault;

@@ -2,3 +2,4 @@ pub mod Skipping
 pub mod Rules
 pub mod Counting
 pub mod Walking
+pub mod Placing

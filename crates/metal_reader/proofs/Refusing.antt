@@ -1,12 +1,6 @@
--- What a refusal says, and what is known of tokens that the lexer gave.
-use Rattle.std.proofs.Common.{◌≡◌, ◌⊎◌, inl, inr, ℕ, ◌+◌, List, [], ◌∷◌, length, Option, None, Some, Result, Ok, Err, IfOk, IfErr, ap, refl, ◌∙◌}
-use Rattle.std.proofs.lemmas.Option.{slice_get_within}
-use Rattle.c_tree.specs.declared.token.Token.{Token}
+-- What a refusal says.
+use Rattle.std.proofs.Common.{◌≡◌, ◌⊎◌, inl, inr, ℕ, List, Option, None, Some, Result, Ok, Err, IfOk, IfErr, ap, refl, ◌∙◌}
 use Rattle.c_tree.specs.Symbol.{Symbol}
-use Rattle.c_lexer.specs.declared.c_reading.mode.Mode.{Mode}
-use Rattle.c_lexer.specs.CReading.Pieces.{Piece}
-use Rattle.c_lexer.specs.CReading.Reading.{Lexeme}
-use Rattle.c_lexer.specs.Tokens.{AreTokens, Lexes, TokenList}
 use Rattle.metal_grammar.specs.Words.{Spelling}
 use Rattle.metal_grammar.specs.Written as text
 use Rattle.metal_grammar.specs.FirstFault as first
@@ -22,7 +16,6 @@ use Rattle.metal_grammar.proofs.Machines.{syntax_faults_are_read}
 use Rattle.metal_clauses.specs.declared.fault.ClauseFault.{ClauseFault}
 use Rattle.metal_clauses.specs.declared.fault.ClauseFault.TheVariants as clause
 use Rattle.metal_clauses.specs.Read.{IsUnread}
-use Rattle.metal_written.specs.Texts.{AreBelow}
 use Rattle.metal_reader.specs.declared.metal_faults.fault.MetalFault.{MetalFault}
 use Rattle.metal_reader.specs.declared.metal_faults.fault.MetalFault.TheVariants as faults
 use Rattle.metal_reader.specs.MetalFaults.ClauseFaults.{metal_fault}
@@ -34,21 +27,8 @@ use Rattle.metal_reader.specs.MetalFaults.FirstFaults.{Says}
 abbrev pub IsRefused : Spelling → List Symbol → ℕ → MetalFault → Type 0
 IsRefused spelling ts file e = (e ≡ faults.NoMemory) ⊎ IsFault spelling ts file e
 
-never_lexical : {f : _} (file : ℕ) (fault : first.Fault) → faults.Lex f ≡ fault_in file fault → ⊥
-never_lexical file (first.SyntaxAt at) h = cc
-never_lexical file (first.TooMany what at) h = cc
-never_lexical file (first.Twice name at) h = cc
-never_lexical file (first.UnknownCallout name at) h = cc
-never_lexical file (first.TwoVariables rule) h = cc
-never_lexical file (first.BadSplit rule) h = cc
-never_lexical file (first.BadSource rule) h = cc
-never_lexical file (first.VariableMissing rule) h = cc
-never_lexical file (first.BadFormat rule) h = cc
-
 pub refuses : (spelling : Spelling) (ts : List Symbol) (file : ℕ) (e : MetalFault) → IsRefused spelling ts file e → Refuses spelling ts file e
 refuses spelling ts file faults.NoMemory h = tt
-refuses spelling ts file (faults.Lex f) (inl h) = cc
-refuses spelling ts file (faults.Lex f) (inr (fault, w, h)) = never_lexical file fault h
 refuses spelling ts file (faults.Syntax p) (inl h) = cc
 refuses spelling ts file (faults.Syntax p) (inr h) = h
 refuses spelling ts file (faults.TooMany w p) (inl h) = cc
@@ -101,13 +81,3 @@ pub says_first : (e : MetalFault) (file : ℕ) (a b whole : Option first.Fault) 
     → (e ≡ faults.NoMemory) ⊎ ((fault : first.Fault) × (a ≡ Some fault) × (e ≡ fault_in file fault)) → (e ≡ faults.NoMemory) ⊎ ((fault : first.Fault) × (whole ≡ Some fault) × (e ≡ fault_in file fault))
 says_first e file a b whole w (inl h) = inl h
 says_first e file a b whole w (inr (fault, h, k)) = inr (fault, w ∙ ap (λ o. first.or_else o b) h, k)
-
--- The names of the lexer's tokens are names.
-pub below_of : (number : ℕ) (names : Spelling) (before : ℕ) (ls : List Lexeme) (ts : List Token) → AreTokens number names before ls ts → AreBelow (length names) ts
-below_of number names before [] [] h = tt
-below_of number names before [] (t ∷ ts) h = absurd h
-below_of number names before (l ∷ ls) [] h = absurd h
-below_of number names before (l ∷ ls) (t ∷ ts) h = (slice_get_within names t.name l.spelling h.0.name, below_of number names (before + 1) ls ts h.1)
-
-pub lexed_below : (mode : Mode) (number : ℕ) (word : List ℕ) (names : Spelling) (pieces : List Piece) (list : TokenList) → Lexes mode number word names pieces list → AreBelow (length names) list.all
-lexed_below mode number word names pieces list h = below_of number names 0 _ list.all h.tokens

@@ -1,4 +1,3 @@
 pub mod Faults
 pub mod MetalPositions
 pub mod MetalFaults
-pub mod CheckerFrontEnd

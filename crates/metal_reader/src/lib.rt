@@ -1,4 +1,4 @@
-//! Reads checkers, from their bytes to the machine that they are or to the first fault that they have and its place.
+//! Reads checkers, from their tokens to the machine that they are or to the first fault that they have and its place.
 #![tactic(auto)]
 
 // faults and places of rules
@@ -6,11 +6,9 @@ mod metal_faults;
 mod metal_positions;
 
 // reading of checkers
-mod checker_front_end;
 mod reading;
 
-pub use checker_front_end::{CheckerFault, Faulty, Refusal, read_checker, read_tokens};
 pub use metal_faults::MetalFault;
 pub use metal_numbers::Which;
 pub use metal_positions::{rule_place, rules_are_counted};
-pub use reading::read_machine_bytes;
+pub use reading::read_machine;

@@ -1,13 +1,12 @@
-//! Reads a checker from its tokens or its bytes.
+//! Reads a checker from its tokens.
 
-ghost use Rattle.std.specs.Prelude.{◌≡◌, ◌⊎◌, ◌+◌, ◌*◌, ◌<◌, ◌≤◌, ◌^◌, None, List, length, IfOk, IfErr, MatchResult};
+ghost use Rattle.std.specs.Prelude.{◌≡◌, ◌⊎◌, ◌+◌, ◌<◌, ◌≤◌, ◌^◌, None, List, length, IfOk, IfErr, MatchResult};
 ghost use Rattle.mx_base.specs.Names.{AddsAtMost, HasNoRepeats};
 ghost use Rattle.c_tree.specs.Symbol.{Symbol, symbol_of, symbols_of};
-ghost use Rattle.c_lexer.specs.Tokens.{TokenList};
 ghost use Rattle.metal_grammar.specs.Definition.{IsMachine};
 ghost use Rattle.metal_grammar.specs.Grammar.{IsText};
 ghost use Rattle.metal_tree.specs.Whole.{machine_view};
-ghost use Rattle.metal_reader.specs.Faults.{Refuses as RefusesText, RefusesBytes, IsLexed};
+ghost use Rattle.metal_reader.specs.Faults.{Refuses};
 ghost use Rattle.metal_numbers.specs.MetalBuilding.Places.{HasPlaces};
 ghost use Rattle.metal_written.specs.Strings.{with_strings};
 ghost use Rattle.metal_written.specs.Texts.{AreBelow, AreRight};
@@ -21,7 +20,7 @@ ghost use Rattle.metal_written.specs.Sizes.{ClausesHaveSizes, size_of_all};
 ghost use Rattle.metal_written.specs.Written.{clause_views};
 
 use crate::metal_faults::{MetalFault, check_declarations, check_rules};
-use c_lexer::{LexFault, Mode, Tokens, lex};
+use c_lexer::Tokens;
 use c_tree::{Arena, Token};
 use metal_clauses::read_clauses;
 use metal_numbers::{builder_of, holes_of, made_of};
@@ -92,7 +91,7 @@ fn machine_of_tokens<'a>(
     requires known { StringsAreKnown names.now (symbols_of tokens.now) }
     ensures machine { IfOk result (λ machine. IsMachine names.now (symbols_of tokens.now) (machine_view machine)) }
     ensures places { IfOk result (λ machine. HasPlaces file machine.rules.now) }
-    ensures refused { IfErr result (λ fault. RefusesText names.now (symbols_of tokens.now) file fault) }
+    ensures refused { IfErr result (λ fault. Refuses names.now (symbols_of tokens.now) file fault) }
 {
     match read_clauses(arena, alloc, names, file, tokens) {
         Ok(clauses) => machine_of(arena, names, texts, file, clauses),
@@ -114,7 +113,7 @@ pub fn read_machine<'a>(
     requires below { AreBelow (length names.old) tokens.now.all }
     ensures machine { IfOk result (λ machine. IsMachine names.new (symbols_of tokens.now.all) (machine_view machine)) }
     ensures places { IfOk result (λ machine. HasPlaces tokens.now.end.place.file machine.rules.now) }
-    ensures refused { IfErr result (λ fault. RefusesText names.new (symbols_of tokens.now.all) tokens.now.end.place.file fault) }
+    ensures refused { IfErr result (λ fault. Refuses names.new (symbols_of tokens.now.all) tokens.now.end.place.file fault) }
     ensures adds { AddsAtMost names.old names.new (length tokens.now.all) }
     ensures named { MatchResult result (λ _. names.new ≡ with_strings names.old (symbols_of tokens.now.all)) (λ fault. (fault ≡ NoMemory) ⊎ (names.new ≡ with_strings names.old (symbols_of tokens.now.all))) }
     ensures distinct { HasNoRepeats names.new }
@@ -125,33 +124,4 @@ pub fn read_machine<'a>(
         Ok(texts) => machine_of_tokens(arena, alloc, names, &texts, file, all),
         Err(_) => Err(MetalFault::NoMemory),
     }
-}
-
-/// Reads bytes as the tokens of a checker, which then stand in the place that is lent, and these as a machine.
-///
-/// Where the bytes are no tokens, the place stays as it was. No clause says so: the machine goes on borrowing the place.
-pub fn read_machine_bytes<'a>(
-    arena: &'a Arena,
-    alloc: Global,
-    tokens: &'a mut Option<Tokens>,
-    bytes: &[u8],
-    file: u16,
-    word: &[u8],
-    names: &mut Names,
-) -> Result<Machine<'a>, MetalFault>
-    requires size { length bytes.now ≤ 16777216 }
-    requires room { 2 * length bytes.now + length names.old + 1 < 2 ^ 31 }
-    ensures machine { IfOk result (λ machine. (list : TokenList) × IsLexed file word.now names.new bytes.now list × IsMachine names.new (symbols_of list.all) (machine_view machine)) }
-    ensures places { IfOk result (λ machine. HasPlaces file machine.rules.now) }
-    ensures refused { IfErr result (λ fault. RefusesBytes file word.now names.new bytes.now fault) }
-    ensures adds { AddsAtMost names.old names.new (2 * length bytes.now + 1) }
-    ensures distinct { HasNoRepeats names.new }
-{
-    let lexed = match lex(alloc, bytes, Mode::Metal, file, word, names) {
-        Ok(lexed) => lexed,
-        Err(LexFault::NoMemory) => return Err(MetalFault::NoMemory),
-        Err(fault) => return Err(MetalFault::Lex(fault)),
-    };
-    let kept = tokens.insert(lexed);
-    read_machine(arena, alloc, kept, names)
 }

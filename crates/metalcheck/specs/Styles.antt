@@ -1,38 +1,42 @@
--- THE STYLES OF THE PROGRAM, from which `--format` chooses by name, and what a run prints in them.
-use Rattle.std.specs.Prelude.{◌≡◌, ◌≢◌, ◌⊎◌, ℕ, List, [], ◌∷◌, filter, Option, None, Some, codes}
-use Rattle.command.specs.Handed.{AreAccepted}
-use Rattle.command.specs.Ran.{ReporterStep, reporter_step}
-use Rattle.command.specs.Written.{SinkStep, Took}
-use Rattle.command.specs.declared.status.Status.{Status}
+-- WHAT THE PROGRAM PROMISES: what `run` does (`command`: `Run`) with a reporter of each style that `--format` can choose, and that the text is
+-- in the style that the words name.
+use Rattle.std.specs.Prelude.{◌≡◌, ◌≢◌, ◌⊎◌, List, [], ◌∷◌, filter, map, Option, None, Some, codes}
+use Rattle.command.specs.Bytes.{Bytes}
+use Rattle.command.specs.Handed.{AreAccepted, may_hold}
+use Rattle.command.specs.Run.{Promise, ReporterState, Run, reporter_state}
+use Rattle.command.specs.Written.{Took}
 use Rattle.command.specs.declared.status.Status.TheVariants.{Clean, Reports}
-use Rattle.command_words.specs.Words.{Request, is_checker_word, is_source_word}
+use Rattle.command_words.specs.Words.{IsRequest, Request, is_checker_word, is_source_word}
 use Rattle.report_model.specs.Lines.{text_of}
 use Rattle.report_model.specs.declared.report.Report.{Report}
 use Rattle.report_model.specs.OfReporters.Styles.{json_of, table_of}
 
--- their names, in order
-abbrev pub style_names : List (List ℕ)
-style_names = codes "table" ∷ codes "json" ∷ []
+-- A REPORTER OF EACH STYLE, which holds nothing. They are made for the run and gone behind it
+abbrev pub both_styles : List ReporterState
+both_styles = reporter_state (codes "table") table_of [] ∷ reporter_state (codes "json") json_of [] ∷ []
 
--- what each of them makes of a list of reports, in the same order
-abbrev pub styles : List Report → List (List ℕ)
-styles reports = table_of reports ∷ json_of reports ∷ []
-
--- a reporter of each style. They are made for the run and gone behind it: they hold nothing before and nothing after
-abbrev pub both_styles : ReporterStep
-both_styles = reporter_step style_names styles ([] ∷ [] ∷ []) ([] ∷ [] ∷ [])
+-- reporters of these names and styles, in this order, whatever they hold
+pub record AreOfBothStyles (reporters : List ReporterState) : Type 0 where
+  pub names : map (λ (r : ReporterState). r.called) reporters ≡ map (λ (r : ReporterState). r.called) both_styles
+  pub styles : (reports : List Report) → map (λ (r : ReporterState). r.style reports) reporters ≡ map (λ (r : ReporterState). r.style reports) both_styles
 
 -- THE TEXT OF REPORTS by the format that is named: a line for each where none is, a table, or lines of JSON
-abbrev pub IsTextIn : Option (List ℕ) → List Report → List ℕ → Type 0
+abbrev pub IsTextIn : Option Bytes → List Report → Bytes → Type 0
 IsTextIn None reports text = text ≡ text_of reports
 IsTextIn (Some name) reports text = ((name ≡ codes "table") × (text ≡ table_of reports)) ⊎ ((name ≡ codes "json") × (text ≡ json_of reports))
 
 -- the reports of the files of a request were printed in its format, and nothing else, and the status says whether there are any
-pub record PrintsAsAsked (Holds : List ℕ → List ℕ → Type 0) (request : Request) (result : Status) (out errs : SinkStep) : Type 0 where
+pub record PrintsAsAsked (run : Run) (request : Request) : Type 0 where
   pub reports : List Report
-  pub accepted : AreAccepted Holds (filter is_checker_word request.files) (filter is_source_word request.files) request.depth reports
-  pub status : ((result ≡ Clean) × (reports ≡ [])) ⊎ ((result ≡ Reports) × (reports ≢ []))
-  pub text : List ℕ
+  pub accepted : AreAccepted (may_hold run.told) (filter is_checker_word request.files) (filter is_source_word request.files) request.depth reports
+  pub status : ((run.status ≡ Clean) × (reports ≡ [])) ⊎ ((run.status ≡ Reports) × (reports ≢ []))
+  pub text : Bytes
   pub text_is : IsTextIn request.format reports text
-  pub printed : Took out text
-  pub nothing : Took errs []
+  pub printed : Took run.out text
+  pub nothing : Took run.errs []
+
+pub record PromiseInStyles {Files : Type 0} (files_before files_after : Files) (run : Run) : Type 0 where
+  -- What every run promises.
+  pub promise : Promise files_before files_after run
+  -- And a request that ends in its reports has them in its format.
+  pub in_format : (request : Request) → IsRequest run.words request → (run.status ≡ Clean) ⊎ (run.status ≡ Reports) → PrintsAsAsked run request

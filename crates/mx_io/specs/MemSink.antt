@@ -1,5 +1,5 @@
 -- A sink in memory: when a write fails, how many bytes it takes otherwise, and what it leaves.
-use Rattle.std.specs.Prelude.{ℕ, Bool, ◌||◌, ◌-◌, ◌==◌, min, List, [], ◌++◌, length, take, if◌then◌else◌}
+use Rattle.std.specs.Prelude.{ℕ, Bool, ◌||◌, ◌-◌, ◌==◌, min, List, [], ◌∷◌, ◌++◌, length, take, if◌then◌else◌}
 use Rattle.mx_io.specs.Calls.{raised, is_due}
 
 -- the most bytes of one write, the numbers of the writes that are to fail, the bytes that still fit,
@@ -19,6 +19,14 @@ empty_sink most fails room = record { most = most; fails = fails; room = room; c
 -- whether the next write fails
 abbrev pub fails_now : SinkView → Bool
 fails_now s = (s.room == 0) || is_due s.fails s.calls
+
+-- how many bytes it surely takes still, in whatever pieces: the room that is left, where no write is to fail
+abbrev pub sure_of : List ℕ → ℕ → ℕ
+sure_of [] room = room
+sure_of (number ∷ numbers) room = 0
+
+abbrev pub sure_room : SinkView → ℕ
+sure_room s = sure_of s.fails s.room
 
 -- how many bytes it takes if it does not
 abbrev pub count_now : SinkView → List ℕ → ℕ

@@ -1,1 +1,3 @@
-pub mod Refusing
+pub mod MoreNames
+pub mod NoMachine
+pub mod NoUnit

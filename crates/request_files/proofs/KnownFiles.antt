@@ -1,5 +1,5 @@
 -- Presumed files of faults are names, and what is kept of tokens.
-use Rattle.std.proofs.Common.{◌≡◌, ◌≤◌, ◌+◌, ℕ, zero, suc, ◌⊎◌, inl, inr, Bool, true, false, ◌==◌, if◌then◌else◌, List, [], ◌∷◌, length, min, Option, None, Some, refl, sym, ap, ◌∙◌, subst, arith}
+use Rattle.std.proofs.Common.{◌≡◌, ◌≤◌, ◌+◌, ℕ, zero, suc, inl, inr, Bool, true, false, if◌then◌else◌, ◌==◌, List, [], ◌∷◌, length, Option, None, Some, sym, ap, ◌∙◌, subst, arith}
 use Rattle.c_tree.specs.declared.place.Place.{Place}
 use Rattle.c_tree.specs.declared.token.Token.{Token}
 use Rattle.c_lexer.specs.declared.c_reading.mode.Mode.{Mode}
@@ -8,13 +8,12 @@ use Rattle.c_lexer.specs.CReading.Reading.{Lexeme}
 use Rattle.c_lexer.specs.CReading.Strip.{stripped, stripped_behind, if_dropped, dropped_with, kept}
 use Rattle.c_lexer.specs.Tokens.{TokenList, AreTokens, Lexes, position_of}
 use Rattle.c_lexer.specs.declared.fault.Spot.{Spot}
-use Rattle.metal_reader.specs.CheckerFrontEnd.Checkers as checkers
-use Rattle.metal_reader.specs.declared.checker_front_end.fault.Faulty as found_in_checker
-use Rattle.request_files.specs.declared.front_end.fault.Fault.{Fault}
-use Rattle.request_files.specs.declared.front_end.fault.Fault.TheVariants.{Syntax}
-use Rattle.request_files.specs.declared.front_end.fault.Faulty.{Faulty}
+use Rattle.request_files.specs.declared.fault.Fault.{Fault}
+use Rattle.request_files.specs.declared.fault.Fault.TheVariants.{Syntax}
+use Rattle.request_files.specs.declared.front_end.refusal.Faulty.{Faulty}
 use Rattle.request_files.specs.FrontEnd.Faults.{of_typing, place_of}
-use Rattle.request_files.specs.FrontEnd.Sources.{HasNoTrees, HasNoTypes, stands_at}
+use Rattle.request_files.specs.FrontEnd.Checkers.{HasNoMachine}
+use Rattle.request_files.specs.FrontEnd.Found.{stands_at}
 use Rattle.request_files.specs.Faults.{without_dropped, HasNoUnitAt}
 use Rattle.request_files.specs.Stages.{IsNamed, AreNamed, AreKnown}
 
@@ -51,14 +50,14 @@ position_named names (t ∷ ts) end n a e = by (t.place.token == n) (position_na
     by false below = below
 
 -- at a token of the kept ones
-place_named : (names : List (List ℕ)) (list : TokenList) (fault : Fault) (place : Place) → AreKnown names list → IsNamed names (stands_at (without_dropped list) fault place).source
+place_named : (names : List (List ℕ)) (list : TokenList) (fault : Fault) (place : Place) → AreKnown names list → IsNamed names (stands_at (without_dropped list) fault place.token).source
 place_named names list fault place k = position_named names (stripped list.all) list.end place.token (kept_named names 0 list.all k.all) k.end
 
 pub no_unit_named : (names : List (List ℕ)) (list : TokenList) (found : Faulty) → AreKnown names list → HasNoUnitAt list found → IsNamed names found.source
 no_unit_named names list found k (inl t) = subst (λ f. IsNamed names f.source) (sym t.there) (place_named names list Syntax t.place k)
 no_unit_named names list found k (inr t) = subst (λ f. IsNamed names f.source) (sym t.there) (place_named names list (of_typing t.fault) (place_of t.fault) k)
 
-pub no_machine_named : (names : List (List ℕ)) (list : TokenList) (found : found_in_checker.Faulty) → AreKnown names list → checkers.HasNoMachine names list found → IsNamed names found.source
+pub no_machine_named : (names : List (List ℕ)) (list : TokenList) (found : Faulty) → AreKnown names list → HasNoMachine names list found → IsNamed names found.source
 no_machine_named names list found k h = subst (λ f. IsNamed names f.source) (sym h.there) (position_named names list.all list.end h.position k.all k.end)
 
 -- no more tokens are kept than there are

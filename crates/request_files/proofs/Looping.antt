@@ -1,5 +1,5 @@
 -- One turn of the loops over words.
-use Rattle.std.proofs.Common.{◌≡◌, ℕ, zero, suc, get_or, take, ◌+◌, ◌-◌, ◌*◌, ◌<◌, ◌≤◌, List, [], ◌∷◌, ◌++◌, length, map, min, Option, Some, None, slice_get, refl, sym, ap, ◌∙◌, subst, arith, length-append}
+use Rattle.std.proofs.Common.{◌≡◌, ℕ, zero, suc, get_or, take, ◌+◌, ◌-◌, ◌*◌, ◌<◌, ◌≤◌, List, [], ◌∷◌, ◌++◌, length, map, Option, Some, None, slice_get, refl, sym, ap, ◌∙◌, subst, arith}
 use Rattle.std.specs.Borrow.{Bor, MutBor}
 use Rattle.std.specs.Slice.Iter.{iter_mut_rest, iter_mut_steps}
 use Rattle.std.specs.declared.slice.IterMut.{IterMut}
@@ -13,7 +13,7 @@ use Rattle.request_files.specs.InTurn.{AreReadCheckers, AreReadSources}
 use Rattle.request_files.specs.Reading.{AreSound, FailedAt, FaultyAt}
 use Rattle.request_files.specs.Stages.{AnswersStopped, HasLoadedChecker, HasLoadedSource, failed_after_stop}
 use Rattle.request_files.specs.Telling.{may_hold}
-use Rattle.request_files.specs.Turns.{Kind, CheckerFile, SourceFile, numbered}
+use Rattle.request_files.specs.Turns.{Kind, numbered}
 use Rattle.request_files.specs.Views.{located_of, machines_of, text_of, texts_of, words_of}
 use Rattle.request_files.specs.declared.fault.LocatedFault.{LocatedFault}
 use Rattle.request_files.specs.declared.stopped.Stopped.{Stopped}

@@ -2,13 +2,10 @@
 use Rattle.std.specs.Prelude.{◌≡◌, ℕ, ◌≤◌, ◌<◌, min, List, [], ◌∷◌, ◌++◌, length, slice_get, Option, Some, Result, Ok, Err, Vec}
 use Rattle.c_lexer.specs.Tokens.{TokenList}
 use Rattle.c_tree.specs.declared.token.Token.{Token}
-use Rattle.metal_reader.specs.declared.checker_front_end.fault.Faulty as found_in_checker
-use Rattle.metal_reader.specs.declared.checker_front_end.fault.Refusal as checker_refusal
-use Rattle.metal_reader.specs.declared.checker_front_end.fault.Refusal.TheVariants as checker_refusals
 use Rattle.typed_unit.specs.Texts.{Text}
-use Rattle.request_files.specs.declared.front_end.fault.Faulty as found_in_text
-use Rattle.request_files.specs.declared.front_end.fault.Refusal as text_refusal
-use Rattle.request_files.specs.declared.front_end.fault.Refusal.TheVariants as text_refusals
+use Rattle.request_files.specs.declared.front_end.refusal.Faulty.{Faulty}
+use Rattle.request_files.specs.declared.front_end.refusal.Refusal.{Refusal}
+use Rattle.request_files.specs.declared.front_end.refusal.Refusal.TheVariants as refusals
 use Rattle.metal_tree.specs.MetalMachines.Machine.{Machine}
 use Rattle.mx_io.specs.Reads.{Stands}
 use Rattle.request_files.specs.Faults.{Before, HasFault, HasNoUnitAt, at_start, file_limit}
@@ -16,7 +13,6 @@ use Rattle.request_files.specs.Meanings.{IsChecker, IsSource}
 use Rattle.request_files.specs.Turns.{Turn}
 use Rattle.request_files.specs.Views.{located_of}
 use Rattle.request_files.specs.declared.fault.Fault.{Fault}
-use Rattle.request_files.specs.declared.fault.Fault.TheVariants as faults
 use Rattle.request_files.specs.declared.fault.LocatedFault.{LocatedFault}
 use Rattle.request_files.specs.declared.file.Missing.{Missing}
 use Rattle.request_files.specs.declared.file.Missing.TheVariants.{NotRead, TooLarge, NoMemory}
@@ -57,13 +53,9 @@ pub record AreKnown (names : List (List ℕ)) (list : TokenList) : Type 0 where
   pub end : IsNamed names list.end.source
 
 -- the presumed file of a fault is among the names
-abbrev pub IsKnown : List (List ℕ) → text_refusal.Refusal → Type 0
-IsKnown names (text_refusals.Faulty found) = IsNamed names found.source
-IsKnown names text_refusals.NoMemory = Unit {0}
-
-abbrev pub IsKnownChecker : List (List ℕ) → checker_refusal.Refusal → Type 0
-IsKnownChecker names (checker_refusals.Faulty found) = IsNamed names found.source
-IsKnownChecker names checker_refusals.NoMemory = Unit {0}
+abbrev pub IsKnown : List (List ℕ) → Refusal → Type 0
+IsKnown names (refusals.Faulty found) = IsNamed names found.source
+IsKnown names refusals.NoMemory = Unit {0}
 
 -- a fault on this line of the presumed file with this number
 pub record IsLocated (names : List (List ℕ)) (fault : Fault) (source line : ℕ) (l : LocatedFault) : Type 0 where
@@ -76,20 +68,15 @@ IsThere names fault source line stops.NotRead = ⊥
 IsThere names fault source line (stops.Faulty l) = IsLocated names fault source line l
 IsThere names fault source line stops.NoMemory = Unit {0}
 
--- the fault that was found in a text, on that line of that file
-abbrev pub IsInText : List (List ℕ) → text_refusal.Refusal → Stopped → Type 0
-IsInText names text_refusals.NoMemory stop = stop ≡ stops.NoMemory
-IsInText names (text_refusals.Faulty found) stop = IsThere names (faults.InText found.fault) found.source found.line stop
-
--- the same in a checker
-abbrev pub IsInChecker : List (List ℕ) → checker_refusal.Refusal → Stopped → Type 0
-IsInChecker names checker_refusals.NoMemory stop = stop ≡ stops.NoMemory
-IsInChecker names (checker_refusals.Faulty found) stop = IsThere names (faults.InChecker found.fault) found.source found.line stop
+-- the fault that was found, on that line of that file
+abbrev pub IsRefused : List (List ℕ) → Refusal → Stopped → Type 0
+IsRefused names refusals.NoMemory stop = stop ≡ stops.NoMemory
+IsRefused names (refusals.Faulty found) stop = IsThere names found.fault found.source found.line stop
 
 -- why the tokens of a C file gave nothing
 abbrev pub HasNoUnit : List (List ℕ) → TokenList → Stopped → Type 0
 HasNoUnit names list stops.NotRead = ⊥
-HasNoUnit names list (stops.Faulty l) = (found : found_in_text.Faulty) × IsLocated names (faults.InText found.fault) found.source found.line l × HasNoUnitAt list found
+HasNoUnit names list (stops.Faulty l) = (found : Faulty) × IsLocated names found.fault found.source found.line l × HasNoUnitAt list found
 HasNoUnit names list stops.NoMemory = Unit {0}
 
 -- why the bytes of a file gave nothing

@@ -15,11 +15,11 @@ ghost use Rattle.request_files.specs.Views.{machines_of, words_of};
 
 use crate::fault::Fault;
 use crate::file::{Missing, read_file};
-use crate::stopped::{Stopped, at_start, in_checker};
+use crate::front_end::{read_checker, read_tokens};
+use crate::stopped::{Stopped, at_start, refused};
 use crate::unread::Unread;
 use bumpalo::Bump;
-use c_lexer::Tokens;
-use metal_reader::{read_checker, read_tokens};
+use c_lexer::{Mode, Tokens};
 use metal_tree::Machine;
 use mx_base::Names;
 use mx_io::Files;
@@ -50,14 +50,14 @@ fn read_machine<'a>(
     ensures adds { AddsAtMost names.old names.new (2 * length bytes.now + 1) }
     ensures distinct { HasNoRepeats names.new }
 {
-    let tokens = match read_tokens(alloc, bytes, number, word, names) {
+    let tokens = match read_tokens(alloc, bytes, Mode::Metal, number, word, names) {
         Ok(tokens) => tokens,
-        Err(refusal) => return Err(in_checker(alloc, names, refusal)),
+        Err(refusal) => return Err(refused(alloc, names, refusal)),
     };
     let kept = place.insert(tokens);
     match read_checker(arena, alloc, kept, names) {
         Ok(machine) => Ok(machine),
-        Err(refusal) => Err(in_checker(alloc, names, refusal)),
+        Err(refusal) => Err(refused(alloc, names, refusal)),
     }
 }
 

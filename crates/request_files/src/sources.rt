@@ -1,6 +1,6 @@
 //! The C files of a request, read and judged one after the other.
 
-ghost use Rattle.std.specs.Prelude.{◌≡◌, ◌≤◌, ◌^◌, ◌+◌, ◌*◌, ℕ, Some, length, slice_get, IfOk, IfErr, OnOk};
+ghost use Rattle.std.specs.Prelude.{◌≡◌, ◌≤◌, ◌^◌, ◌+◌, ℕ, Some, length, slice_get, IfOk, IfErr, OnOk};
 ghost use Rattle.mx_base.specs.Names.{AddsAtMost, HasNoRepeats};
 ghost use Rattle.c_lexer.specs.CReading.Strip.{stripped};
 ghost use Rattle.c_tree.specs.Views.{nodes_of};
@@ -19,10 +19,10 @@ ghost use Rattle.typed_unit.specs.declared.typed_unit.TypedUnit.{TypedUnit as Un
 use crate::fault::Fault;
 use crate::file::{Missing, read_file};
 use crate::front_end::{read_tokens, read_typed};
-use crate::stopped::{Stopped, at_start, in_text};
+use crate::stopped::{Stopped, at_start, refused};
 use crate::unread::Unread;
 use bumpalo::Bump;
-use c_lexer::{Tokens, strip};
+use c_lexer::{Mode, Tokens, strip};
 use mx_base::Names;
 use mx_io::Files;
 use std::alloc::Global;
@@ -57,7 +57,7 @@ fn type_tokens<'a>(
     let kept = place.insert(stripped);
     match read_typed(arena, alloc, kept) {
         Ok(unit) => Ok(unit),
-        Err(refusal) => Err(in_text(alloc, names, refusal)),
+        Err(refusal) => Err(refused(alloc, names, refusal)),
     }
 }
 
@@ -79,9 +79,9 @@ fn read_unit<'a>(
     ensures adds { AddsAtMost names.old names.new (length bytes.now + 1) }
     ensures distinct { HasNoRepeats names.new }
 {
-    let tokens = match read_tokens(alloc, bytes, number, word, names) {
+    let tokens = match read_tokens(alloc, bytes, Mode::C, number, word, names) {
         Ok(tokens) => tokens,
-        Err(refusal) => return Err(in_text(alloc, names, refusal)),
+        Err(refusal) => return Err(refused(alloc, names, refusal)),
     };
     match type_tokens(arena, alloc, &tokens, place, names) {
         Ok(unit) => Ok(unit),

@@ -1,11 +1,9 @@
 //! Why a file gave nothing.
 
-ghost use Rattle.std.specs.Prelude.{◌≡◌};
-ghost use Rattle.request_files.specs.Stages.{IsAtStart, IsInChecker, IsInText, IsKnown, IsKnownChecker, IsNamed, IsThere};
+ghost use Rattle.request_files.specs.Stages.{IsAtStart, IsKnown, IsNamed, IsRefused, IsThere};
 
 use crate::fault::{Fault, LocatedFault};
-use crate::front_end::Refusal as TextRefusal;
-use metal_reader::Refusal as CheckerRefusal;
+use crate::front_end::Refusal;
 use mx_base::Names;
 use std::alloc::Global;
 
@@ -45,36 +43,13 @@ fn at_line(alloc: Global, names: &Names, fault: Fault, source: u32, line: u32) -
     }
 }
 
-/// A fault in a checker.
-pub(crate) fn in_checker(alloc: Global, names: &Names, refusal: CheckerRefusal) -> Stopped
-    requires { IsKnownChecker names.now refusal }
-    ensures { IsInChecker names.now refusal result }
-{
-    let CheckerRefusal::Faulty(found) = refusal else {
-        return Stopped::NoMemory;
-    };
-    at_line(
-        alloc,
-        names,
-        Fault::InChecker(found.fault),
-        found.source,
-        found.line,
-    )
-}
-
-/// A fault in the text of a C file.
-pub(crate) fn in_text(alloc: Global, names: &Names, refusal: TextRefusal) -> Stopped
+/// The fault for which a file is refused, or want of memory.
+pub(crate) fn refused(alloc: Global, names: &Names, refusal: Refusal) -> Stopped
     requires { IsKnown names.now refusal }
-    ensures { IsInText names.now refusal result }
+    ensures { IsRefused names.now refusal result }
 {
-    let TextRefusal::Faulty(found) = refusal else {
+    let Refusal::Faulty(found) = refusal else {
         return Stopped::NoMemory;
     };
-    at_line(
-        alloc,
-        names,
-        Fault::InText(found.fault),
-        found.source,
-        found.line,
-    )
+    at_line(alloc, names, found.fault, found.source, found.line)
 }

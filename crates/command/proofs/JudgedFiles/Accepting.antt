@@ -1,8 +1,10 @@
 -- The files of a request that were read and have no fault of their own: they can be linked, or have the fault of linking.
 use Rattle.std.proofs.Common.{◌≡◌, inr, ℕ, suc, ◌+◌, List, [], ◌∷◌, ◌++◌, length, None, refl, ap, arith, length-append}
+use Rattle.std.proofs.Math.Logic.{∥∥₁_map}
 use Rattle.path_model.specs.CheckerPrograms.Reported.{AreReports}
 use Rattle.path_model.specs.CheckerPrograms.Texts.{functions_in}
 use Rattle.typed_unit.specs.Texts.{Text}
+use Rattle.command.proofs.CheckerReports.FlatPaths.{errors}
 use Rattle.command.specs.CheckerReports.Checkers.{checkers_in}
 use Rattle.metal_tree.specs.MetalMachines.Machine.{Machine}
 use Rattle.call_graph.specs.OfPrograms.Repeats.{link_fault}
@@ -57,7 +59,7 @@ module _ (Holds : List ℕ → List ℕ → Type 0) (checkers sources names : Li
   accepted depth reports linked are = record {
     contents = read.checker_contents ++ read.source_contents;
     sound = all-sound;
-    judged = record { names = names; machines = machines; texts = texts; meanings = meanings; linked = linked; reports_are = are };
+    judged = record { names = names; machines = machines; texts = texts; meanings = meanings; linked = linked; reports_are = ∥∥₁_map are (errors (checkers_in machines depth names) texts reports) };
   }
 
   -- or they can't

@@ -2,7 +2,6 @@
 use Rattle.std.proofs.Common.{◌≡◌, inl, inr, ℕ, List, Option, None, Some, sym, ◌∙◌, subst}
 use Rattle.std.proofs.Math.Logic.{∥∥₁_elim}
 use Rattle.std.specs.Coded.{Coded-set, codes}
-use Rattle.path_model.specs.CheckerPrograms.Reported.{AreReports}
 use Rattle.path_model.specs.CheckerPrograms.Texts.{functions_in}
 use Rattle.call_graph.specs.OfPrograms.Repeats.{link_fault}
 use Rattle.report_model.specs.declared.report.Report.{Report}
@@ -10,6 +9,7 @@ use Rattle.request_files.specs.Faults.{Located}
 use Rattle.request_files.specs.Turns.{turns}
 use Rattle.command.proofs.Turns.{all_turns}
 use Rattle.command.specs.CheckerReports.Checkers.{checkers_in}
+use Rattle.command.specs.CheckerReports.Errors.{AreErrors}
 use Rattle.command.specs.JudgedFiles.FirstFault.{IsFirstFault}
 use Rattle.command.specs.JudgedFiles.Judged.{AreJudged, AreAllSound, AreAccepted}
 use Rattle.command.specs.JudgedFiles.Linking.{AreUnlinked, HaveLinkFault}
@@ -34,10 +34,10 @@ reports-set = Coded-set (hlevel codes)
 pub one_judged : (checkers sources contents : List (List ℕ)) (depth : ℕ) (a b : List Report) → AreJudged checkers sources contents depth a → AreJudged checkers sources contents depth b → a ≡ b
 one_judged checkers sources contents depth a b x y =
     let m = one_meaning checkers sources contents x.names y.names x.machines y.machines x.texts y.texts x.meanings y.meanings in
-    let r : ∥ AreReports (checkers_in y.machines depth y.names) y.texts a ∥₁ =
-    subst (λ ts. ∥ AreReports (checkers_in y.machines depth y.names) ts a ∥₁) m.2
-    (subst (λ ms. ∥ AreReports (checkers_in ms depth y.names) x.texts a ∥₁) m.1
-    (subst (λ ns. ∥ AreReports (checkers_in x.machines depth ns) x.texts a ∥₁) m.0 x.reports_are)) in
+    let r : ∥ AreErrors (checkers_in y.machines depth y.names) y.texts a ∥₁ =
+    subst (λ ts. ∥ AreErrors (checkers_in y.machines depth y.names) ts a ∥₁) m.2
+    (subst (λ ms. ∥ AreErrors (checkers_in ms depth y.names) x.texts a ∥₁) m.1
+    (subst (λ ns. ∥ AreErrors (checkers_in x.machines depth ns) x.texts a ∥₁) m.0 x.reports_are)) in
     ∥∥₁_elim r (reports-set a b) (λ p. ∥∥₁_elim y.reports_are (reports-set a b) (λ q. one_reports (checkers_in y.machines depth y.names) y.texts a b p q))
 
 one_link_fault : (checkers sources contents : List (List ℕ)) (l m : Located) → HaveLinkFault checkers sources contents l → HaveLinkFault checkers sources contents m → l ≡ m

@@ -1,5 +1,5 @@
 -- What a run is due is given by the words, the contents of the files that are read and the read that failed; and it is what a run does.
-use Rattle.std.proofs.Common.{◌≡◌, ◌≢◌, inl, inr, ℕ, ◌+◌, List, [], ◌∷◌, ◌++◌, length, Option, None, Some, refl, sym, ap, ◌∙◌, subst, arith, length-append}
+use Rattle.std.proofs.Common.{◌≡◌, ◌≢◌, ◌⊎◌, inl, inr, ℕ, ◌+◌, List, [], ◌∷◌, ◌++◌, length, Option, None, Some, refl, sym, ap, ◌∙◌, subst, arith, length-append}
 use Rattle.std.proofs.lemmas.List.{append_cancel_left}
 use Rattle.command_words.proofs.Generations.{one_generation}
 use Rattle.report_model.specs.declared.report.Report.{Report}
@@ -12,7 +12,7 @@ use Rattle.command.specs.GeneratedProgram.Generated.{generated}
 use Rattle.command.specs.Measured.{checker_name, measure_line, program_name}
 use Rattle.command.specs.Ran.{DidAs, Ran, ReporterStep}
 use Rattle.command.specs.Rendered.{IsText}
-use Rattle.command.specs.Written.{SinkStep, Written}
+use Rattle.command.specs.Written.{Fits, SinkStep, Written}
 use Rattle.command.specs.declared.status.Status.{Status}
 use Rattle.command.specs.declared.status.Status.TheVariants.{Clean, Reports, Usage, Refused, ReadFault, WriteFault, NoMemory}
 use Rattle.command.proofs.GivenCommands.{command_alone, one_command}
@@ -137,3 +137,11 @@ determined told words r old new result out errs status text line (inl stops) due
 determined told words r old new result out errs status text line (inr c) due =
     let e = one_due told r.rendered old new words r.called status c.status text c.text line c.line due c.due in
     inr (subst (λ s. Written s text line result out errs) (sym e.0) (subst (λ t. Written c.status t line result out errs) (sym e.1) (subst (λ l. Written c.status c.text l result out errs) (sym e.2) c.written)))
+
+-- and with its status, where it fits
+pub fitting : (told : List ℕ → Option (List ℕ)) (words : List (List ℕ)) (r : ReporterStep) (old new : List (List ℕ)) (result : Status) (out errs : SinkStep) (status : Status) (text line : List ℕ)
+    → Ran (may_hold told) words r old new result out errs → IsDue (surely_holds told) words r.called r.rendered old new status text line → Fits text line out errs → (result ≡ status) ⊎ (result ≡ NoMemory)
+fitting told words r old new result out errs status text line (inl stops) due fits = inr stops.status
+fitting told words r old new result out errs status text line (inr c) due fits =
+    let e = one_due told r.rendered old new words r.called status c.status text c.text line c.line due c.due in
+    inl (c.fitting (subst (λ (t : List ℕ). Fits t c.line out errs) e.1 (subst (λ (l : List ℕ). Fits text l out errs) e.2 fits)) ∙ sym e.0)

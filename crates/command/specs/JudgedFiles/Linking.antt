@@ -6,13 +6,14 @@ use Rattle.path_model.specs.CheckerPrograms.Texts.{functions_in}
 use Rattle.typed_unit.specs.Texts.{Text}
 use Rattle.metal_tree.specs.MetalMachines.Machine.{Machine}
 use Rattle.call_graph.specs.OfPrograms.Repeats.{link_fault}
+use Rattle.command.specs.Bytes.{Bytes, Words}
 use Rattle.command.specs.JudgedFiles.Judged.{HaveMeanings}
 use Rattle.request_files.specs.Faults.{Located}
 use Rattle.request_files.specs.Stages.{AreNamed}
 use Rattle.request_files.specs.declared.fault.Fault.TheVariants.{DuplicateFunction}
 
 -- this presumed file and line are those of a place in these texts: of the token that stands there
-pub record IsWhere (names : List (List ℕ)) (texts : List Text) (place : Place) (file : List ℕ) (line : ℕ) : Type 0 where
+pub record IsWhere (names : List Bytes) (texts : List Text) (place : Place) (file : Bytes) (line : ℕ) : Type 0 where
   pub text : Text
   pub here : slice_get texts place.file ≡ Some text
   pub token : Token
@@ -22,7 +23,7 @@ pub record IsWhere (names : List (List ℕ)) (texts : List Text) (place : Place)
   pub line_is : token.line ≡ line
 
 -- texts in which a function is defined again, at its name's place
-pub record AreUnlinked (names : List (List ℕ)) (texts : List Text) (l : Located) : Type 0 where
+pub record AreUnlinked (names : List Bytes) (texts : List Text) (l : Located) : Type 0 where
   pub name : ℕ
   pub place : Place
   pub again : link_fault (functions_in texts) ≡ Some (name, place)
@@ -30,15 +31,15 @@ pub record AreUnlinked (names : List (List ℕ)) (texts : List Text) (l : Locate
   pub there : IsWhere names texts place l.file l.line
 
 -- the C files have such texts
-pub record HaveLinkFault (checkers sources contents : List (List ℕ)) (l : Located) : Type 0 where
-  pub names : List (List ℕ)
+pub record HaveLinkFault (checkers sources : Words) (contents : List Bytes) (l : Located) : Type 0 where
+  pub names : List Bytes
   pub machines : List Machine
   pub texts : List Text
   pub meanings : HaveMeanings checkers sources contents names machines texts
   pub unlinked : AreUnlinked names texts l
 
 -- a token of the texts stands at this place, and the presumed files of all tokens there are names
-pub record HaveToken (names : List (List ℕ)) (texts : List Text) (place : Place) : Type 0 where
+pub record HaveToken (names : List Bytes) (texts : List Text) (place : Place) : Type 0 where
   pub text : Text
   pub here : slice_get texts place.file ≡ Some text
   pub token : Token

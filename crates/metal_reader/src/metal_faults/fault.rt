@@ -4,7 +4,6 @@ ghost use Rattle.std.specs.Prelude.{◌≡◌};
 ghost use Rattle.metal_reader.specs.declared.metal_faults.fault.MetalFault.TheVariants.{NoMemory};
 ghost use Rattle.metal_reader.specs.MetalFaults.ClauseFaults.{metal_fault};
 
-use c_lexer::LexFault;
 use c_tree::Place;
 use metal_clauses::ClauseFault;
 use metal_numbers::Which;
@@ -14,9 +13,6 @@ use thiserror::Error;
 /// Why a text is no checker. Of several faults the first one in this order is told, and of rules the first one that has any.
 #[derive(Debug, Drop, Error)]
 pub enum MetalFault {
-    /// The bytes are no tokens of a checker.
-    #[error("the bytes are no tokens")]
-    Lex(LexFault),
     /// The clause that begins at this place is none of the language.
     #[error("the clause that begins here is none")]
     Syntax(Place),

@@ -1,10 +1,8 @@
--- A checker has at most one machine and at most one fault, and never both.
-use Rattle.std.proofs.Common.{◌≡◌, ◌⊎◌, inl, inr, ℕ, List, Some, slice_get, sym, ap, ◌∙◌, subst}
+-- A checker has at most one machine, its tokens have at most one fault, and never both.
+use Rattle.std.proofs.Common.{◌≡◌, ℕ, List, Some, sym, ap, ◌∙◌, subst}
 use Rattle.mx_base.specs.Names.{HasNoRepeats}
 use Rattle.c_tree.specs.Symbol.{Symbol, symbols_of}
 use Rattle.c_lexer.specs.declared.c_reading.mode.Mode.TheVariants.{Metal}
-use Rattle.c_lexer.specs.CReading.Pieces.{beginning, behind_all}
-use Rattle.c_lexer.proofs.CReading.Readings.{no_reading, one_fault}
 use Rattle.c_lexer.specs.Tokens.{TokenList}
 use Rattle.metal_tree.specs.MetalMachines.Machine.{Machine}
 use Rattle.metal_grammar.specs.Words.{Spelling}
@@ -12,13 +10,13 @@ use Rattle.metal_grammar.specs.Rules.{rules_of, rule_position}
 use Rattle.metal_grammar.specs.FirstFault as text
 use Rattle.metal_grammar.specs.Definition.{IsMachine}
 use Rattle.metal_grammar.proofs.Machines.{machines_are_unique, first_faults_are_unique, never_both, texts_are_unique}
-use Rattle.metal_reader.specs.CheckerFrontEnd.Checkers.{HasNoTokens, HasNoMachine, IsRuleAt, IsPlaceOf, stands_at}
-use Rattle.metal_reader.specs.CheckerFrontEnd.Faults.{of_reading, of_text}
-use Rattle.metal_reader.specs.declared.checker_front_end.fault.CheckerFault.{CheckerFault}
-use Rattle.metal_reader.specs.declared.checker_front_end.fault.Faulty.{Faulty}
-use Rattle.request_files.specs.Faults.{Located}
+use Rattle.request_files.specs.FrontEnd.Checkers.{HasNoMachine, IsRuleAt, IsPlaceOf}
+use Rattle.request_files.specs.FrontEnd.Faults.{of_text}
+use Rattle.request_files.specs.FrontEnd.Found.{stands_at}
+use Rattle.request_files.specs.declared.front_end.refusal.Faulty.{Faulty}
 use Rattle.request_files.specs.Meanings.{AreCheckerTokens, IsChecker}
-use Rattle.request_files.specs.Faults.{HasFaultInChecker}
+use Rattle.request_files.specs.Faults.{HasNoMeaning}
+use Rattle.request_files.specs.Turns.{CheckerFile}
 use Rattle.metal_written.specs.Strings.{with_strings}
 use Rattle.request_files.proofs.Unique.NamesStay.{distinct_strings}
 use Rattle.request_files.proofs.Unique.OneList.{one_list, names_once}
@@ -63,44 +61,19 @@ module _ (number : ℕ) (word : List ℕ) (before : Spelling) (bytes : List ℕ)
       let x : IsMachine grown (symbols_of b.list.all) m = subst (λ (z : TokenList). IsMachine grown (symbols_of z.all) m) l.1 (subst (λ ns. IsMachine ns (symbols_of a.list.all) m) l.0 a.is_machine) in
       (l.0, machines_are_unique grown (symbols_of b.list.all) m n x b.is_machine)
 
-  -- a checker without fault has none
-  pub fine_checker : (names : Spelling) (m : Machine) (fault : CheckerFault) (l : Located) → IsChecker number word before names bytes m → HasFaultInChecker number word before bytes fault l → ⊥
-  fine_checker names m fault l a b = by b.faulty
-    where
-      by : HasNoTokens word b.names bytes b.found ⊎ ((list : TokenList) × AreCheckerTokens number word before b.names bytes list × HasNoMachine b.names list b.found) → ⊥
-      by (inl n) = no_reading Metal word n.pieces a.tokens.tokens.pieces bytes n.kind n.faulty a.tokens.tokens.reading
-      by (inr (list, tokens, n)) =
-          let l = one_tokens names b.names a.list list a.tokens tokens in
-          let x : IsMachine b.names (symbols_of list.all) m = subst (λ (z : TokenList). IsMachine b.names (symbols_of z.all) m) l.1 (subst (λ ns. IsMachine ns (symbols_of a.list.all) m) l.0 a.is_machine) in
-          never_both b.names (symbols_of list.all) m n.fault x n.first
+  -- the tokens of a machine have no fault
+  pub fine_checker : (names grown : Spelling) (m : Machine) (found : Faulty) → IsChecker number word before names bytes m → HasNoMeaning CheckerFile number word before grown bytes found → ⊥
+  fine_checker names grown m found a (list, tokens, n) =
+      let l = one_tokens names grown a.list list a.tokens tokens in
+      let x : IsMachine grown (symbols_of list.all) m = subst (λ (z : TokenList). IsMachine grown (symbols_of z.all) m) l.1 (subst (λ ns. IsMachine ns (symbols_of a.list.all) m) l.0 a.is_machine) in
+      never_both grown (symbols_of list.all) m n.fault x n.first
 
-  -- ONE FAULT, on one line of one presumed file
-  pub one_checker_fault : (fault other : CheckerFault) (l m : Located) → HasFaultInChecker number word before bytes fault l → HasFaultInChecker number word before bytes other m → (fault ≡ other) × (l.file ≡ m.file) × (l.line ≡ m.line)
-  one_checker_fault fault other l m a b = by a.faulty b.faulty
-    where
-      by : HasNoTokens word a.names bytes a.found ⊎ ((list : TokenList) × AreCheckerTokens number word before a.names bytes list × HasNoMachine a.names list a.found)
-          → HasNoTokens word b.names bytes b.found ⊎ ((list : TokenList) × AreCheckerTokens number word before b.names bytes list × HasNoMachine b.names list b.found)
-          → (fault ≡ other) × (l.file ≡ m.file) × (l.line ≡ m.line)
-      by (inl x) (inl y) =
-          let f = one_fault Metal word x.pieces y.pieces bytes x.kind y.kind x.faulty y.faulty in
-          let h = ap (λ ps. behind_all (beginning word) ps) f.0 in
-          let s : l.file ≡ (behind_all (beginning word) x.pieces).file = some_is _ _ (sym a.file_is ∙ x.file) in
-          let z : m.file ≡ (behind_all (beginning word) y.pieces).file = some_is _ _ (sym b.file_is ∙ y.file) in (
-            sym a.fault_is ∙ x.fault ∙ ap of_reading f.1 ∙ sym y.fault ∙ b.fault_is,
-            s ∙ ap (λ g. g.file) h ∙ sym z,
-            sym a.line_is ∙ x.line ∙ ap (λ g. g.line) h ∙ sym y.line ∙ b.line_is,
-          )
-      by (inl x) (inr (list, tokens, n)) = absurd (no_reading Metal word x.pieces tokens.tokens.pieces bytes x.kind x.faulty tokens.tokens.reading)
-      by (inr (list, tokens, n)) (inl y) = absurd (no_reading Metal word y.pieces tokens.tokens.pieces bytes y.kind y.faulty tokens.tokens.reading)
-      by (inr (list, tokens, n)) (inr (list2, tokens2, n2)) =
-          let e = one_tokens a.names b.names list list2 tokens tokens2 in
-          let n1 : HasNoMachine b.names list2 a.found = subst (λ (z : TokenList). HasNoMachine b.names z a.found) e.1 (subst (λ ns. HasNoMachine ns list a.found) e.0 n) in
-          let f = one_found b.names list2 a.found b.found n1 n2 in
-          let s : slice_get b.names b.found.source ≡ Some l.file = subst (λ ns. slice_get ns b.found.source ≡ Some l.file) e.0 (subst (λ (x : Faulty). slice_get a.names x.source ≡ Some l.file) f a.file_is) in (
-            sym a.fault_is ∙ ap (λ x. x.fault) f ∙ b.fault_is,
-            some_is _ _ (sym s ∙ b.file_is),
-            sym a.line_is ∙ ap (λ x. x.line) f ∙ b.line_is,
-          )
+  -- ONE FAULT
+  pub one_checker_fault : (names grown : Spelling) (a b : Faulty) → HasNoMeaning CheckerFile number word before names bytes a → HasNoMeaning CheckerFile number word before grown bytes b → (names ≡ grown) × (a ≡ b)
+  one_checker_fault names grown a b (list, tokens, n) (other, tokens2, n2) =
+      let e = one_tokens names grown list other tokens tokens2 in
+      let n1 : HasNoMachine grown other a = subst (λ (z : TokenList). HasNoMachine grown z a) e.1 (subst (λ ns. HasNoMachine ns list a) e.0 n) in
+      (e.0, one_found grown other a b n1 n2)
 
   -- behind a checker no name stands twice
   pub checker_once : (names : Spelling) (m : Machine) → IsChecker number word before names bytes m → HasNoRepeats names

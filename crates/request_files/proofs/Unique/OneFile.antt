@@ -1,12 +1,16 @@
 -- A file is without fault, and leaves one state for the next; or it has one fault; and never both.
-use Rattle.std.proofs.Common.{◌≡◌, ℕ, ◌<◌, ◌≤◌, min, List, length, refl, sym, ap, ◌∙◌, arith}
+use Rattle.std.proofs.Common.{◌≡◌, ◌⊎◌, inl, inr, ℕ, List, Some, slice_get, sym, ap, ◌∙◌, subst, arith}
 use Rattle.mx_base.specs.Names.{HasNoRepeats}
 use Rattle.c_lexer.specs.declared.c_reading.mode.Mode.TheVariants.{C}
-use Rattle.request_files.specs.Faults.{Located, at_start, file_limit}
+use Rattle.c_lexer.specs.CReading.Pieces.{Piece, beginning, behind_all}
+use Rattle.c_lexer.specs.CReading.Reading.{IsReading}
+use Rattle.c_lexer.proofs.CReading.Readings.{no_reading, one_fault}
 use Rattle.request_files.specs.Turns.{Kind, CheckerFile, SourceFile, Turn}
 use Rattle.request_files.specs.declared.fault.Fault.{Fault}
-use Rattle.request_files.specs.declared.fault.Fault.TheVariants.{TooLarge, InChecker, InText, DuplicateFunction}
-use Rattle.request_files.specs.Faults.{Before, HasFault, HasFaultOf, HasFaultIn}
+use Rattle.request_files.specs.declared.front_end.refusal.Faulty.{Faulty}
+use Rattle.request_files.specs.FrontEnd.Faults.{of_reading}
+use Rattle.request_files.specs.FrontEnd.Found.{HasNoTokens}
+use Rattle.request_files.specs.Faults.{Before, Located, HasFault, HasFaultIn, HasNoMeaning, mode_of}
 use Rattle.request_files.specs.Meanings.{IsFine}
 use Rattle.request_files.specs.Reading.{IsSound}
 use Rattle.request_files.proofs.Unique.OneChecker.{one_machine, fine_checker, one_checker_fault, checker_once}
@@ -38,63 +42,68 @@ module _ (b : Before) (t : Turn) (bytes : List ℕ) (once : HasNoRepeats b.names
   pub next_once : (n : Before) → IsSound b t bytes n → HasNoRepeats n.names
   next_once n x = fine_once t.kind t.number t.word b.names n.names bytes once x.fine
 
-  fine_in : (kind : Kind) (names : List (List ℕ)) (l : Located) (f : Fault) → IsFine kind t.number t.word b.names names bytes → HasFaultIn kind t.number t.word b.names bytes l f → ⊥
-  fine_in CheckerFile names l (InChecker f) x h = fine_checker t.number t.word b.names bytes once names x.0 f l x.1 h
-  fine_in CheckerFile names l (InText f) x h = h
-  fine_in CheckerFile names l TooLarge x h = h
-  fine_in CheckerFile names l DuplicateFunction x h = h
-  fine_in SourceFile names l (InText f) x h = fine_text t.number t.word b.names bytes once names x.0 f l x.1 h
-  fine_in SourceFile names l (InChecker f) x h = h
-  fine_in SourceFile names l TooLarge x h = h
-  fine_in SourceFile names l DuplicateFunction x h = h
+  -- what has a meaning or none has a reading
+  fine_reading : (kind : Kind) (names : List (List ℕ)) → IsFine kind t.number t.word b.names names bytes → (pieces : List Piece) × IsReading (mode_of kind) t.word pieces bytes
+  fine_reading CheckerFile names x = (x.1.tokens.tokens.pieces, x.1.tokens.tokens.reading)
+  fine_reading SourceFile names x = (x.1.tokens.pieces, x.1.tokens.reading)
 
-  fine_of : (n : Before) (l : Located) (f : Fault) → IsSound b t bytes n → HasFaultOf b t bytes l f → ⊥
-  fine_of n l TooLarge x h = let a = x.fits in let c = h.0 in absurd (omega (arith, a, c))
-  fine_of n l (InChecker f) x h = fine_in t.kind n.names l (InChecker f) x.fine h.1
-  fine_of n l (InText f) x h = fine_in t.kind n.names l (InText f) x.fine h.1
-  fine_of n l DuplicateFunction x h = fine_in t.kind n.names l DuplicateFunction x.fine h.1
+  has_reading : (kind : Kind) (names : List (List ℕ)) (found : Faulty) → HasNoMeaning kind t.number t.word b.names names bytes found → (pieces : List Piece) × IsReading (mode_of kind) t.word pieces bytes
+  has_reading CheckerFile names found n = (n.1.tokens.pieces, n.1.tokens.reading)
+  has_reading SourceFile names found n = (n.1.pieces, n.1.reading)
+
+  unread_or_read : (kind : Kind) (names : List (List ℕ)) (found : Faulty) → HasNoTokens (mode_of kind) t.word names bytes found → (pieces : List Piece) × IsReading (mode_of kind) t.word pieces bytes → ⊥
+  unread_or_read kind names found x r = no_reading (mode_of kind) t.word x.pieces r.0 bytes x.kind x.faulty r.1
+
+  fine_or_none : (kind : Kind) (names grown : List (List ℕ)) (found : Faulty) → IsFine kind t.number t.word b.names names bytes → HasNoMeaning kind t.number t.word b.names grown bytes found → ⊥
+  fine_or_none CheckerFile names grown found x n = fine_checker t.number t.word b.names bytes once names grown x.0 found x.1 n
+  fine_or_none SourceFile names grown found x n = fine_text t.number t.word b.names bytes once names grown x.0 found x.1 n
+
+  one_meant : (kind : Kind) (names grown : List (List ℕ)) (x y : Faulty) → HasNoMeaning kind t.number t.word b.names names bytes x → HasNoMeaning kind t.number t.word b.names grown bytes y → (names ≡ grown) × (x ≡ y)
+  one_meant CheckerFile names grown x y n k = one_checker_fault t.number t.word b.names bytes once names grown x y n k
+  one_meant SourceFile names grown x y n k = one_text_fault t.number t.word b.names bytes once names grown x y n k
+
+  fine_in : (kind : Kind) (names : List (List ℕ)) (l : Located) → IsFine kind t.number t.word b.names names bytes → HasFaultIn kind t.number t.word b.names bytes l → ⊥
+  fine_in kind names l x h = by h.faulty
+    where
+      by : HasNoTokens (mode_of kind) t.word h.names bytes h.found ⊎ HasNoMeaning kind t.number t.word b.names h.names bytes h.found → ⊥
+      by (inl n) = unread_or_read kind h.names h.found n (fine_reading kind names x)
+      by (inr n) = fine_or_none kind names h.names h.found x n
 
   -- NEVER BOTH
   pub sound_or_faulty : (n : Before) (l : Located) → IsSound b t bytes n → HasFault b t bytes l → ⊥
-  sound_or_faulty n l x h = fine_of n l l.fault x h
+  sound_or_faulty n l x (inl (large, e)) = let a = x.fits in absurd (omega (arith, a, large))
+  sound_or_faulty n l x (inr (small, h)) = fine_in t.kind n.names l x.fine h
 
-  one_in : (kind : Kind) (l m : Located) (f g : Fault) → l.fault ≡ f → m.fault ≡ g → HasFaultIn kind t.number t.word b.names bytes l f → HasFaultIn kind t.number t.word b.names bytes m g → l ≡ m
-  one_in CheckerFile l m (InChecker f) (InChecker g) p q x y =
-      let e = one_checker_fault t.number t.word b.names bytes once f g l m x y in
-      same_located l m (p ∙ ap InChecker e.0 ∙ sym q) e.1 e.2
-  one_in CheckerFile l m (InChecker f) (InText g) p q x y = absurd y
-  one_in CheckerFile l m (InChecker f) TooLarge p q x y = absurd y
-  one_in CheckerFile l m (InChecker f) DuplicateFunction p q x y = absurd y
-  one_in CheckerFile l m (InText f) g p q x y = absurd x
-  one_in CheckerFile l m TooLarge g p q x y = absurd x
-  one_in CheckerFile l m DuplicateFunction g p q x y = absurd x
-  one_in SourceFile l m (InText f) (InText g) p q x y =
-      let e = one_text_fault t.number t.word b.names bytes once f g l m x y in
-      same_located l m (p ∙ ap InText e.0 ∙ sym q) e.1 e.2
-  one_in SourceFile l m (InText f) (InChecker g) p q x y = absurd y
-  one_in SourceFile l m (InText f) TooLarge p q x y = absurd y
-  one_in SourceFile l m (InText f) DuplicateFunction p q x y = absurd y
-  one_in SourceFile l m (InChecker f) g p q x y = absurd x
-  one_in SourceFile l m TooLarge g p q x y = absurd x
-  one_in SourceFile l m DuplicateFunction g p q x y = absurd x
+  some_is : {A : Type 0} (x y : A) → Some x ≡ Some y → x ≡ y
+  some_is x y h = cc
 
-  -- the fault is that of a whole file, or stands in it
-  data Sorted (l : Located) : Type 0 where
-    Whole : min file_limit b.left < length bytes → l ≡ at_start t.word TooLarge → Sorted l
-    Within : (f : Fault) → l.fault ≡ f → length bytes ≤ min file_limit b.left → HasFaultIn t.kind t.number t.word b.names bytes l f → Sorted l
-
-  sorted : (l : Located) (f : Fault) → l.fault ≡ f → HasFaultOf b t bytes l f → Sorted l
-  sorted l TooLarge e h = Whole h.0 h.1
-  sorted l (InChecker f) e h = Within (InChecker f) e h.0 h.1
-  sorted l (InText f) e h = Within (InText f) e h.0 h.1
-  sorted l DuplicateFunction e h = Within DuplicateFunction e h.0 h.1
-
-  one_sorted : (l m : Located) → Sorted l → Sorted m → l ≡ m
-  one_sorted l m (Whole a e) (Whole c f) = e ∙ sym f
-  one_sorted l m (Whole a e) (Within f p c h) = absurd (omega (arith, a, c))
-  one_sorted l m (Within f p c h) (Whole a e) = absurd (omega (arith, a, c))
-  one_sorted l m (Within f p c h) (Within g q d k) = one_in t.kind l m f g p q h k
+  one_in : (kind : Kind) (l m : Located) → HasFaultIn kind t.number t.word b.names bytes l → HasFaultIn kind t.number t.word b.names bytes m → l ≡ m
+  one_in kind l m g h = by g.faulty h.faulty
+    where
+      by : HasNoTokens (mode_of kind) t.word g.names bytes g.found ⊎ HasNoMeaning kind t.number t.word b.names g.names bytes g.found
+          → HasNoTokens (mode_of kind) t.word h.names bytes h.found ⊎ HasNoMeaning kind t.number t.word b.names h.names bytes h.found → l ≡ m
+      by (inl x) (inl y) =
+          let f = one_fault (mode_of kind) t.word x.pieces y.pieces bytes x.kind y.kind x.faulty y.faulty in
+          let p = ap (λ ps. behind_all (beginning t.word) ps) f.0 in
+          let s : l.file ≡ (behind_all (beginning t.word) x.pieces).file = some_is _ _ (sym g.file_is ∙ x.file) in
+          let z : m.file ≡ (behind_all (beginning t.word) y.pieces).file = some_is _ _ (sym h.file_is ∙ y.file) in
+          same_located l m
+          (sym g.fault_is ∙ x.fault ∙ ap of_reading f.1 ∙ sym y.fault ∙ h.fault_is)
+          (s ∙ ap (λ q. q.file) p ∙ sym z)
+          (sym g.line_is ∙ x.line ∙ ap (λ q. q.line) p ∙ sym y.line ∙ h.line_is)
+      by (inl x) (inr n) = absurd (unread_or_read kind g.names g.found x (has_reading kind h.names h.found n))
+      by (inr n) (inl y) = absurd (unread_or_read kind h.names h.found y (has_reading kind g.names g.found n))
+      by (inr n) (inr k) =
+          let e = one_meant kind g.names h.names g.found h.found n k in
+          let s : slice_get h.names h.found.source ≡ Some l.file = subst (λ ns. slice_get ns h.found.source ≡ Some l.file) e.0 (subst (λ (x : Faulty). slice_get g.names x.source ≡ Some l.file) e.1 g.file_is) in
+          same_located l m
+          (sym g.fault_is ∙ ap (λ x. x.fault) e.1 ∙ h.fault_is)
+          (some_is _ _ (sym s ∙ h.file_is))
+          (sym g.line_is ∙ ap (λ x. x.line) e.1 ∙ h.line_is)
 
   -- ONE FAULT
   pub one_fault_of : (l m : Located) → HasFault b t bytes l → HasFault b t bytes m → l ≡ m
-  one_fault_of l m x y = one_sorted l m (sorted l l.fault refl x) (sorted m m.fault refl y)
+  one_fault_of l m (inl (large, e)) (inl (large2, f)) = e ∙ sym f
+  one_fault_of l m (inl (large, e)) (inr (small, h)) = absurd (omega (arith, large, small))
+  one_fault_of l m (inr (small, h)) (inl (large, e)) = absurd (omega (arith, large, small))
+  one_fault_of l m (inr (small, g)) (inr (small2, h)) = one_in t.kind l m g h

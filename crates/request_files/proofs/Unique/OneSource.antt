@@ -1,5 +1,5 @@
--- A C file has at most one text and at most one fault, and never both.
-use Rattle.std.proofs.Common.{◌≡◌, ◌⊎◌, inl, inr, ℕ, zero, suc, ◌+◌, ◌<◌, List, [], ◌∷◌, length, drop, None, Some, slice_get, refl, sym, ap, ◌∙◌, subst, arith}
+-- A C file has at most one text, its tokens have at most one fault, and never both.
+use Rattle.std.proofs.Common.{◌≡◌, inl, inr, ℕ, zero, suc, ◌+◌, ◌<◌, List, [], ◌∷◌, length, drop, None, Some, slice_get, refl, sym, ap, ◌∙◌, subst, arith}
 use Rattle.mx_base.specs.Names.{HasNoRepeats}
 use Rattle.c_tree.specs.declared.place.Place.{Place}
 use Rattle.c_tree.specs.declared.token.Token.{Token}
@@ -8,8 +8,6 @@ use Rattle.c_tree.specs.Syntax.{Syntaxes, no_more, more}
 use Rattle.c_tree.specs.Forget.{syntaxes_of}
 use Rattle.c_lexer.specs.CReading.Chunks.{AreChunks, Follow}
 use Rattle.c_lexer.specs.declared.c_reading.mode.Mode.TheVariants.{C}
-use Rattle.c_lexer.specs.CReading.Pieces.{beginning, behind_all}
-use Rattle.c_lexer.proofs.CReading.Readings.{no_reading, one_fault}
 use Rattle.c_lexer.specs.CReading.Strip.{stripped}
 use Rattle.c_lexer.specs.Tokens.{TokenList}
 use Rattle.c_grammar.specs.Names.{Names}
@@ -24,15 +22,14 @@ use Rattle.type_rules.specs.Definition.{Table, first_fault}
 use Rattle.type_rules.specs.Faults as typing
 use Rattle.type_rules.specs.Unit.{places_of, table_by}
 use Rattle.typed_unit.specs.Texts.{Text}
-use Rattle.request_files.specs.FrontEnd.Faults.{of_reading, of_typing, place_of}
-use Rattle.request_files.specs.FrontEnd.Sources.{AreTrees, AreTypedTrees, HasNoTokens, stands_at}
-use Rattle.request_files.specs.declared.front_end.fault.Fault.{Fault}
-use Rattle.request_files.specs.declared.front_end.fault.Fault.TheVariants.{Syntax as SyntaxFault}
-use Rattle.request_files.specs.declared.front_end.fault.Faulty.{Faulty}
-use Rattle.request_files.specs.Faults.{Located, HasNoUnitAt, without_dropped}
-use Rattle.request_files.specs.Lexed.{AreTokensOf}
+use Rattle.request_files.specs.FrontEnd.Faults.{of_typing, place_of}
+use Rattle.request_files.specs.FrontEnd.Found.{stands_at}
+use Rattle.request_files.specs.FrontEnd.Sources.{AreTrees, AreTypedTrees}
+use Rattle.request_files.specs.declared.fault.Fault.TheVariants.{Syntax as SyntaxFault}
+use Rattle.request_files.specs.declared.front_end.refusal.Faulty.{Faulty}
+use Rattle.request_files.specs.Faults.{HasNoMeaning, HasNoUnitAt, without_dropped}
 use Rattle.request_files.specs.Meanings.{IsSource}
-use Rattle.request_files.specs.Faults.{HasFaultInText}
+use Rattle.request_files.specs.Turns.{SourceFile}
 use Rattle.request_files.proofs.Unique.OneList.{one_list}
 use Rattle.tree_facts.proofs.Rebuilt.{same_row}
 
@@ -109,13 +106,13 @@ one_unit_fault list a b (inl x) (inl y) =
     let ts = stripped list.all in
     let c = same_chunks ts 0 x.bounds y.bounds x.chunks y.chunks in
     let p = one_bad_place ts y.bounds x.place y.place y.chunks (subst (λ cs. IsFirstBadAt ts cs x.place) c x.first) y.first in
-    x.there ∙ ap (stands_at (without_dropped list) SyntaxFault) p ∙ sym y.there
+    x.there ∙ ap (λ (q : Place). stands_at (without_dropped list) SyntaxFault q.token) p ∙ sym y.there
 one_unit_fault list a b (inl x) (inr y) = absurd (trees_not_bad (stripped list.all) y.trees x.bounds x.place y.trees_are x.chunks x.first)
 one_unit_fault list a b (inr x) (inl y) = absurd (trees_not_bad (stripped list.all) x.trees y.bounds y.place x.trees_are y.chunks y.first)
 one_unit_fault list a b (inr x) (inr y) =
     let e = one_trees (stripped list.all) x.trees y.trees x.trees_are y.trees_are in
     let f : x.fault ≡ y.fault = some_is x.fault y.fault (sym x.first ∙ ap (λ t. first_fault (places_of t)) e ∙ y.first) in
-    x.there ∙ ap (λ z. stands_at (without_dropped list) (of_typing z) (place_of z)) f ∙ sym y.there
+    x.there ∙ ap (λ z. stands_at (without_dropped list) (of_typing z) (place_of z).token) f ∙ sym y.there
 
 module _ (number : ℕ) (word : List ℕ) (before : List (List ℕ)) (bytes : List ℕ) (once : HasNoRepeats before) where
   -- ONE TEXT
@@ -129,39 +126,14 @@ module _ (number : ℕ) (word : List ℕ) (before : List (List ℕ)) (bytes : Li
       let f : t.table ≡ u.table = a.table ∙ ap table_by e ∙ sym b.table in
       (l.0, ap (λ (n : Nodes). record t { trees = n }) e ∙ ap (λ (z : Table). record t { trees = u.trees; table = z }) f ∙ ap (λ (ts : List Token). record u { tokens = ts }) k)
 
-  -- a file without fault has none
-  pub fine_text : (names : List (List ℕ)) (t : Text) (fault : Fault) (l : Located) → IsSource number word before names bytes t → HasFaultInText number word before bytes fault l → ⊥
-  fine_text names t fault l a b = by b.faulty
-    where
-      by : HasNoTokens word b.names bytes b.found ⊎ ((list : TokenList) × AreTokensOf C number word before b.names bytes list × HasNoUnitAt list b.found) → ⊥
-      by (inl n) = no_reading C word n.pieces a.tokens.pieces bytes n.kind n.faulty a.tokens.reading
-      by (inr (list, tokens, n)) =
-          let l = one_list C number word before names b.names bytes a.list list once a.tokens tokens in
-          fine_unit a.list t.trees b.found a.typed (subst (λ x. HasNoUnitAt x b.found) (sym l.1) n)
+  -- the tokens of a text have no fault
+  pub fine_text : (names grown : List (List ℕ)) (t : Text) (found : Faulty) → IsSource number word before names bytes t → HasNoMeaning SourceFile number word before grown bytes found → ⊥
+  fine_text names grown t found a (list, tokens, n) =
+      let l = one_list C number word before names grown bytes a.list list once a.tokens tokens in
+      fine_unit a.list t.trees found a.typed (subst (λ x. HasNoUnitAt x found) (sym l.1) n)
 
-  -- ONE FAULT, on one line of one presumed file
-  pub one_text_fault : (fault other : Fault) (l m : Located) → HasFaultInText number word before bytes fault l → HasFaultInText number word before bytes other m → (fault ≡ other) × (l.file ≡ m.file) × (l.line ≡ m.line)
-  one_text_fault fault other l m a b = by a.faulty b.faulty
-    where
-      by : HasNoTokens word a.names bytes a.found ⊎ ((list : TokenList) × AreTokensOf C number word before a.names bytes list × HasNoUnitAt list a.found)
-          → HasNoTokens word b.names bytes b.found ⊎ ((list : TokenList) × AreTokensOf C number word before b.names bytes list × HasNoUnitAt list b.found)
-          → (fault ≡ other) × (l.file ≡ m.file) × (l.line ≡ m.line)
-      by (inl x) (inl y) =
-          let f = one_fault C word x.pieces y.pieces bytes x.kind y.kind x.faulty y.faulty in
-          let h = ap (λ ps. behind_all (beginning word) ps) f.0 in
-          let s : l.file ≡ (behind_all (beginning word) x.pieces).file = some_is _ _ (sym a.file_is ∙ x.file) in
-          let z : m.file ≡ (behind_all (beginning word) y.pieces).file = some_is _ _ (sym b.file_is ∙ y.file) in (
-            sym a.fault_is ∙ x.fault ∙ ap of_reading f.1 ∙ sym y.fault ∙ b.fault_is,
-            s ∙ ap (λ g. g.file) h ∙ sym z,
-            sym a.line_is ∙ x.line ∙ ap (λ g. g.line) h ∙ sym y.line ∙ b.line_is,
-          )
-      by (inl x) (inr (list, tokens, n)) = absurd (no_reading C word x.pieces tokens.pieces bytes x.kind x.faulty tokens.reading)
-      by (inr (list, tokens, n)) (inl y) = absurd (no_reading C word y.pieces tokens.pieces bytes y.kind y.faulty tokens.reading)
-      by (inr (list, tokens, n)) (inr (list2, tokens2, n2)) =
-          let e = one_list C number word before a.names b.names bytes list list2 once tokens tokens2 in
-          let f = one_unit_fault list2 a.found b.found (subst (λ x. HasNoUnitAt x a.found) e.1 n) n2 in
-          let s : slice_get b.names b.found.source ≡ Some l.file = subst (λ ns. slice_get ns b.found.source ≡ Some l.file) e.0 (subst (λ x. slice_get a.names x.source ≡ Some l.file) f a.file_is) in (
-            sym a.fault_is ∙ ap (λ x. x.fault) f ∙ b.fault_is,
-            some_is _ _ (sym s ∙ b.file_is),
-            sym a.line_is ∙ ap (λ x. x.line) f ∙ b.line_is,
-          )
+  -- ONE FAULT
+  pub one_text_fault : (names grown : List (List ℕ)) (a b : Faulty) → HasNoMeaning SourceFile number word before names bytes a → HasNoMeaning SourceFile number word before grown bytes b → (names ≡ grown) × (a ≡ b)
+  one_text_fault names grown a b (list, tokens, n) (other, tokens2, n2) =
+      let e = one_list C number word before names grown bytes list other once tokens tokens2 in
+      (e.0, one_unit_fault other a b (subst (λ x. HasNoUnitAt x a) e.1 n) n2)

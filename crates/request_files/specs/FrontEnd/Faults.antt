@@ -1,25 +1,11 @@
--- The faults of a C file, and their names.
-use Rattle.std.specs.Prelude.{ℕ, List, codes}
+-- The faults of files by what is found wrong: with the bytes, with the types of a C file, with the text of a checker.
 use Rattle.c_tree.specs.declared.place.Place.{Place}
 use Rattle.c_lexer.specs.declared.c_reading.fault.Fault as reading
 use Rattle.c_lexer.specs.declared.c_reading.fault.Fault.TheVariants as lexical
 use Rattle.type_rules.specs.Faults as typing
-use Rattle.request_files.specs.declared.front_end.fault.Fault.{Fault}
-use Rattle.request_files.specs.declared.front_end.fault.Fault.TheVariants.{BadByte, OpenText, BadNumber, BadMarker, Syntax, Undeclared, NoField, Redeclared, NotPointer, NotStruct, NotFunction, NotLvalue}
-
-abbrev pub name_of : Fault → List ℕ
-name_of BadByte = codes "BadByte"
-name_of OpenText = codes "OpenText"
-name_of BadNumber = codes "BadNumber"
-name_of BadMarker = codes "BadMarker"
-name_of Syntax = codes "Syntax"
-name_of Undeclared = codes "Undeclared"
-name_of NoField = codes "NoField"
-name_of Redeclared = codes "Redeclared"
-name_of NotPointer = codes "NotPointer"
-name_of NotStruct = codes "NotStruct"
-name_of NotFunction = codes "NotFunction"
-name_of NotLvalue = codes "NotLvalue"
+use Rattle.metal_grammar.specs.FirstFault as text
+use Rattle.request_files.specs.declared.fault.Fault.{Fault}
+use Rattle.request_files.specs.declared.fault.Fault.TheVariants.{BadByte, OpenText, BadNumber, BadMarker, Syntax, Undeclared, NoField, Redeclared, NotPointer, NotStruct, NotFunction, NotLvalue, TooMany, Twice, UnknownCallout, TwoVariables, BadSplit, BadSource, VariableMissing, BadFormat}
 
 -- what is wrong with bytes that have no reading
 abbrev pub of_reading : reading.Fault → Fault
@@ -46,3 +32,15 @@ place_of (typing.NotPointer place) = place
 place_of (typing.NotStruct place) = place
 place_of (typing.NotFunction place) = place
 place_of (typing.NotLvalue place) = place
+
+-- what is wrong with tokens that are no machine
+abbrev pub of_text : text.Fault → Fault
+of_text (text.SyntaxAt at) = Syntax
+of_text (text.TooMany what at) = TooMany
+of_text (text.Twice name at) = Twice
+of_text (text.UnknownCallout name at) = UnknownCallout
+of_text (text.TwoVariables rule) = TwoVariables
+of_text (text.BadSplit rule) = BadSplit
+of_text (text.BadSource rule) = BadSource
+of_text (text.VariableMissing rule) = VariableMissing
+of_text (text.BadFormat rule) = BadFormat

@@ -1,5 +1,6 @@
--- The refusals that the faults of the lexer, the parser and the typing come to.
-use Rattle.std.specs.Prelude.{Option, Some, None}
+-- The refusals that the faults of the lexer, the parser, the typing and the reader of machines come to.
+use Rattle.std.specs.Prelude.{ℕ, Option, Some, None}
+use Rattle.c_tree.specs.Symbol.{symbols_of}
 use Rattle.c_lexer.specs.declared.c_reading.fault.Fault as reading
 use Rattle.c_lexer.specs.declared.c_reading.fault.Fault.TheVariants as lexical
 use Rattle.c_lexer.specs.Tokens.{TokenList}
@@ -9,11 +10,14 @@ use Rattle.c_lexer.specs.declared.fault.LexFault.TheVariants as lexer
 use Rattle.c_parser.specs.declared.fault.ParseFault.{ParseFault}
 use Rattle.c_parser.specs.declared.fault.ParseFault.TheVariants as parser
 use Rattle.type_rules.specs.Faults as typing
-use Rattle.request_files.specs.declared.front_end.fault.Fault.TheVariants.{Syntax}
-use Rattle.request_files.specs.declared.front_end.fault.Refusal.{Refusal}
-use Rattle.request_files.specs.declared.front_end.fault.Refusal.TheVariants.{Faulty, NoMemory}
+use Rattle.metal_reader.specs.MetalPositions.Positions.{beginnings, position_with}
+use Rattle.metal_reader.specs.declared.metal_faults.fault.MetalFault.{MetalFault}
+use Rattle.metal_reader.specs.declared.metal_faults.fault.MetalFault.TheVariants as faults
+use Rattle.request_files.specs.declared.fault.Fault.TheVariants.{Syntax, TooMany, Twice, UnknownCallout, TwoVariables, BadSplit, BadSource, VariableMissing, BadFormat}
+use Rattle.request_files.specs.declared.front_end.refusal.Refusal.{Refusal}
+use Rattle.request_files.specs.declared.front_end.refusal.Refusal.TheVariants.{Faulty, NoMemory}
 use Rattle.request_files.specs.FrontEnd.Faults.{of_reading, of_typing, place_of}
-use Rattle.request_files.specs.FrontEnd.Sources.{stands_at}
+use Rattle.request_files.specs.FrontEnd.Found.{stands_at}
 
 abbrev pub kind_and_spot : LexFault → Option (reading.Fault × Spot)
 kind_and_spot (lexer.BadByte spot) = Some (lexical.BadByte, spot)
@@ -27,9 +31,43 @@ unread_as None = NoMemory
 unread_as (Some k) = Faulty (record { fault = of_reading k.0; source = k.1.source; line = k.1.line })
 
 abbrev pub unparsed_as : TokenList → ParseFault → Refusal
-unparsed_as list (parser.Syntax place) = Faulty (stands_at list Syntax place)
+unparsed_as list (parser.Syntax place) = Faulty (stands_at list Syntax place.token)
 unparsed_as list parser.NoMemory = NoMemory
 
 abbrev pub untyped_as : TokenList → Option typing.Fault → Refusal
 untyped_as list None = NoMemory
-untyped_as list (Some fault) = Faulty (stands_at list (of_typing fault) (place_of fault))
+untyped_as list (Some fault) = Faulty (stands_at list (of_typing fault) (place_of fault).token)
+
+-- the number, else that of the end
+abbrev pub or_end : TokenList → Option ℕ → ℕ
+or_end list None = list.end.place.token
+or_end list (Some position) = position
+
+-- the number of the first token of a rule
+abbrev pub rule_token : TokenList → ℕ → ℕ
+rule_token list rule = or_end list (position_with 0 rule (beginnings 0 0 (symbols_of list.all)))
+
+abbrev pub unmade_as : TokenList → MetalFault → Refusal
+unmade_as list (faults.Syntax place) = Faulty (stands_at list Syntax place.token)
+unmade_as list (faults.TooMany which place) = Faulty (stands_at list TooMany place.token)
+unmade_as list (faults.Twice name place) = Faulty (stands_at list Twice place.token)
+unmade_as list (faults.UnknownCallout name place) = Faulty (stands_at list UnknownCallout place.token)
+unmade_as list (faults.TwoVariables rule) = Faulty (stands_at list TwoVariables (rule_token list rule))
+unmade_as list (faults.BadSplit rule) = Faulty (stands_at list BadSplit (rule_token list rule))
+unmade_as list (faults.BadSource rule) = Faulty (stands_at list BadSource (rule_token list rule))
+unmade_as list (faults.VariableMissing rule) = Faulty (stands_at list VariableMissing (rule_token list rule))
+unmade_as list (faults.BadFormat rule) = Faulty (stands_at list BadFormat (rule_token list rule))
+unmade_as list faults.NoMemory = NoMemory
+
+-- the number of the rule that a fault is of
+abbrev pub refused_rule : MetalFault → Option ℕ
+refused_rule (faults.Syntax place) = None
+refused_rule (faults.TooMany which place) = None
+refused_rule (faults.Twice name place) = None
+refused_rule (faults.UnknownCallout name place) = None
+refused_rule (faults.TwoVariables rule) = Some rule
+refused_rule (faults.BadSplit rule) = Some rule
+refused_rule (faults.BadSource rule) = Some rule
+refused_rule (faults.VariableMissing rule) = Some rule
+refused_rule (faults.BadFormat rule) = Some rule
+refused_rule faults.NoMemory = None

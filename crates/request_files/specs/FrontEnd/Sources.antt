@@ -1,5 +1,5 @@
--- What a C file is from its tokens on: its trees and its types, or its first fault; and that bytes have no tokens.
-use Rattle.std.specs.Prelude.{◌≡◌, ℕ, ◌<◌, ◌^◌, List, [], Some, None, slice_get}
+-- What a C file is from its tokens on: its trees and its types, or its first fault.
+use Rattle.std.specs.Prelude.{◌≡◌, ℕ, ◌<◌, ◌^◌, List, [], None}
 use Rattle.c_tree.specs.declared.place.Place.{Place}
 use Rattle.c_tree.specs.declared.token.Token.{Token}
 use Rattle.c_tree.specs.Node.{Nodes}
@@ -7,32 +7,15 @@ use Rattle.c_tree.specs.Forget.{syntaxes_of}
 use Rattle.c_grammar.specs.CPlaces.Lines.{row_line}
 use Rattle.c_grammar.specs.CPlaces.Stands.{Stands}
 use Rattle.c_lexer.specs.CReading.Chunks.{AreChunks}
-use Rattle.c_lexer.specs.declared.c_reading.fault.Fault as reading
-use Rattle.c_lexer.specs.declared.c_reading.mode.Mode.TheVariants.{C}
-use Rattle.c_lexer.specs.CReading.Pieces.{Piece, beginning, behind_all}
-use Rattle.c_lexer.specs.CReading.Reading.{IsFaulty}
-use Rattle.c_lexer.specs.Tokens.{TokenList, position_of}
+use Rattle.c_lexer.specs.Tokens.{TokenList}
 use Rattle.c_parser.specs.Units.{AreTheTrees, IsFirstBadAt}
 use Rattle.type_rules.specs.Definition.{first_fault}
 use Rattle.type_rules.specs.Faults as typing
 use Rattle.type_rules.specs.Unit.{places_of, IsFirstFault}
-use Rattle.request_files.specs.declared.front_end.fault.Fault.{Fault}
-use Rattle.request_files.specs.declared.front_end.fault.Fault.TheVariants.{Syntax}
-use Rattle.request_files.specs.declared.front_end.fault.Faulty.{Faulty}
-use Rattle.request_files.specs.FrontEnd.Faults.{of_reading, of_typing, place_of}
-
--- the bytes have no reading, and this is wrong behind the longest beginning that can be cut
-pub record HasNoTokens (word : List ℕ) (names : List (List ℕ)) (bytes : List ℕ) (found : Faulty) : Type 0 where
-  pub pieces : List Piece
-  pub kind : reading.Fault
-  pub faulty : IsFaulty C word pieces bytes kind
-  pub fault : found.fault ≡ of_reading kind
-  pub file : slice_get names found.source ≡ Some (behind_all (beginning word) pieces).file
-  pub line : found.line ≡ (behind_all (beginning word) pieces).line
-
--- this fault, at this token
-abbrev pub stands_at : TokenList → Fault → Place → Faulty
-stands_at list fault place = record { fault = fault; source = (position_of list.all list.end place.token).0; line = (position_of list.all list.end place.token).1 }
+use Rattle.request_files.specs.declared.fault.Fault.TheVariants.{Syntax}
+use Rattle.request_files.specs.declared.front_end.refusal.Faulty.{Faulty}
+use Rattle.request_files.specs.FrontEnd.Faults.{of_typing, place_of}
+use Rattle.request_files.specs.FrontEnd.Found.{stands_at}
 
 -- the trees are the parses of the tokens' chunks, and stand over the tokens
 pub record AreTrees (ts : List Token) (trees : Nodes) : Type 0 where
@@ -49,7 +32,7 @@ pub record HasNoTrees (list : TokenList) (found : Faulty) : Type 0 where
   pub chunks : AreChunks list.all bounds
   pub place : Place
   pub first : IsFirstBadAt list.all bounds place
-  pub there : found ≡ stands_at list Syntax place
+  pub there : found ≡ stands_at list Syntax place.token
 
 -- the trees have types
 pub record AreTypedTrees (ts : List Token) (trees : Nodes) : Type 0 where
@@ -62,4 +45,4 @@ pub record HasNoTypes (list : TokenList) (found : Faulty) : Type 0 where
   pub trees_are : AreTrees list.all trees
   pub fault : typing.Fault
   pub first : IsFirstFault trees fault
-  pub there : found ≡ stands_at list (of_typing fault) (place_of fault)
+  pub there : found ≡ stands_at list (of_typing fault) (place_of fault).token

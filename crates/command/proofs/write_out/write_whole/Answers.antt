@@ -9,4 +9,8 @@ loop-at-preserved g c =
       within = omega (arith, c.in_ok-at.ensures.most, length-drop c.loop-at.at c.args.text.now);
       taken = append_cut _ _ _ c.loop-at.at c.in_ok-at.field-0 _ c.args.text.now fits c.loop-at.invariant.taken c.in_ok-at.ensures.bytes;
       still = c.in_ok-at.ensures.cause.still ∙ c.loop-at.invariant.still;
+      fitting = λ h.
+          let before = c.loop-at.invariant.fitting h in
+          let piece = length-drop c.loop-at.at c.args.text.now in
+          omega (arith, before, c.in_ok-at.ensures.surely (omega (arith, before, piece)), c.in_ok-at.ensures.most, piece);
     }

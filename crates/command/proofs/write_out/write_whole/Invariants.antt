@@ -1,5 +1,5 @@
 -- so far the sink took what stands before `at`
-use Rattle.std.proofs.Common.{◌≡◌, ◌≤◌, ◌-◌, length, take}
+use Rattle.std.proofs.Common.{◌≡◌, ◌≤◌, ◌+◌, ◌-◌, length, take}
 use Rattle.std.specs.Io.KnownBytes.{Appends}
 use Rattle.command.proofs.write_out.write_whole.Given as goal
 
@@ -10,6 +10,7 @@ invariant-loop-at g l =
       within : l.at ≤ length l.text;
       taken : Appends (sink.received l.fn.sink) (sink.received l.sink) (take l.at l.text);
       still : sink.faults l.sink ≡ sink.faults l.fn.sink;
+      fitting : length l.text ≤ sink.sure l.fn.sink → length l.text ≤ sink.sure l.sink + l.at;
     }
 
 abbrev pub decreases-loop-at : goal.decreases-loop-at

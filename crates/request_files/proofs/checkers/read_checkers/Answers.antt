@@ -1,4 +1,4 @@
-use Rattle.std.proofs.Common.{◌≡◌, ◌+◌, ◌*◌, ◌∙◌, [], ◌∷◌, length, length-append, ap, arith}
+use Rattle.std.proofs.Common.{◌+◌, ◌*◌, ◌∙◌, [], ◌∷◌, length, length-append, ap, arith}
 use Rattle.request_files.specs.Faults.{before_file}
 use Rattle.request_files.specs.Turns.{CheckerFile}
 use Rattle.request_files.proofs.Looping.{not_read, faulty, checkers_more, checker_fits, room_left, places-push, place_taken}

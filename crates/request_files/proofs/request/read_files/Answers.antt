@@ -1,4 +1,4 @@
-use Rattle.std.proofs.Common.{◌+◌, ◌∙◌, [], length, ap, subst, arith}
+use Rattle.std.proofs.Common.{length, ap, subst, arith}
 use Rattle.request_files.specs.Faults.{before_file, total_limit}
 use Rattle.request_files.specs.InTurn.{AnswersUnread, AreReadCheckers, AreReadSources}
 use Rattle.request_files.specs.Telling.{may_hold}

@@ -1,4 +1,4 @@
-use Rattle.std.proofs.Common.{◌≡◌, ◌+◌, ◌*◌, ◌∙◌, [], ◌∷◌, length, length-append, ap, arith}
+use Rattle.std.proofs.Common.{◌+◌, ◌*◌, ◌∙◌, [], ◌∷◌, length, length-append, ap, arith}
 use Rattle.request_files.specs.Faults.{before_file}
 use Rattle.request_files.specs.Turns.{SourceFile}
 use Rattle.request_files.proofs.Looping.{not_read, faulty, sources_more, source_fits, room_left, numbered-push, place_taken}
