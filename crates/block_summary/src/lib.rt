@@ -1,0 +1,13 @@
+//! Summaries of blocks: what a tuple at the head of a block leads to is worked out once, kept, and lent to whoever enters the block with it again.
+#![tactic(auto)]
+
+// what is kept
+mod exits;
+mod keys;
+mod steps;
+mod summary;
+
+pub use exits::Exits;
+pub use keys::Entered;
+pub use steps::Steps;
+pub use summary::BlockSummary;

@@ -1,0 +1,141 @@
+//! Summaries of the blocks of a program.
+
+ghost use Rattle.std.specs.Prelude.{◌≡◌, ℕ, List, Bool, IsSome, IsOk, OnOk, OnErr, None, option_copied, true};
+ghost use Rattle.block_summary.specs.Exits.{AreExits};
+ghost use Rattle.row_flows.specs.Concerns.{all_calm};
+ghost use Rattle.block_summary.specs.Kept.{IsRight, Keeps, held_in};
+ghost use Rattle.block_summary.specs.declared.keys.Entered.{Entered as Way};
+ghost use Rattle.row_flows.specs.declared.rows.EventRow.{EventRow};
+
+use crate::exits::{Exits, unchanged, worked_out};
+use crate::keys::Entered;
+use crate::steps::Steps;
+use indexmap::{IndexMap, IndexSet};
+use row_flows::BlockRows;
+use std::alloc::{AllocError, Global};
+
+/// What was worked out for blocks, by how each was entered. Nearly all blocks leave nearly all tuples alone: these are only
+/// marked, and share their exits.
+#[derive(Drop)]
+pub struct BlockSummary {
+    // blocks that were found to leave the tuple alone
+    marked: IndexSet<Entered>,
+    // the exits of the others
+    kept: IndexMap<Entered, Exits>,
+    // those of a tuple that is left alone
+    unchanged: Exits,
+}
+
+impl BlockSummary {
+    /// One that holds nothing.
+    pub fn new(alloc: Global) -> BlockSummary
+        ensures held { (x : Way) → held_in result x ≡ None }
+        ensures right { (rows_of : ℕ → ℕ → List EventRow) (own_of : ℕ → List Bool) → IsRight rows_of own_of result }
+    {
+        BlockSummary {
+            marked: IndexSet::new(alloc),
+            kept: IndexMap::new(alloc),
+            unchanged: unchanged(alloc),
+        }
+    }
+
+    /// The exits that are held for a block that is entered so, if any.
+    pub fn held(&self, entered: &Entered) -> Option<&Exits>
+        ensures { option_copied result ≡ held_in self.now entered.now }
+    {
+        if self.marked.contains(entered) {
+            return Some(&self.unchanged);
+        }
+        self.kept.get(entered)
+    }
+}
+
+// Marks a block as one that leaves the tuple alone.
+fn mark(
+    summary: &mut BlockSummary,
+    block: &BlockRows,
+    own: &[bool],
+    entered: Entered,
+) -> Result<(), AllocError>
+    requires absent { held_in summary.now entered ≡ None }
+    requires calm { all_calm entered.tuple.object block.now.rows.items ≡ true }
+    ensures there { OnOk result (IsSome (held_in summary.new entered)) }
+    ensures keeps { Keeps summary.old summary.new }
+    ensures refused { OnErr result ((x : Way) → held_in summary.new x ≡ held_in summary.old x) }
+    ensures right { (rows_of : ℕ → ℕ → List EventRow) (own_of : ℕ → List Bool) → rows_of entered.function entered.block ≡ block.now.rows.items → own_of entered.function ≡ own.now → IsRight rows_of own_of summary.old → IsRight rows_of own_of summary.new }
+{
+    summary.marked.insert(entered)?;
+    Ok(())
+}
+
+// Keeps the exits of a block.
+fn keep(
+    summary: &mut BlockSummary,
+    block: &BlockRows,
+    own: &[bool],
+    entered: Entered,
+    exits: Exits,
+) -> Result<(), AllocError>
+    requires absent { held_in summary.now entered ≡ None }
+    requires exits { AreExits block.now.rows.items entered.is_root own.now entered.tuple exits }
+    ensures there { OnOk result (IsSome (held_in summary.new entered)) }
+    ensures keeps { Keeps summary.old summary.new }
+    ensures refused { OnErr result ((x : Way) → held_in summary.new x ≡ held_in summary.old x) }
+    ensures right { (rows_of : ℕ → ℕ → List EventRow) (own_of : ℕ → List Bool) → rows_of entered.function entered.block ≡ block.now.rows.items → own_of entered.function ≡ own.now → IsRight rows_of own_of summary.old → IsRight rows_of own_of summary.new }
+{
+    summary.kept.insert(entered, exits)?;
+    Ok(())
+}
+
+// Works out what a block leads to that is entered so, and keeps it, unless it is held.
+fn hold(
+    summary: &mut BlockSummary,
+    alloc: Global,
+    block: &BlockRows,
+    own: &[bool],
+    entered: Entered,
+) -> Result<(), AllocError>
+    ensures there { OnOk result (IsSome (held_in summary.new entered)) }
+    ensures keeps { Keeps summary.old summary.new }
+    ensures refused { OnErr result ((x : Way) → held_in summary.new x ≡ held_in summary.old x) }
+    ensures held { IsSome (held_in summary.old entered) → IsOk result }
+    ensures right { (rows_of : ℕ → ℕ → List EventRow) (own_of : ℕ → List Bool) → rows_of entered.function entered.block ≡ block.now.rows.items → own_of entered.function ≡ own.now → IsRight rows_of own_of summary.old → IsRight rows_of own_of summary.new }
+{
+    if summary.held(&entered).is_some() {
+        return Ok(());
+    }
+    if block.leaves_calm(entered.tuple.object) {
+        return mark(summary, block, own, entered);
+    }
+    let exits = worked_out(alloc, block, own, entered.tuple, entered.is_root)?;
+    keep(summary, block, own, entered, exits)
+}
+
+impl BlockSummary {
+    ghost use Rattle.std.specs.Prelude.{◌≡◌, ◌+◌, ◌-◌, ◌^◌, min, IsSome, IsOk};
+    ghost use Rattle.std.specs.Borrow.{sem};
+    ghost use Rattle.block_summary.specs.Kept.{held_in};
+    ghost use Rattle.block_summary.specs.Lending.{Ends};
+
+    /// What a block leads to that is entered so: what is held, or else what is worked out now and then held. It counts as one
+    /// step either way.
+    pub fn enter<'s, L>(
+        &'s mut self,
+        alloc: Global,
+        block: &BlockRows,
+        own: &[bool],
+        entered: Entered,
+        steps: &mut Steps<L>,
+    ) -> Result<&'s Exits, AllocError>
+        ensures* ends { sem 𝓛 (Ends self.entry block.now own.now entered result) }
+        ensures held { IsSome (held_in self.entry.now entered) → IsOk result }
+        ensures ticks { steps.new.count ≡ min (steps.old.count + 1) (2 ^ 64 - 1) }
+    {
+        steps.tick();
+        hold(self, alloc, block, own, entered)?;
+        match self.held(&entered) {
+            Some(exits) => Ok(exits),
+            None => unreachable!(),
+        }
+    }
+}

@@ -1,0 +1,19 @@
+//! Tabulation over numbers: the path edges of a program whose functions are tables of rows, and the rules with an action that are taken on them.
+#![tactic(auto)]
+
+// the tables of a program
+mod edges;
+mod program;
+
+// what follows
+mod following;
+mod waiting;
+
+// the engine, and what its edges show
+mod engine;
+mod showing;
+
+pub use edges::{NumberedContext, NumberedEdge};
+pub use engine::{NumberedEngine, tabulate};
+pub use program::{Block, Call, Ending, FunctionRows, ProgramRows};
+pub use showing::firings_at;

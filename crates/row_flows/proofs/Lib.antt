@@ -1,0 +1,4 @@
+pub mod Lists
+pub mod LeftCalm
+pub mod OnTheWay
+pub mod Concerned
