@@ -84,7 +84,7 @@ def contract(room, text, start):
     head = text[start:behind.start()] if behind else text[start:]
     takes, gives = re.match(r"[^(]*(\((?:[^()]|\([^()]*\))*\))(?: -> (.*?))?(?=\n +(?:requires|ensures|where)|$|;| where)", head, re.DOTALL).groups()
     clauses = []
-    for name, word in re.findall(r"\bensures (\w*) ?\{ ?(\w*)", head):
+    for name, word in re.findall(r"\bensures\*? (\w*) ?\{ ?(\w*)", head):
         clauses += [name] if name else ["", *records_of(room).get(word, [])]
     return takes, " ".join((gives or "").split()), clauses
 
