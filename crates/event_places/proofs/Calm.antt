@@ -1,5 +1,6 @@
 -- The trees of the grammar have calm lines: the only braces in them are those of bodies, initial values and blocks.
 use Rattle.std.proofs.Common.{◌≡◌, nat_eq, List, [], ◌∷◌, Bool, true, false, ◌||◌, not, Option, None, Some, inl, inr, refl, ap}
+use Rattle.std.specs.Prelude.{⊤}
 use Rattle.std.specs.Option.{option_map}
 use Rattle.c_tree.specs.declared.keyword.Keyword.TheVariants as words
 use Rattle.c_tree.specs.declared.operator.UnaryOp.{UnaryOp}
@@ -9,8 +10,8 @@ use Rattle.c_tree.specs.declared.punctuator.Punctuator.TheVariants as marks
 use Rattle.c_tree.specs.declared.token.Token.{Token}
 use Rattle.c_tree.specs.Codes.{punctuator_code}
 use Rattle.c_tree.specs.Forget.{syntax_of, primary_syntax, operation_syntax, initializer_syntax, specifier_syntax, declarator_syntax, part_syntax, statement_syntax, iteration_syntax, jump_syntax, maybe_syntax, syntaxes_of}
-use Rattle.c_tree.specs.Node.{Node, node, Primary, Operation, Initializer, Specifier, Declarator, Part, Outer, Statement, Iteration, Jump, PrimaryShape, OperationShape, InitializerShape, SpecifierShape, DeclaratorShape, PartShape, StatementShape, IterationShape, JumpShape, Ident, Constant, StrConst, Paren, VaArg, Offsetof, Hole, Index, Call, Member, Arrow, CompoundLit, Unary, SizeofType, Cast, Binary, Cond, Assign, Init, Braces, Designated, TypeName, Specs, StructTag, StructBody, EnumTag, EnumBody, StructDeclaration, BitField, Param, Named, Nested, Unnamed, SpecWord, ArrayBound, VoidParams, Params, Enumerator, MemberDesignator, IndexDesignator, Declaration, Function, Empty, Block, ExprStmt, If, Switch, Case, Default, Label, While, Do, For, ForDeclaration, Goto, Continue, Break, Return, MaybeNode, absent, present, Nodes, no_more, more}
-use Rattle.c_tree.specs.Symbol.{Symbol, Word, Reserved, Sign, IntLiteral, FloatLiteral, CharLiteral, StringLiteral, symbol_of, symbols_of}
+use Rattle.c_tree.specs.Node.{Node, node, Primary, Operation, Initializer, Specifier, Declarator, Part, Outer, Statement, Iteration, Jump, PrimaryShape, OperationShape, InitializerShape, SpecifierShape, DeclaratorShape, PartShape, StatementShape, IterationShape, JumpShape, Ident, Constant, StrConst, Paren, VaArg, Offsetof, Hole, Index, Call, Member, Arrow, CompoundLit, Unary, SizeofType, Cast, Binary, Cond, Assign, Init, Braces, Designated, TypeName, Specs, StructTag, StructBody, EnumTag, EnumBody, StructDeclaration, BitField, Param, Named, Nested, Unnamed, SpecWord, ArrayBound, VoidParams, Params, Enumerator, MemberDesignator, IndexDesignator, Declaration, Empty, Block, ExprStmt, If, Switch, Case, Default, Label, While, Do, For, ForDeclaration, Goto, Continue, Break, Return, MaybeNode, absent, present, Nodes, no_more, more}
+use Rattle.c_tree.specs.Symbol.{Symbol, Sign, symbol_of, symbols_of}
 use Rattle.c_tree.specs.Tokens.{binary_sign, assign_sign, word_of}
 use Rattle.c_grammar.specs.CPlaces.Lines.{Line, kept, all_kept, line_of, primary_line, operation_line, initializer_line, specifier_line, declarator_line, part_line, statement_line, iteration_line, jump_line, unary_line, maybe_line, assigned_line, else_line, row_line, list_line, more_line, tag_if, comma_if, ellipsis_if, declared_token}
 use Rattle.c_grammar.specs.Grammar.{IsOrdinary, AreStrings, IsItem, AreItems, AreSpecifiers, IsTag, is_pointer_word, ArePointers, is_bound_word, IsExpr, IsPrimary, IsOperation, AreArguments, IsPath, IsDesignator, IsDesignatorPart, IsTypeName, IsTypeNameSpecifier, IsMaybeDeclarator, IsDeclarator, IsDirect, AreSuffixes, IsSuffix, IsSuffixPart, IsBound, AreParams, IsParam, IsParamSpecifier}
@@ -26,118 +27,38 @@ use Rattle.event_places.proofs.Braces.{is_brace, IsCalm, calm-nothing, calm-kept
 
 -- SYMBOLS that are no braces
 word-plain : (s : Symbol) → is_word s ≡ true → is_brace s ≡ false
-word-plain (Word name) h = refl
-word-plain (Reserved k) h = refl
 word-plain (Sign p) h = cc
-word-plain (IntLiteral i n) h = refl
-word-plain (FloatLiteral e n) h = refl
-word-plain (CharLiteral w n) h = refl
-word-plain (StringLiteral w n) h = refl
+word-plain _ h = refl
 
 ordinary-plain : (names : Names) (s : Symbol) → IsOrdinary names s → is_brace s ≡ false
-ordinary-plain names (Word name) h = refl
-ordinary-plain names (Reserved k) h = refl
 ordinary-plain names (Sign p) h = absurd h
-ordinary-plain names (IntLiteral i n) h = refl
-ordinary-plain names (FloatLiteral e n) h = refl
-ordinary-plain names (CharLiteral w n) h = refl
-ordinary-plain names (StringLiteral w n) h = refl
+ordinary-plain names _ h = refl
 
 constant-plain : (s : Symbol) → is_constant s ≡ true → is_brace s ≡ false
-constant-plain (Word name) h = refl
-constant-plain (Reserved k) h = refl
 constant-plain (Sign p) h = cc
-constant-plain (IntLiteral i n) h = refl
-constant-plain (FloatLiteral e n) h = refl
-constant-plain (CharLiteral w n) h = refl
-constant-plain (StringLiteral w n) h = refl
+constant-plain _ h = refl
 
 string-plain : (s : Symbol) → is_string s ≡ true → is_brace s ≡ false
-string-plain (Word name) h = refl
-string-plain (Reserved k) h = refl
 string-plain (Sign p) h = cc
-string-plain (IntLiteral i n) h = refl
-string-plain (FloatLiteral e n) h = refl
-string-plain (CharLiteral w n) h = refl
-string-plain (StringLiteral w n) h = refl
+string-plain _ h = refl
 
 specifier-plain : (names : Names) (typed : Bool) (s : Symbol) → is_specifier names typed s ≡ true → is_brace s ≡ false
-specifier-plain names typed (Word name) h = refl
-specifier-plain names typed (Reserved k) h = refl
 specifier-plain names typed (Sign p) h = cc
-specifier-plain names typed (IntLiteral i n) h = refl
-specifier-plain names typed (FloatLiteral e n) h = refl
-specifier-plain names typed (CharLiteral w n) h = refl
-specifier-plain names typed (StringLiteral w n) h = refl
+specifier-plain names typed _ h = refl
 
 -- a sign that has the number of `*` is no brace
 star-plain : (p : Punctuator) → nat_eq (punctuator_code marks.Star) (punctuator_code p) ≡ true → is_brace (Sign p) ≡ false
-star-plain marks.OpenParen h = refl
-star-plain marks.Increment h = refl
-star-plain marks.Decrement h = refl
-star-plain marks.Ampersand h = refl
-star-plain marks.Star h = refl
-star-plain marks.Plus h = refl
-star-plain marks.Minus h = refl
-star-plain marks.Tilde h = refl
-star-plain marks.Exclamation h = refl
-star-plain marks.OpenBracket h = refl
-star-plain marks.CloseBracket h = refl
-star-plain marks.CloseParen h = refl
 star-plain marks.OpenBrace h = cc
 star-plain marks.CloseBrace h = cc
-star-plain marks.Dot h = refl
-star-plain marks.Arrow h = refl
-star-plain marks.Question h = refl
-star-plain marks.Colon h = refl
-star-plain marks.Semicolon h = refl
-star-plain marks.Comma h = refl
-star-plain marks.Ellipsis h = refl
-star-plain marks.Slash h = refl
-star-plain marks.Percent h = refl
-star-plain marks.ShiftLeft h = refl
-star-plain marks.ShiftRight h = refl
-star-plain marks.Less h = refl
-star-plain marks.Greater h = refl
-star-plain marks.LessEqual h = refl
-star-plain marks.GreaterEqual h = refl
-star-plain marks.Equal h = refl
-star-plain marks.NotEqual h = refl
-star-plain marks.Caret h = refl
-star-plain marks.Bar h = refl
-star-plain marks.AndAnd h = refl
-star-plain marks.OrOr h = refl
-star-plain marks.Assign h = refl
-star-plain marks.StarAssign h = refl
-star-plain marks.SlashAssign h = refl
-star-plain marks.PercentAssign h = refl
-star-plain marks.PlusAssign h = refl
-star-plain marks.MinusAssign h = refl
-star-plain marks.ShiftLeftAssign h = refl
-star-plain marks.ShiftRightAssign h = refl
-star-plain marks.AmpersandAssign h = refl
-star-plain marks.CaretAssign h = refl
-star-plain marks.BarAssign h = refl
-star-plain marks.Dollar h = refl
-star-plain marks.LongArrow h = refl
+star-plain _ h = refl
 
 pointer-plain : (s : Symbol) → is_pointer_word s ≡ true → is_brace s ≡ false
-pointer-plain (Word name) h = refl
-pointer-plain (Reserved k) h = refl
 pointer-plain (Sign p) h = star-plain p h
-pointer-plain (IntLiteral i n) h = refl
-pointer-plain (FloatLiteral e n) h = refl
-pointer-plain (CharLiteral w n) h = refl
-pointer-plain (StringLiteral w n) h = refl
+pointer-plain _ h = refl
 
 bound-plain : (s : Symbol) → is_bound_word s ≡ true → is_brace s ≡ false
-bound-plain (Word name) h = refl
-bound-plain (Reserved k) h = refl
 bound-plain (Sign p) h = cc
-bound-plain (IntLiteral i n) h = refl
-bound-plain (FloatLiteral e n) h = refl
-bound-plain (CharLiteral w n) h = refl
-bound-plain (StringLiteral w n) h = refl
+bound-plain _ h = refl
 
 calm-word : (t : Token) → is_word (symbol_of t) ≡ true → IsCalm (kept t)
 calm-word t h = calm-kept t (word-plain (symbol_of t) h)
@@ -157,13 +78,8 @@ plainly s k = by (is_brace s) k
     by false k = refl
 
 first-plain : (s : Symbol) → is_sign marks.Star s ≡ true → is_plain s ≡ true
-first-plain (Word name) k = refl
-first-plain (Reserved w) k = refl
 first-plain (Sign p) k = ap not (star-plain p k)
-first-plain (IntLiteral i n) k = refl
-first-plain (FloatLiteral e n) k = refl
-first-plain (CharLiteral w n) k = refl
-first-plain (StringLiteral w n) k = refl
+first-plain _ k = refl
 
 rest-plain : (ss : List Symbol) → AreAll is_pointer_word ss → AreAll is_plain ss
 rest-plain [] k = tt
@@ -198,44 +114,29 @@ calm-unary unary.BitNot l h = calm-sign marks.Tilde refl ⨟ h
 calm-unary unary.Not l h = calm-sign marks.Exclamation refl ⨟ h
 calm-unary unary.Sizeof l h = calm-keyword words.Sizeof ⨟ h
 
+-- nodes with commas between them, where the line of each is calm
+abbrev AllCalm : Nodes → Type 0
+AllCalm no_more = ⊤
+AllCalm (more n ns) = IsCalm (line_of n) × AllCalm ns
+
+calm-list : (ns : Nodes) → AllCalm ns → IsCalm (list_line ns)
+calm-list no_more h = calm-nothing
+calm-list (more n ns) h = h.0 ⨟ further ns h.1
+  where
+    further : (ns : Nodes) → AllCalm ns → IsCalm (more_line ns)
+    further no_more h = calm-nothing
+    further (more n ns) h = calm-sign marks.Comma refl ⨟ h.0 ⨟ further ns h.1
+
 -- a tag without a body
 calm-bare-tag : (n : Node) → IsTag (syntax_of n) → IsCalm (line_of n)
 calm-bare-tag (node i p (Specifier (StructTag which tag))) h = calm-node i p (Specifier (StructTag which tag)) (calm-keyword (word_of which) ⨟ calm-word tag h)
 calm-bare-tag (node i p (Specifier (EnumTag tag))) h = calm-node i p (Specifier (EnumTag tag)) (calm-keyword words.Enum ⨟ calm-word tag h)
-calm-bare-tag (node i p (Specifier (TypeName specs declarator))) h = absurd h
-calm-bare-tag (node i p (Specifier (Specs items))) h = absurd h
-calm-bare-tag (node i p (Specifier (StructBody which tag members))) h = absurd h
-calm-bare-tag (node i p (Specifier (EnumBody tag enumerators comma))) h = absurd h
-calm-bare-tag (node i p (Specifier (StructDeclaration specs declarators))) h = absurd h
-calm-bare-tag (node i p (Specifier (BitField declarator width))) h = absurd h
-calm-bare-tag (node i p (Specifier (Param specs declarator))) h = absurd h
-calm-bare-tag (node i p (Primary k)) h = absurd h
-calm-bare-tag (node i p (Operation k)) h = absurd h
-calm-bare-tag (node i p (Initializer k)) h = absurd h
-calm-bare-tag (node i p (Declarator k)) h = absurd h
-calm-bare-tag (node i p (Part k)) h = absurd h
-calm-bare-tag (node i p (Outer k)) h = absurd h
-calm-bare-tag (node i p (Statement k)) h = absurd h
-calm-bare-tag (node i p (Iteration k)) h = absurd h
-calm-bare-tag (node i p (Jump k)) h = absurd h
+calm-bare-tag _ h = absurd h
 
 calm-item : (names : Names) (typed : Bool) (n : Node) → IsItem IsTag names typed (syntax_of n) → IsCalm (line_of n)
 calm-item names typed (node i p (Part (SpecWord word))) h = calm-node i p (Part (SpecWord word)) (calm-kept word (specifier-plain names typed (symbol_of word) h))
 calm-item names typed (node i p (Specifier k)) h = calm-bare-tag (node i p (Specifier k)) h
-calm-item names typed (node i p (Part (ArrayBound words bound))) h = absurd h
-calm-item names typed (node i p (Part VoidParams)) h = absurd h
-calm-item names typed (node i p (Part (Params params variadic))) h = absurd h
-calm-item names typed (node i p (Part (Enumerator name value))) h = absurd h
-calm-item names typed (node i p (Part (MemberDesignator member))) h = absurd h
-calm-item names typed (node i p (Part (IndexDesignator index))) h = absurd h
-calm-item names typed (node i p (Primary k)) h = absurd h
-calm-item names typed (node i p (Operation k)) h = absurd h
-calm-item names typed (node i p (Initializer k)) h = absurd h
-calm-item names typed (node i p (Declarator k)) h = absurd h
-calm-item names typed (node i p (Outer k)) h = absurd h
-calm-item names typed (node i p (Statement k)) h = absurd h
-calm-item names typed (node i p (Iteration k)) h = absurd h
-calm-item names typed (node i p (Jump k)) h = absurd h
+calm-item names typed _ h = absurd h
 
 calm-items : (names : Names) (typed : Bool) (ns : Nodes) → AreItems IsTag names typed (syntaxes_of ns) → IsCalm (row_line ns)
 calm-items names typed no_more h = calm-nothing
@@ -243,37 +144,14 @@ calm-items names typed (more n ns) h = calm-item names typed n h.0 ⨟ calm-item
 
 calm-specifiers : (place : specifiers.Place) (names : Names) (n : Node) → AreSpecifiers IsTag place names (syntax_of n) → IsCalm (line_of n)
 calm-specifiers place names (node i p (Specifier (Specs items))) h = calm-node i p (Specifier (Specs items)) (calm-items names false items h.0)
-calm-specifiers place names (node i p (Specifier (TypeName specs declarator))) h = absurd h
-calm-specifiers place names (node i p (Specifier (StructTag which tag))) h = absurd h
-calm-specifiers place names (node i p (Specifier (StructBody which tag members))) h = absurd h
-calm-specifiers place names (node i p (Specifier (EnumTag tag))) h = absurd h
-calm-specifiers place names (node i p (Specifier (EnumBody tag enumerators comma))) h = absurd h
-calm-specifiers place names (node i p (Specifier (StructDeclaration specs declarators))) h = absurd h
-calm-specifiers place names (node i p (Specifier (BitField declarator width))) h = absurd h
-calm-specifiers place names (node i p (Specifier (Param specs declarator))) h = absurd h
-calm-specifiers place names (node i p (Primary k)) h = absurd h
-calm-specifiers place names (node i p (Operation k)) h = absurd h
-calm-specifiers place names (node i p (Initializer k)) h = absurd h
-calm-specifiers place names (node i p (Declarator k)) h = absurd h
-calm-specifiers place names (node i p (Part k)) h = absurd h
-calm-specifiers place names (node i p (Outer k)) h = absurd h
-calm-specifiers place names (node i p (Statement k)) h = absurd h
-calm-specifiers place names (node i p (Iteration k)) h = absurd h
-calm-specifiers place names (node i p (Jump k)) h = absurd h
+calm-specifiers place names _ h = absurd h
 
 mutual
   -- EXPRESSIONS
   pub calm-expr : (names : Names) (n : Node) → IsExpr names (syntax_of n) → IsCalm (line_of n)
   calm-expr names (node i p (Primary k)) h = calm-node i p (Primary k) (calm-primary names k h)
   calm-expr names (node i p (Operation k)) h = calm-node i p (Operation k) (calm-operation names k h)
-  calm-expr names (node i p (Initializer k)) h = absurd h
-  calm-expr names (node i p (Specifier k)) h = absurd h
-  calm-expr names (node i p (Declarator k)) h = absurd h
-  calm-expr names (node i p (Part k)) h = absurd h
-  calm-expr names (node i p (Outer k)) h = absurd h
-  calm-expr names (node i p (Statement k)) h = absurd h
-  calm-expr names (node i p (Iteration k)) h = absurd h
-  calm-expr names (node i p (Jump k)) h = absurd h
+  calm-expr names _ h = absurd h
 
   calm-primary : (names : Names) (k : PrimaryShape) → IsPrimary names (primary_syntax k) → IsCalm (primary_line k)
   calm-primary names (Ident name) h = calm-kept name (ordinary-plain names (symbol_of name) h)
@@ -286,7 +164,7 @@ mutual
 
   calm-operation : (names : Names) (k : OperationShape) → IsOperation names (operation_syntax k) → IsCalm (operation_line k)
   calm-operation names (Index array index) h = calm-expr names array h.1 ⨟ calm-sign marks.OpenBracket refl ⨟ calm-expr names index h.2 ⨟ calm-sign marks.CloseBracket refl
-  calm-operation names (Call callee parenthesis arguments) h = calm-expr names callee h.1 ⨟ calm-at parenthesis ⨟ calm-sign marks.OpenParen refl ⨟ calm-arguments names arguments h.2 ⨟ calm-sign marks.CloseParen refl
+  calm-operation names (Call callee parenthesis arguments) h = calm-expr names callee h.1 ⨟ calm-at parenthesis ⨟ calm-sign marks.OpenParen refl ⨟ calm-list arguments (all-arguments names arguments h.2) ⨟ calm-sign marks.CloseParen refl
   calm-operation names (Member x member) h = calm-expr names x h.1 ⨟ calm-sign marks.Dot refl ⨟ calm-word member h.2
   calm-operation names (Arrow x member) h = calm-expr names x h.1 ⨟ calm-sign marks.Arrow refl ⨟ calm-word member h.2
   calm-operation names (CompoundLit of braces) h = absurd h
@@ -297,13 +175,9 @@ mutual
   calm-operation names (Cond x y z) h = calm-expr names x h.1 ⨟ calm-sign marks.Question refl ⨟ calm-expr names y h.2 ⨟ calm-sign marks.Colon refl ⨟ calm-expr names z h.4
   calm-operation names (Assign op x y) h = calm-expr names x h.1 ⨟ calm-sign (assign_sign op) (assign-plain op) ⨟ calm-expr names y h.3
 
-  calm-arguments : (names : Names) (ns : Nodes) → AreArguments names (syntaxes_of ns) → IsCalm (list_line ns)
-  calm-arguments names no_more h = calm-nothing
-  calm-arguments names (more n ns) h = calm-expr names n h.1 ⨟ further-arguments names ns h.2
-
-  further-arguments : (names : Names) (ns : Nodes) → AreArguments names (syntaxes_of ns) → IsCalm (more_line ns)
-  further-arguments names no_more h = calm-nothing
-  further-arguments names (more n ns) h = calm-sign marks.Comma refl ⨟ calm-expr names n h.1 ⨟ further-arguments names ns h.2
+  all-arguments : (names : Names) (ns : Nodes) → AreArguments names (syntaxes_of ns) → AllCalm ns
+  all-arguments names no_more h = tt
+  all-arguments names (more n ns) h = (calm-expr names n h.1, all-arguments names ns h.2)
 
   calm-path : (names : Names) (ns : Nodes) → IsPath names (syntaxes_of ns) → IsCalm (row_line ns)
   calm-path names no_more h = calm-nothing
@@ -311,48 +185,21 @@ mutual
 
   calm-designator : (names : Names) (n : Node) → IsDesignator names (syntax_of n) → IsCalm (line_of n)
   calm-designator names (node i p (Part k)) h = calm-node i p (Part k) (calm-designator-part names k h)
-  calm-designator names (node i p (Primary k)) h = absurd h
-  calm-designator names (node i p (Operation k)) h = absurd h
-  calm-designator names (node i p (Initializer k)) h = absurd h
-  calm-designator names (node i p (Specifier k)) h = absurd h
-  calm-designator names (node i p (Declarator k)) h = absurd h
-  calm-designator names (node i p (Outer k)) h = absurd h
-  calm-designator names (node i p (Statement k)) h = absurd h
-  calm-designator names (node i p (Iteration k)) h = absurd h
-  calm-designator names (node i p (Jump k)) h = absurd h
+  calm-designator names _ h = absurd h
 
   calm-designator-part : (names : Names) (k : PartShape) → IsDesignatorPart names (part_syntax k) → IsCalm (part_line k)
   calm-designator-part names (MemberDesignator member) h = calm-sign marks.Dot refl ⨟ calm-word member h
   calm-designator-part names (IndexDesignator index) h = calm-sign marks.OpenBracket refl ⨟ calm-expr names index h ⨟ calm-sign marks.CloseBracket refl
-  calm-designator-part names (SpecWord word) h = absurd h
-  calm-designator-part names (ArrayBound words bound) h = absurd h
-  calm-designator-part names VoidParams h = absurd h
-  calm-designator-part names (Params params variadic) h = absurd h
-  calm-designator-part names (Enumerator name value) h = absurd h
+  calm-designator-part names _ h = absurd h
 
   -- TYPE NAMES AND DECLARATORS
   calm-type-name : (names : Names) (n : Node) → IsTypeName names (syntax_of n) → IsCalm (line_of n)
   calm-type-name names (node i p (Specifier k)) h = calm-node i p (Specifier k) (calm-type-specifier names k h)
-  calm-type-name names (node i p (Primary k)) h = absurd h
-  calm-type-name names (node i p (Operation k)) h = absurd h
-  calm-type-name names (node i p (Initializer k)) h = absurd h
-  calm-type-name names (node i p (Declarator k)) h = absurd h
-  calm-type-name names (node i p (Part k)) h = absurd h
-  calm-type-name names (node i p (Outer k)) h = absurd h
-  calm-type-name names (node i p (Statement k)) h = absurd h
-  calm-type-name names (node i p (Iteration k)) h = absurd h
-  calm-type-name names (node i p (Jump k)) h = absurd h
+  calm-type-name names _ h = absurd h
 
   calm-type-specifier : (names : Names) (k : SpecifierShape) → IsTypeNameSpecifier names (specifier_syntax k) → IsCalm (specifier_line k)
   calm-type-specifier names (TypeName specs declarator) h = calm-specifiers specifiers.InTypeName names specs h.0 ⨟ calm-maybe-declarator Abstract names declarator h.1
-  calm-type-specifier names (Specs items) h = absurd h
-  calm-type-specifier names (StructTag which tag) h = absurd h
-  calm-type-specifier names (StructBody which tag members) h = absurd h
-  calm-type-specifier names (EnumTag tag) h = absurd h
-  calm-type-specifier names (EnumBody tag enumerators comma) h = absurd h
-  calm-type-specifier names (StructDeclaration specs declarators) h = absurd h
-  calm-type-specifier names (BitField declarator width) h = absurd h
-  calm-type-specifier names (Param specs declarator) h = absurd h
+  calm-type-specifier names _ h = absurd h
 
   pub calm-maybe-declarator : (form : Form) (names : Names) (m : MaybeNode) → IsMaybeDeclarator form names (maybe_syntax m) → IsCalm (maybe_line m)
   calm-maybe-declarator form names absent h = calm-nothing
@@ -360,15 +207,7 @@ mutual
 
   pub calm-declarator : (form : Form) (names : Names) (n : Node) → IsDeclarator form names (syntax_of n) → IsCalm (line_of n)
   calm-declarator form names (node i p (Declarator k)) h = calm-node i p (Declarator k) (calm-direct form names k h)
-  calm-declarator form names (node i p (Primary k)) h = absurd h
-  calm-declarator form names (node i p (Operation k)) h = absurd h
-  calm-declarator form names (node i p (Initializer k)) h = absurd h
-  calm-declarator form names (node i p (Specifier k)) h = absurd h
-  calm-declarator form names (node i p (Part k)) h = absurd h
-  calm-declarator form names (node i p (Outer k)) h = absurd h
-  calm-declarator form names (node i p (Statement k)) h = absurd h
-  calm-declarator form names (node i p (Iteration k)) h = absurd h
-  calm-declarator form names (node i p (Jump k)) h = absurd h
+  calm-declarator form names _ h = absurd h
 
   calm-direct : (form : Form) (names : Names) (k : DeclaratorShape) → IsDirect form names (declarator_syntax k) → IsCalm (declarator_line k)
   calm-direct form names (Named pointers name suffixes) h = calm-pointers pointers h.1 ⨟ calm-word name h.2 ⨟ calm-suffixes names suffixes h.3
@@ -381,59 +220,29 @@ mutual
 
   calm-suffix : (names : Names) (n : Node) → IsSuffix names (syntax_of n) → IsCalm (line_of n)
   calm-suffix names (node i p (Part k)) h = calm-node i p (Part k) (calm-suffix-part names k h)
-  calm-suffix names (node i p (Primary k)) h = absurd h
-  calm-suffix names (node i p (Operation k)) h = absurd h
-  calm-suffix names (node i p (Initializer k)) h = absurd h
-  calm-suffix names (node i p (Specifier k)) h = absurd h
-  calm-suffix names (node i p (Declarator k)) h = absurd h
-  calm-suffix names (node i p (Outer k)) h = absurd h
-  calm-suffix names (node i p (Statement k)) h = absurd h
-  calm-suffix names (node i p (Iteration k)) h = absurd h
-  calm-suffix names (node i p (Jump k)) h = absurd h
+  calm-suffix names _ h = absurd h
 
   calm-suffix-part : (names : Names) (k : PartShape) → IsSuffixPart names (part_syntax k) → IsCalm (part_line k)
   calm-suffix-part names (ArrayBound words bound) h = calm-sign marks.OpenBracket refl ⨟ calm-all words is_bound_word bound-plain h.0 ⨟ calm-bound names bound h.1 ⨟ calm-sign marks.CloseBracket refl
   calm-suffix-part names VoidParams h = calm-sign marks.OpenParen refl ⨟ calm-keyword words.Void ⨟ calm-sign marks.CloseParen refl
-  calm-suffix-part names (Params params variadic) h = calm-sign marks.OpenParen refl ⨟ calm-params names params h.0 ⨟ calm-ellipsis variadic ⨟ calm-sign marks.CloseParen refl
-  calm-suffix-part names (SpecWord word) h = absurd h
-  calm-suffix-part names (Enumerator name value) h = absurd h
-  calm-suffix-part names (MemberDesignator member) h = absurd h
-  calm-suffix-part names (IndexDesignator index) h = absurd h
+  calm-suffix-part names (Params params variadic) h = calm-sign marks.OpenParen refl ⨟ calm-list params (all-params names params h.0) ⨟ calm-ellipsis variadic ⨟ calm-sign marks.CloseParen refl
+  calm-suffix-part names _ h = absurd h
 
   calm-bound : (names : Names) (m : MaybeNode) → IsBound names (maybe_syntax m) → IsCalm (maybe_line m)
   calm-bound names absent h = calm-nothing
   calm-bound names (present e) h = calm-expr names e h.1
 
-  calm-params : (names : Names) (ns : Nodes) → AreParams names (syntaxes_of ns) → IsCalm (list_line ns)
-  calm-params names no_more h = calm-nothing
-  calm-params names (more n ns) h = calm-param names n h.0 ⨟ further-params (with_param (syntax_of n) names) ns h.1
-
-  further-params : (names : Names) (ns : Nodes) → AreParams names (syntaxes_of ns) → IsCalm (more_line ns)
-  further-params names no_more h = calm-nothing
-  further-params names (more n ns) h = calm-sign marks.Comma refl ⨟ calm-param names n h.0 ⨟ further-params (with_param (syntax_of n) names) ns h.1
+  all-params : (names : Names) (ns : Nodes) → AreParams names (syntaxes_of ns) → AllCalm ns
+  all-params names no_more h = tt
+  all-params names (more n ns) h = (calm-param names n h.0, all-params (with_param (syntax_of n) names) ns h.1)
 
   calm-param : (names : Names) (n : Node) → IsParam names (syntax_of n) → IsCalm (line_of n)
   calm-param names (node i p (Specifier k)) h = calm-node i p (Specifier k) (calm-param-specifier names k h)
-  calm-param names (node i p (Primary k)) h = absurd h
-  calm-param names (node i p (Operation k)) h = absurd h
-  calm-param names (node i p (Initializer k)) h = absurd h
-  calm-param names (node i p (Declarator k)) h = absurd h
-  calm-param names (node i p (Part k)) h = absurd h
-  calm-param names (node i p (Outer k)) h = absurd h
-  calm-param names (node i p (Statement k)) h = absurd h
-  calm-param names (node i p (Iteration k)) h = absurd h
-  calm-param names (node i p (Jump k)) h = absurd h
+  calm-param names _ h = absurd h
 
   calm-param-specifier : (names : Names) (k : SpecifierShape) → IsParamSpecifier names (specifier_syntax k) → IsCalm (specifier_line k)
   calm-param-specifier names (Param specs declarator) h = calm-specifiers specifiers.InParam names specs h.0 ⨟ calm-maybe-declarator Either names declarator h.1
-  calm-param-specifier names (TypeName specs declarator) h = absurd h
-  calm-param-specifier names (Specs items) h = absurd h
-  calm-param-specifier names (StructTag which tag) h = absurd h
-  calm-param-specifier names (StructBody which tag members) h = absurd h
-  calm-param-specifier names (EnumTag tag) h = absurd h
-  calm-param-specifier names (EnumBody tag enumerators comma) h = absurd h
-  calm-param-specifier names (StructDeclaration specs declarators) h = absurd h
-  calm-param-specifier names (BitField declarator width) h = absurd h
+  calm-param-specifier names _ h = absurd h
 
 calm-maybe-expr : (names : Names) (m : MaybeNode) → IsMaybeExpr names (maybe_syntax m) → IsCalm (maybe_line m)
 calm-maybe-expr names absent h = calm-nothing
@@ -446,82 +255,30 @@ calm-value names (present e) h = calm-sign marks.Assign refl ⨟ calm-expr names
 -- ENUMERATORS
 calm-enumerator : (names : Names) (n : Node) → IsEnumerator names (syntax_of n) → IsCalm (line_of n)
 calm-enumerator names (node i p (Part (Enumerator name value))) h = calm-node i p (Part (Enumerator name value)) (calm-word name h.0 ⨟ calm-value names value h.1)
-calm-enumerator names (node i p (Part (SpecWord word))) h = absurd h
-calm-enumerator names (node i p (Part (ArrayBound words bound))) h = absurd h
-calm-enumerator names (node i p (Part VoidParams)) h = absurd h
-calm-enumerator names (node i p (Part (Params params variadic))) h = absurd h
-calm-enumerator names (node i p (Part (MemberDesignator member))) h = absurd h
-calm-enumerator names (node i p (Part (IndexDesignator index))) h = absurd h
-calm-enumerator names (node i p (Primary k)) h = absurd h
-calm-enumerator names (node i p (Operation k)) h = absurd h
-calm-enumerator names (node i p (Initializer k)) h = absurd h
-calm-enumerator names (node i p (Specifier k)) h = absurd h
-calm-enumerator names (node i p (Declarator k)) h = absurd h
-calm-enumerator names (node i p (Outer k)) h = absurd h
-calm-enumerator names (node i p (Statement k)) h = absurd h
-calm-enumerator names (node i p (Iteration k)) h = absurd h
-calm-enumerator names (node i p (Jump k)) h = absurd h
+calm-enumerator names _ h = absurd h
 
-further-enumerators : (names : Names) (ns : Nodes) → AreEnumerators names (syntaxes_of ns) → IsCalm (more_line ns)
-further-enumerators names no_more h = calm-nothing
-further-enumerators names (more n ns) h = calm-sign marks.Comma refl ⨟ calm-enumerator names n h.0 ⨟ further-enumerators (declared (syntax_of n) names) ns h.1
-
-calm-enumerators : (names : Names) (ns : Nodes) → AreEnumerators names (syntaxes_of ns) → IsCalm (list_line ns)
-calm-enumerators names no_more h = calm-nothing
-calm-enumerators names (more n ns) h = calm-enumerator names n h.0 ⨟ further-enumerators (declared (syntax_of n) names) ns h.1
+all-enumerators : (names : Names) (ns : Nodes) → AreEnumerators names (syntaxes_of ns) → AllCalm ns
+all-enumerators names no_more h = tt
+all-enumerators names (more n ns) h = (calm-enumerator names n h.0, all-enumerators (declared (syntax_of n) names) ns h.1)
 
 -- MEMBERS
 calm-member-declarator : (names : Names) (n : Node) → IsMemberDeclarator names (syntax_of n) → IsCalm (line_of n)
 calm-member-declarator names (node i p (Declarator k)) h = calm-declarator WithName names (node i p (Declarator k)) h
 calm-member-declarator names (node i p (Specifier (BitField declarator width))) h = calm-node i p (Specifier (BitField declarator width)) (calm-maybe-declarator WithName names declarator h.0 ⨟ calm-sign marks.Colon refl ⨟ calm-expr names width h.1.1)
-calm-member-declarator names (node i p (Specifier (TypeName specs declarator))) h = absurd h
-calm-member-declarator names (node i p (Specifier (Specs items))) h = absurd h
-calm-member-declarator names (node i p (Specifier (StructTag which tag))) h = absurd h
-calm-member-declarator names (node i p (Specifier (StructBody which tag members))) h = absurd h
-calm-member-declarator names (node i p (Specifier (EnumTag tag))) h = absurd h
-calm-member-declarator names (node i p (Specifier (EnumBody tag enumerators comma))) h = absurd h
-calm-member-declarator names (node i p (Specifier (StructDeclaration specs declarators))) h = absurd h
-calm-member-declarator names (node i p (Specifier (Param specs declarator))) h = absurd h
-calm-member-declarator names (node i p (Primary k)) h = absurd h
-calm-member-declarator names (node i p (Operation k)) h = absurd h
-calm-member-declarator names (node i p (Initializer k)) h = absurd h
-calm-member-declarator names (node i p (Part k)) h = absurd h
-calm-member-declarator names (node i p (Outer k)) h = absurd h
-calm-member-declarator names (node i p (Statement k)) h = absurd h
-calm-member-declarator names (node i p (Iteration k)) h = absurd h
-calm-member-declarator names (node i p (Jump k)) h = absurd h
+calm-member-declarator names _ h = absurd h
 
-further-member-declarators : (names : Names) (ns : Nodes) → AreMemberDeclarators names (syntaxes_of ns) → IsCalm (more_line ns)
-further-member-declarators names no_more h = calm-nothing
-further-member-declarators names (more n ns) h = calm-sign marks.Comma refl ⨟ calm-member-declarator names n h.0 ⨟ further-member-declarators names ns h.1
-
-calm-member-declarators : (names : Names) (ns : Nodes) → AreMemberDeclarators names (syntaxes_of ns) → IsCalm (list_line ns)
-calm-member-declarators names no_more h = calm-nothing
-calm-member-declarators names (more n ns) h = calm-member-declarator names n h.0 ⨟ further-member-declarators names ns h.1
+all-member-declarators : (names : Names) (ns : Nodes) → AreMemberDeclarators names (syntaxes_of ns) → AllCalm ns
+all-member-declarators names no_more h = tt
+all-member-declarators names (more n ns) h = (calm-member-declarator names n h.0, all-member-declarators names ns h.1)
 
 mutual
   calm-full : (place : specifiers.Place) (names : Names) (n : Node) → AreFullSpecifiers place names (syntax_of n) → IsCalm (line_of n)
   calm-full place names (node i p (Specifier k)) h = calm-node i p (Specifier k) (calm-specs place names k h)
-  calm-full place names (node i p (Primary k)) h = absurd h
-  calm-full place names (node i p (Operation k)) h = absurd h
-  calm-full place names (node i p (Initializer k)) h = absurd h
-  calm-full place names (node i p (Declarator k)) h = absurd h
-  calm-full place names (node i p (Part k)) h = absurd h
-  calm-full place names (node i p (Outer k)) h = absurd h
-  calm-full place names (node i p (Statement k)) h = absurd h
-  calm-full place names (node i p (Iteration k)) h = absurd h
-  calm-full place names (node i p (Jump k)) h = absurd h
+  calm-full place names _ h = absurd h
 
   calm-specs : (place : specifiers.Place) (names : Names) (k : SpecifierShape) → AreSpecs place names (specifier_syntax k) → IsCalm (specifier_line k)
   calm-specs place names (Specs items) h = calm-full-items names false items h.0
-  calm-specs place names (TypeName specs declarator) h = absurd h
-  calm-specs place names (StructTag which tag) h = absurd h
-  calm-specs place names (StructBody which tag members) h = absurd h
-  calm-specs place names (EnumTag tag) h = absurd h
-  calm-specs place names (EnumBody tag enumerators comma) h = absurd h
-  calm-specs place names (StructDeclaration specs declarators) h = absurd h
-  calm-specs place names (BitField declarator width) h = absurd h
-  calm-specs place names (Param specs declarator) h = absurd h
+  calm-specs place names _ h = absurd h
 
   calm-full-items : (names : Names) (typed : Bool) (ns : Nodes) → AreFullItems names typed (syntaxes_of ns) → IsCalm (row_line ns)
   calm-full-items names typed no_more h = calm-nothing
@@ -530,31 +287,14 @@ mutual
   calm-full-item : (names : Names) (typed : Bool) (n : Node) → IsFullItem names typed (syntax_of n) → IsCalm (line_of n)
   calm-full-item names typed (node i p (Part (SpecWord word))) h = calm-node i p (Part (SpecWord word)) (calm-kept word (specifier-plain names typed (symbol_of word) h))
   calm-full-item names typed (node i p (Specifier k)) h = calm-node i p (Specifier k) (calm-tagged names k h)
-  calm-full-item names typed (node i p (Part (ArrayBound words bound))) h = absurd h
-  calm-full-item names typed (node i p (Part VoidParams)) h = absurd h
-  calm-full-item names typed (node i p (Part (Params params variadic))) h = absurd h
-  calm-full-item names typed (node i p (Part (Enumerator name value))) h = absurd h
-  calm-full-item names typed (node i p (Part (MemberDesignator member))) h = absurd h
-  calm-full-item names typed (node i p (Part (IndexDesignator index))) h = absurd h
-  calm-full-item names typed (node i p (Primary k)) h = absurd h
-  calm-full-item names typed (node i p (Operation k)) h = absurd h
-  calm-full-item names typed (node i p (Initializer k)) h = absurd h
-  calm-full-item names typed (node i p (Declarator k)) h = absurd h
-  calm-full-item names typed (node i p (Outer k)) h = absurd h
-  calm-full-item names typed (node i p (Statement k)) h = absurd h
-  calm-full-item names typed (node i p (Iteration k)) h = absurd h
-  calm-full-item names typed (node i p (Jump k)) h = absurd h
+  calm-full-item names typed _ h = absurd h
 
   calm-tagged : (names : Names) (k : SpecifierShape) → IsTagged names (specifier_syntax k) → IsCalm (specifier_line k)
   calm-tagged names (StructTag which tag) h = calm-keyword (word_of which) ⨟ calm-word tag h
   calm-tagged names (EnumTag tag) h = calm-keyword words.Enum ⨟ calm-word tag h
   calm-tagged names (StructBody which tag members) h = close-brace (open-calm (calm-open (calm-keyword (word_of which) ⨟ calm-tag tag h.0) open-brace) (calm-members names members h.1))
-  calm-tagged names (EnumBody tag enumerators comma) h = close-brace (open-calm (open-calm (calm-open (calm-keyword words.Enum ⨟ calm-tag tag h.0) open-brace) (calm-enumerators names enumerators h.1)) (calm-comma comma))
-  calm-tagged names (TypeName specs declarator) h = absurd h
-  calm-tagged names (Specs items) h = absurd h
-  calm-tagged names (StructDeclaration specs declarators) h = absurd h
-  calm-tagged names (BitField declarator width) h = absurd h
-  calm-tagged names (Param specs declarator) h = absurd h
+  calm-tagged names (EnumBody tag enumerators comma) h = close-brace (open-calm (open-calm (calm-open (calm-keyword words.Enum ⨟ calm-tag tag h.0) open-brace) (calm-list enumerators (all-enumerators names enumerators h.1))) (calm-comma comma))
+  calm-tagged names _ h = absurd h
 
   calm-members : (names : Names) (ns : Nodes) → AreMembers names (syntaxes_of ns) → IsCalm (row_line ns)
   calm-members names no_more h = calm-nothing
@@ -563,27 +303,11 @@ mutual
   calm-member : (names : Names) (n : Node) → IsMember names (syntax_of n) → IsCalm (line_of n)
   calm-member names (node i p (Outer Empty)) h = calm-node i p (Outer Empty) (calm-sign marks.Semicolon refl)
   calm-member names (node i p (Specifier k)) h = calm-node i p (Specifier k) (calm-member-declaration names k h)
-  calm-member names (node i p (Outer (Declaration specs declarators))) h = absurd h
-  calm-member names (node i p (Outer (Function specs declarator body))) h = absurd h
-  calm-member names (node i p (Primary k)) h = absurd h
-  calm-member names (node i p (Operation k)) h = absurd h
-  calm-member names (node i p (Initializer k)) h = absurd h
-  calm-member names (node i p (Declarator k)) h = absurd h
-  calm-member names (node i p (Part k)) h = absurd h
-  calm-member names (node i p (Statement k)) h = absurd h
-  calm-member names (node i p (Iteration k)) h = absurd h
-  calm-member names (node i p (Jump k)) h = absurd h
+  calm-member names _ h = absurd h
 
   calm-member-declaration : (names : Names) (k : SpecifierShape) → IsMemberDeclaration names (specifier_syntax k) → IsCalm (specifier_line k)
-  calm-member-declaration names (StructDeclaration specs declarators) h = calm-full specifiers.InTypeName names specs h.0 ⨟ calm-member-declarators (declared (syntax_of specs) names) declarators h.1 ⨟ calm-sign marks.Semicolon refl
-  calm-member-declaration names (TypeName specs declarator) h = absurd h
-  calm-member-declaration names (Specs items) h = absurd h
-  calm-member-declaration names (StructTag which tag) h = absurd h
-  calm-member-declaration names (StructBody which tag members) h = absurd h
-  calm-member-declaration names (EnumTag tag) h = absurd h
-  calm-member-declaration names (EnumBody tag enumerators comma) h = absurd h
-  calm-member-declaration names (BitField declarator width) h = absurd h
-  calm-member-declaration names (Param specs declarator) h = absurd h
+  calm-member-declaration names (StructDeclaration specs declarators) h = calm-full specifiers.InTypeName names specs h.0 ⨟ calm-list declarators (all-member-declarators (declared (syntax_of specs) names) declarators h.1) ⨟ calm-sign marks.Semicolon refl
+  calm-member-declaration names _ h = absurd h
 
 -- INITIAL VALUES
 mutual
@@ -600,17 +324,13 @@ mutual
   calm-initial names (node i p (Jump k)) h = calm-expr names (node i p (Jump k)) h.1
 
   calm-braced : (names : Names) (k : InitializerShape) → IsBraces names (initializer_syntax k) → IsCalm (initializer_line k)
-  calm-braced names (Braces elements comma) h = close-brace (open-calm (open-calm open-brace (calm-initials names elements h.0)) (calm-comma comma))
+  calm-braced names (Braces elements comma) h = close-brace (open-calm (open-calm open-brace (calm-list elements (all-initials names elements h.0))) (calm-comma comma))
   calm-braced names (Init name declarator initial) h = absurd h
   calm-braced names (Designated designators initial) h = absurd h
 
-  calm-initials : (names : Names) (ns : Nodes) → AreInitials names (syntaxes_of ns) → IsCalm (list_line ns)
-  calm-initials names no_more h = calm-nothing
-  calm-initials names (more n ns) h = calm-initial names n h.0 ⨟ further-initials names ns h.1
-
-  further-initials : (names : Names) (ns : Nodes) → AreInitials names (syntaxes_of ns) → IsCalm (more_line ns)
-  further-initials names no_more h = calm-nothing
-  further-initials names (more n ns) h = calm-sign marks.Comma refl ⨟ calm-initial names n h.0 ⨟ further-initials names ns h.1
+  all-initials : (names : Names) (ns : Nodes) → AreInitials names (syntaxes_of ns) → AllCalm ns
+  all-initials names no_more h = tt
+  all-initials names (more n ns) h = (calm-initial names n h.0, all-initials names ns h.1)
 
 -- DECLARATIONS
 calm-init-declarator : (type : Bool) (names : Names) (n : Node) → IsInitDeclarator type names (syntax_of n) → IsCalm (line_of n)
@@ -618,39 +338,16 @@ calm-init-declarator type names (node i p (Declarator k)) h = calm-declarator Wi
 calm-init-declarator type names (node i p (Initializer (Init name declarator initial))) h =
     calm-node i p (Initializer (Init name declarator initial))
     (calm-declarator WithName names declarator h.1 ⨟ calm-names (declared_token declarator) name ⨟ calm-sign marks.Assign refl ⨟ calm-initial _ initial h.2)
-calm-init-declarator type names (node i p (Initializer (Braces elements comma))) h = absurd h
-calm-init-declarator type names (node i p (Initializer (Designated designators initial))) h = absurd h
-calm-init-declarator type names (node i p (Primary k)) h = absurd h
-calm-init-declarator type names (node i p (Operation k)) h = absurd h
-calm-init-declarator type names (node i p (Specifier k)) h = absurd h
-calm-init-declarator type names (node i p (Part k)) h = absurd h
-calm-init-declarator type names (node i p (Outer k)) h = absurd h
-calm-init-declarator type names (node i p (Statement k)) h = absurd h
-calm-init-declarator type names (node i p (Iteration k)) h = absurd h
-calm-init-declarator type names (node i p (Jump k)) h = absurd h
+calm-init-declarator type names _ h = absurd h
 
-further-init-declarators : (type : Bool) (names : Names) (ns : Nodes) → AreInitDeclarators type names (syntaxes_of ns) → IsCalm (more_line ns)
-further-init-declarators type names no_more h = calm-nothing
-further-init-declarators type names (more n ns) h = calm-sign marks.Comma refl ⨟ calm-init-declarator type names n h.0 ⨟ further-init-declarators type _ ns h.1
-
-calm-init-declarators : (type : Bool) (names : Names) (ns : Nodes) → AreInitDeclarators type names (syntaxes_of ns) → IsCalm (list_line ns)
-calm-init-declarators type names no_more h = calm-nothing
-calm-init-declarators type names (more n ns) h = calm-init-declarator type names n h.0 ⨟ further-init-declarators type _ ns h.1
+all-init-declarators : (type : Bool) (names : Names) (ns : Nodes) → AreInitDeclarators type names (syntaxes_of ns) → AllCalm ns
+all-init-declarators type names no_more h = tt
+all-init-declarators type names (more n ns) h = (calm-init-declarator type names n h.0, all-init-declarators type _ ns h.1)
 
 calm-declaration : (names : Names) (n : Node) → IsDeclaration names (syntax_of n) → IsCalm (line_of n)
 calm-declaration names (node i p (Outer (Declaration specs declarators))) h =
-    calm-node i p (Outer (Declaration specs declarators)) (calm-full specifiers.InDeclaration names specs h.0 ⨟ calm-init-declarators _ _ declarators h.1 ⨟ calm-sign marks.Semicolon refl)
-calm-declaration names (node i p (Outer (Function specs declarator body))) h = absurd h
-calm-declaration names (node i p (Outer Empty)) h = absurd h
-calm-declaration names (node i p (Primary k)) h = absurd h
-calm-declaration names (node i p (Operation k)) h = absurd h
-calm-declaration names (node i p (Initializer k)) h = absurd h
-calm-declaration names (node i p (Specifier k)) h = absurd h
-calm-declaration names (node i p (Declarator k)) h = absurd h
-calm-declaration names (node i p (Part k)) h = absurd h
-calm-declaration names (node i p (Statement k)) h = absurd h
-calm-declaration names (node i p (Iteration k)) h = absurd h
-calm-declaration names (node i p (Jump k)) h = absurd h
+    calm-node i p (Outer (Declaration specs declarators)) (calm-full specifiers.InDeclaration names specs h.0 ⨟ calm-list declarators (all-init-declarators _ _ declarators h.1) ⨟ calm-sign marks.Semicolon refl)
+calm-declaration names _ h = absurd h
 
 -- STATEMENTS
 mutual
@@ -658,13 +355,7 @@ mutual
   calm-statement names (node i p (Statement k)) h = calm-node i p (Statement k) (calm-plain names k h)
   calm-statement names (node i p (Iteration k)) h = calm-node i p (Iteration k) (calm-iteration names k h)
   calm-statement names (node i p (Jump k)) h = calm-node i p (Jump k) (calm-jump names k h)
-  calm-statement names (node i p (Primary k)) h = absurd h
-  calm-statement names (node i p (Operation k)) h = absurd h
-  calm-statement names (node i p (Initializer k)) h = absurd h
-  calm-statement names (node i p (Specifier k)) h = absurd h
-  calm-statement names (node i p (Declarator k)) h = absurd h
-  calm-statement names (node i p (Part k)) h = absurd h
-  calm-statement names (node i p (Outer k)) h = absurd h
+  calm-statement names _ h = absurd h
 
   calm-plain : (names : Names) (k : StatementShape) → IsPlain names (statement_syntax k) → IsCalm (statement_line k)
   calm-plain names (Block items) h = close-brace (open-calm open-brace (calm-block names items h))

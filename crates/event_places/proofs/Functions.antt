@@ -34,7 +34,7 @@ module _ (P : Place → Type 0) where
     named-at (node i p (Iteration k)) name h e = cc
     named-at (node i p (Jump k)) name h e = cc
 
-    named-by : (k : DeclaratorShape) (name : Token) → Places P (declarator_line k) → name_of_shape k ≡ Some name → P name.place
+    pub named-by : (k : DeclaratorShape) (name : Token) → Places P (declarator_line k) → name_of_shape k ≡ Some name → P name.place
     named-by (Named pointers token suffixes) name h e = let s : token ≡ name = cc in subst (λ (t : Token). P t.place) s h.0.1
     named-by (Nested pointers inner suffixes) name h e = named-at inner name h.0.0.1 e
     named-by (Unnamed pointers suffixes) name h e = cc

@@ -3,10 +3,13 @@ pub mod Items
 pub mod Trees
 pub mod Tokens
 pub mod Functions
+pub mod Variables
 pub mod Walks
 pub mod Reports
+pub mod Errors
 pub mod Braces
 pub mod Calm
 pub mod Closing
 pub mod Spelled
 pub mod Spelling
+pub mod Files

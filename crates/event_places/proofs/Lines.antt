@@ -1,15 +1,21 @@
 -- The places that stand in a line of the grammar, where the line stands over tokens.
-use Rattle.std.proofs.Common.{◌≡◌, ℕ, List, [], ◌∷◌, ◌++◌, Option, None, Some, inl, inr, refl, sym, subst}
+use Rattle.std.proofs.Common.{◌≡◌, ℕ, List, [], ◌∷◌, ◌++◌, Option, None, Some, inl, inr, refl, sym, ap, subst}
 use Rattle.std.specs.Prelude.{⊤}
-use Rattle.c_grammar.specs.CPlaces.Lines.{Line, nothing, kept, all_kept, fixed, at, numbered, names, ◌⨾◌, line_of, declarator_line, declared_token, declarator_token}
+use Rattle.c_grammar.specs.CPlaces.Lines.{Line, nothing, kept, all_kept, fixed, at, numbered, names, ◌⨾◌, unary_line, line_of, declarator_line, declared_token, declarator_token}
 use Rattle.c_grammar.specs.CPlaces.Stands.{Stands, OfNothing, OfKept, OfAll, OfFixed, OfPlace, OfNumber, OfName, OfBoth}
 use Rattle.c_tree.specs.PathSubjects.Subjects.{first_of}
+use Rattle.c_tree.specs.declared.operator.UnaryOp.{UnaryOp}
+use Rattle.c_tree.specs.declared.operator.UnaryOp.TheVariants as unary
 use Rattle.c_tree.specs.declared.place.Place.{Place}
 use Rattle.c_tree.specs.declared.token.Token.{Token}
-use Rattle.c_tree.specs.Node.{Node, node, Primary, Operation, Initializer, Specifier, Declarator, Part, Outer, Statement, Iteration, Jump, DeclaratorShape, Named, Nested, Unnamed}
+use Rattle.c_tree.specs.Node.{Node, node, Primary, Operation, Initializer, Specifier, Declarator, Part, Outer, Statement, Iteration, Jump, Ident, DeclaratorShape, Named, Nested, Unnamed}
 use Rattle.flow_graph.specs.CPaths.Membership.{Among}
 
--- each place of a node, and that of each token that is kept by itself, has the property; a declared name stands at its token
+-- the node is the identifier of a declared token
+abbrev pub IsIdentifierOf : Token → Node → Type 0
+IsIdentifierOf t n = (number : ℕ) × (n ≡ node number t.place (Primary (Ident t)))
+
+-- each place of a node, and that of each token that is kept by itself, has the property; a declared name is the identifier of its token
 abbrev pub Places : (Place → Type 0) → Line → Type 0
 Places P nothing = ⊤
 Places P (kept t) = P t.place
@@ -18,7 +24,7 @@ Places P (fixed s) = ⊤
 Places P (at p) = P p
 Places P (numbered id) = ⊤
 Places P (names None n) = ⊥
-Places P (names (Some t) n) = first_of n ≡ t.place
+Places P (names (Some t) n) = IsIdentifierOf t n
 Places P (l ⨾ m) = Places P l × Places P m
 
 -- what is left behind a line are some of its tokens
@@ -44,7 +50,7 @@ places P (all_kept us) low high ts rest OfAll h = tt
 places P (fixed s) low high ts rest (OfFixed e) h = tt
 places P (at p) low high ts rest (OfPlace {t = t}) h = h t (inl refl)
 places P (numbered id) low high ts rest OfNumber h = tt
-places P (names u n) low high ts rest OfName h = refl
+places P (names u n) low high ts rest OfName h = (low, refl)
 places P (l ⨾ m) low high ts rest (OfBoth {middle = middle} {us = us} a b) h =
     (places P l low middle ts us a h, places P m middle high us rest b (λ t i. h t (behind l low middle ts us a t i)))
 
@@ -59,6 +65,20 @@ places-map P Q g (numbered id) h = tt
 places-map P Q g (names None n) h = h
 places-map P Q g (names (Some t) n) h = h
 places-map P Q g (l ⨾ m) h = (places-map P Q g l h.0, places-map P Q g m h.1)
+
+-- the operand of an operator before or behind it
+pub operand-of : (P : Place → Type 0) (op : UnaryOp) (l : Line) → Places P (unary_line op l) → Places P l
+operand-of P unary.PostInc l h = h.0
+operand-of P unary.PostDec l h = h.0
+operand-of P unary.PreInc l h = h.1
+operand-of P unary.PreDec l h = h.1
+operand-of P unary.AddressOf l h = h.1
+operand-of P unary.Deref l h = h.1
+operand-of P unary.Plus l h = h.1
+operand-of P unary.Minus l h = h.1
+operand-of P unary.BitNot l h = h.1
+operand-of P unary.Not l h = h.1
+operand-of P unary.Sizeof l h = h.1
 
 -- the token that a declarator declares
 mutual
@@ -82,4 +102,4 @@ mutual
 -- and the name that stands for it
 pub name-at : (P : Place → Type 0) (o : Option Token) (name : Node) → ((t : Token) → o ≡ Some t → P t.place) → Places P (names o name) → P (first_of name)
 name-at P None name g h = absurd h
-name-at P (Some t) name g h = subst P (sym h) (g t refl)
+name-at P (Some t) name g h = subst P (sym (ap first_of h.1)) (g t refl)

@@ -1,6 +1,6 @@
 -- Each event of a path stands at a token, so each rule with an action that is taken there has its report.
 use Rattle.std.proofs.Common.{◌≡◌, ◌⊎◌, ℕ, suc, leb, ◌-◌, List, [], ◌∷◌, Bool, true, false, cond, not, nat_eq, ◌&&◌, ◌||◌, Option, None, Some, inl, inr, refl, sym, ap, subst, ◌∙◌, arith}
-use Rattle.std.specs.Prelude.{⊤}
+use Rattle.std.proofs.lemmas.Bool.{true≢false}
 use Rattle.std.specs.Option.{option_map}
 use Rattle.c_objects.specs.Objects.{Object}
 use Rattle.c_tree.specs.Node.{Node, node}
@@ -8,16 +8,18 @@ use Rattle.c_tree.specs.PathSubjects.Subjects.{first_of}
 use Rattle.c_tree.specs.declared.place.Place.{Place}
 use Rattle.c_tree.specs.declared.token.Token.{Token}
 use Rattle.c_grammar.specs.CPlaces.Lines.{line_of}
+use Rattle.type_rules.specs.Definition.{Table}
 use Rattle.type_rules.specs.Functions.{Defined}
 use Rattle.type_rules.specs.Options.{if_there, or_else, ◌>?◌}
 use Rattle.flow_graph.specs.CPaths.EventPlaces.{event_place}
-use Rattle.flow_graph.specs.CPaths.Events.{Event, Evaluated, Declared, Branched, Exited, Item}
+use Rattle.flow_graph.specs.CPaths.Events.{Event, Evaluated, Declared, Branched, Exited, Item, Variable}
 use Rattle.flow_graph.specs.CPaths.Facts.{Facts}
 use Rattle.flow_graph.specs.CPaths.Membership.{Among}
 use Rattle.flow_graph.specs.CPaths.Traces.{Definition}
 use Rattle.flow_graph.specs.CPaths.Occurrences.{InFlow}
 use Rattle.flow_graph.specs.CPaths.TreeFlow.{flow_of}
 use Rattle.call_graph.specs.FunctionGraphs.Closing.{opens, closes, closing, closing_brace}
+use Rattle.call_graph.specs.FunctionGraphs.Variables.{variable_of as declared_variable}
 use Rattle.hole_matching.specs.Holes.{Setting}
 use Rattle.hole_matching.specs.Matching.{Binding}
 use Rattle.metal_tree.specs.MetalMachines.Machine.{stop, Rule, Machine, Piece}
@@ -29,16 +31,17 @@ use Rattle.path_model.specs.CheckerModel.Choices.{State, Taken, first_some, appl
 use Rattle.path_model.specs.CheckerModel.Happenings.{Function, Happening}
 use Rattle.path_model.specs.CheckerModel.Reports.{Checker, token_at, report_at, report_of}
 use Rattle.path_model.specs.CheckerPrograms.Paths.{program}
-use Rattle.path_model.specs.CheckerPrograms.Texts.{functions_in, definition_of, empty, with_close, flow_facts, tokens_of}
+use Rattle.path_model.specs.CheckerPrograms.Texts.{functions_in, definition_of, empty, with_close, flow_facts, table_of, tokens_of}
 use Rattle.typed_unit.specs.Texts.{Text}
 use Rattle.typed_unit.specs.TokenSearch.Numbers.{from}
-use Rattle.event_places.specs.Standing.{StandInFiles}
+use Rattle.event_places.specs.Standing.{StandInFiles, HaveTheirTables}
 use Rattle.event_places.specs.Theorems.{IsReportedThere, is_declaration}
 use Rattle.event_places.proofs.Functions.{function-stands}
 use Rattle.event_places.proofs.Items.{of-flow}
 use Rattle.event_places.proofs.Lines.{Places}
 use Rattle.event_places.proofs.Tokens.{HaveTokenAt, further, found}
 use Rattle.event_places.proofs.Trees.{Stood, flow-all}
+use Rattle.event_places.proofs.Variables.{text-variables}
 use Rattle.event_places.proofs.Walks.{IsDefined, IsInText, path-event, defined-frames}
 
 -- the brace that closes stands among the tokens
@@ -73,15 +76,15 @@ close-among ts first h = by (closing 0 (from first.token ts)) refl
 first-place : (P : Place → Type 0) (n : Node) → Places P (line_of n) → P (first_of n)
 first-place P (node i p s) h = h.0.0
 
--- the place of an event whose mark is this one
-abbrev StoodAt : List Token → Event → Type 0
-StoodAt tokens e = Stood (HaveTokenAt tokens) (λ x. ⊤) (EventMark e)
+-- an item stands at a token; a declared variable does where this event is a declaration
+abbrev StoodAt : List Token → Event → Item → Type 0
+StoodAt tokens e = Stood (HaveTokenAt tokens) (λ x. is_declaration e ≡ true → HaveTokenAt tokens x.place)
 
-stood-at : (tokens : List Token) (e : Event) → is_declaration e ≡ false → StoodAt tokens e → HaveTokenAt tokens (event_place e)
-stood-at tokens (Evaluated s) d h = h
-stood-at tokens (Declared x) d h = cc
-stood-at tokens (Branched n t) d h = h
-stood-at tokens (Exited function place) d h = h
+stood-at : (tokens : List Token) (e : Event) → StoodAt tokens e (EventMark e) → HaveTokenAt tokens (event_place e)
+stood-at tokens (Evaluated s) h = h
+stood-at tokens (Declared x) h = h refl
+stood-at tokens (Branched n t) h = h
+stood-at tokens (Exited function place) h = h
 
 same-event : (a b : Event) → ◌≡◌ {A = Item} (EventMark a) (EventMark b) → a ≡ b
 same-event a b e = cc
@@ -126,18 +129,18 @@ no-declaration (Declared x) h = absurd (h refl)
 no-declaration (Branched n t) h = refl
 no-declaration (Exited function place) h = refl
 
-taken-elsewhere : (m : Machine) (depth : ℕ) (h : Happening) (f : Function) (k : Bool) (state : ℕ) (o : Object) (x : Option State) (t : Taken) → taken m depth h f k state o x ≡ Some t → is_declaration h.event ≡ false
+pub taken-elsewhere : (m : Machine) (depth : ℕ) (h : Happening) (f : Function) (k : Bool) (state : ℕ) (o : Object) (x : Option State) (t : Taken) → taken m depth h f k state o x ≡ Some t → is_declaration h.event ≡ false
 taken-elsewhere m depth h f k state o x t e =
     no-declaration h.event
     (λ d. not-some (nat_eq state stop || not (is_asked h.event k o)) (first_some (object_rule (scene m depth h f) h.event state o x) m.rules) t (none-object (scene m depth h f) h.event state o x m.rules d) e)
 
-global-elsewhere : (m : Machine) (depth : ℕ) (h : Happening) (f : Function) (k : Bool) (state : ℕ) (t : Taken) → taken_global m depth h f k state ≡ Some t → is_declaration h.event ≡ false
+pub global-elsewhere : (m : Machine) (depth : ℕ) (h : Happening) (f : Function) (k : Bool) (state : ℕ) (t : Taken) → taken_global m depth h f k state ≡ Some t → is_declaration h.event ≡ false
 global-elsewhere m depth h f k state t e =
     no-declaration h.event
     (λ d. not-some (nat_eq state stop || not (is_global_asked h.event k)) (first_some (global_rule (scene m depth h f) h.event state) m.rules) t (none-global (scene m depth h f) h.event state m.rules d) e)
 
 -- a rule with an action has a report at a token
-has-report : (c : Checker) (h : Happening) (f : Function) (o : Option Object) (t : Taken) (pieces : List Piece) (token : Token) → t.rule.action ≡ Some pieces → token_at (event_place h.event) h.tokens ≡ Some token
+pub has-report : (c : Checker) (h : Happening) (f : Function) (o : Option Object) (t : Taken) (pieces : List Piece) (token : Token) → t.rule.action ≡ Some pieces → token_at (event_place h.event) h.tokens ≡ Some token
     → report_of c h f o t ≡ Some (report_at c h f o t token pieces)
 has-report c h f o t pieces token a k =
     ap (λ (x : Option (List Piece)). x >? λ ps. option_map (λ u. report_at c h f o t u ps) (token_at (event_place h.event) h.tokens)) a
@@ -148,33 +151,44 @@ module _ (c : Checker) (ts : List Text) (stand : StandInFiles ts) where
   K = program c ts
 
   -- an event in the text of a definition, over the tokens of its file
-  in-definition : (F : Facts) (d : Defined) (tokens : List Token) (e : Event) → Places (HaveTokenAt tokens) (line_of d.body) → is_declaration e ≡ false
+  in-definition : (F : Facts) (d : Defined) (tokens : List Token) (e : Event) → Places (HaveTokenAt tokens) (line_of d.body)
+      → (is_declaration e ≡ true → (n : Node) (x : Variable) → F.variable_of n ≡ Some x → HaveTokenAt tokens x.place)
       → InFlow (EventMark e) (flow_of F d.place d.body) ⊎ (◌≡◌ {A = Item} (EventMark e) (EventMark (Exited d.place (closing_brace tokens (first_of d.body))))) → HaveTokenAt tokens (event_place e)
-  in-definition F d tokens e places n (inl i) =
-      stood-at tokens e n (of-flow (Stood (HaveTokenAt tokens) (λ x. ⊤)) (EventMark e) (flow_of F d.place d.body) (flow-all (HaveTokenAt tokens) (λ x. ⊤) F (λ g x k. tt) d.place d.body places) i)
-  in-definition F d tokens e places n (inr i) =
+  in-definition F d tokens e places variables (inl i) =
+      stood-at tokens e (of-flow (StoodAt tokens e) (EventMark e) (flow_of F d.place d.body)
+      (flow-all (HaveTokenAt tokens) (λ x. is_declaration e ≡ true → HaveTokenAt tokens x.place) F (λ n x k declares. variables declares n x k) d.place d.body places) i)
+  in-definition F d tokens e places variables (inr i) =
       subst (λ (x : Event). HaveTokenAt tokens (event_place x)) (sym (same-event e (Exited d.place (closing_brace tokens (first_of d.body))) i))
       (close-among tokens (first_of d.body) (first-place (HaveTokenAt tokens) d.body places))
 
-  of-function : (f : Function) → IsDefined (functions_in ts) f → (h : Happening) → IsInText c ts f h → is_declaration h.event ≡ false → HaveTokenAt h.tokens (event_place h.event)
-  of-function f w h x n =
+  of-function : (f : Function) → IsDefined (functions_in ts) f → (h : Happening) → IsInText c ts f h → (is_declaration h.event ≡ true → HaveTheirTables ts) → HaveTokenAt h.tokens (event_place h.event)
+  of-function f w h x tables =
       let k = function-stands ts stand w.number w.defined w.numbered in
       let own : f.place.file ≡ k.position = let a = k.is_of.place_is in let b : w.defined.place.file ≡ f.place.file = ap (λ (g : Function). g.place.file) w.same in omega (arith, a, b) in
       let file : w.defined.file ≡ k.position = let a = k.is_of.file_is in omega (arith, a) in
       let at : (i : ℕ) → i ≡ k.position → tokens_of ts i ≡ k.text.tokens = λ i e. ap (tokens_of ts) e ∙ ap (λ (o : Option Text). if_there o [] (λ t. t.tokens)) k.here in
+      let table : table_of ts f.place.file ≡ k.text.table = ap (table_of ts) own ∙ ap (λ (o : Option Text). if_there o [] (λ t. t.table)) k.here in
+      let variables : is_declaration x.event ≡ true → (n : Node) (y : Variable) → declared_variable (table_of ts f.place.file) n ≡ Some y → HaveTokenAt k.text.tokens y.place =
+      λ declares n y e. text-variables k.position k.text (stand k.position k.text k.here)
+      (tables (ap (λ (z : Happening). is_declaration z.event) x.is ∙ declares) k.position k.text k.here) n y
+      (ap (λ (u : Table). declared_variable u n) (sym table) ∙ e) in
       let is : definition_of ts f ≡ record { place = w.defined.place; body = w.defined.body; close = closing_brace k.text.tokens (first_of w.defined.body) } =
       ap (λ (o : Option Defined). if_there o (empty f.place) (with_close ts)) w.first ∙ ap (λ (us : List Token). record { place = w.defined.place; body = w.defined.body; close = closing_brace us (first_of w.defined.body) }) (at w.defined.file file) in
       let there : HaveTokenAt k.text.tokens (event_place x.event) =
-      in-definition (flow_facts ts f) w.defined k.text.tokens x.event k.is_of.body (ap (λ (y : Happening). is_declaration y.event) (sym x.is) ∙ n)
+      in-definition (flow_facts ts f) w.defined k.text.tokens x.event k.is_of.body variables
       (subst (λ (D : Definition). InFlow (EventMark x.event) (flow_of (flow_facts ts f) D.place D.body) ⊎ (◌≡◌ {A = Item} (EventMark x.event) (EventMark (Exited D.place D.close)))) is x.stands) in
       subst (λ (y : Happening). HaveTokenAt y.tokens (event_place y.event)) (sym x.is) (subst (λ (us : List Token). HaveTokenAt us (event_place x.event)) (sym (at f.place.file own)) there)
 
   module _ {f : Function} {k : Bool} {p q : K.Place} {b : Callers (model c) (program c ts)} (P : Path (model c) (program c ts) f k p b) (h : Happening) (goes : K.Goes f p h q) where
     -- THE EVENT STANDS AT A TOKEN
-    pub event-token : is_declaration h.event ≡ false → (token : Token) × (token_at (event_place h.event) h.tokens ≡ Some token)
-    event-token n =
-        let t = of-function f (defined-frames c ts P).0 h (path-event c ts P h goes) n in
+    pub event-token : (is_declaration h.event ≡ true → HaveTheirTables ts) → (token : Token) × (token_at (event_place h.event) h.tokens ≡ Some token)
+    event-token tables =
+        let t = of-function f (defined-frames c ts P).0 h (path-event c ts P h goes) tables in
         found (event_place h.event) h.tokens t.token t.among t.place
+
+    -- where the event is no declaration, nothing is asked of tables
+    pub elsewhere : is_declaration h.event ≡ false → (token : Token) × (token_at (event_place h.event) h.tokens ≡ Some token)
+    elsewhere n = event-token (λ y. absurd (true≢false (sym y ∙ n)))
 
     -- A RULE OF AN OBJECT that is taken there is reported, if it has an action
     pub object-reported : (o : Object) (t : Taken) (pieces : List Piece)
@@ -182,7 +196,7 @@ module _ (c : Checker) (ts : List Text) (stand : StandInFiles ts) where
         → IsReportedThere c ts f h (Some o) t pieces
     object-reported o t pieces e a =
         let now = after (model c) (program c ts) P in
-        let w = event-token (taken-elsewhere c.machine c.depth h f k now.global o (source_at c.depth h o >? now.here) t e) in
+        let w = elsewhere (taken-elsewhere c.machine c.depth h f k now.global o (source_at c.depth h o >? now.here) t e) in
         record { token = w.0; there = w.1; reported = ReportOf P h goes o (ap (λ (x : Option Taken). x >? report_of c h f (Some o)) e ∙ has-report c h f (Some o) t pieces w.0 a w.1) }
 
     -- and so is that of the global state
@@ -191,5 +205,5 @@ module _ (c : Checker) (ts : List Text) (stand : StandInFiles ts) where
         → IsReportedThere c ts f h None t pieces
     global-reported t pieces e a =
         let now = after (model c) (program c ts) P in
-        let w = event-token (global-elsewhere c.machine c.depth h f k now.global t e) in
+        let w = elsewhere (global-elsewhere c.machine c.depth h f k now.global t e) in
         record { token = w.0; there = w.1; reported = ReportOfGlobal P h goes (ap (λ (x : Option Taken). x >? report_of c h f None) e ∙ has-report c h f None t pieces w.0 a w.1) }

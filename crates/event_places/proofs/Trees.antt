@@ -1,7 +1,7 @@
 -- Each item in the text of a tree stands at a place of the tree's line.
 use Rattle.std.proofs.Common.{◌≡◌, ℕ, Bool, true, false, Option, None, Some, refl}
 use Rattle.std.specs.Prelude.{⊤}
-use Rattle.c_grammar.specs.CPlaces.Lines.{Line, line_of, primary_line, operation_line, initializer_line, outer_line, statement_line, iteration_line, jump_line, unary_line, maybe_line, else_line, row_line, list_line, more_line, declared_token}
+use Rattle.c_grammar.specs.CPlaces.Lines.{line_of, primary_line, operation_line, initializer_line, outer_line, statement_line, iteration_line, jump_line, maybe_line, else_line, row_line, list_line, more_line, declared_token}
 use Rattle.c_tree.specs.PathSubjects.Subjects.{first_of, tree_place, subject_place}
 use Rattle.c_tree.specs.declared.operator.BinaryOp.{BinaryOp}
 use Rattle.c_tree.specs.declared.operator.BinaryOp.TheVariants as binary
@@ -16,7 +16,7 @@ use Rattle.flow_graph.specs.CPaths.Forms.{Form, Row, done}
 use Rattle.flow_graph.specs.CPaths.TreeForms.{form_of, primary_form, operation_form, initializer_form, operands, unary_form, binary_form, is_zero, call_itself}
 use Rattle.flow_graph.specs.CPaths.TreeFlow.{flow_of, statement_flow, iteration_flow, jump_flow, maybe_flow, flows_of, maybe_row, maybe_form, declared_then, initialized_then, declarator_then, declarators_row, outer_row, declaration_row}
 use Rattle.event_places.proofs.Items.{EachInForm, EachInRow, EachInMaybe, EachInFlow, EachInFlows}
-use Rattle.event_places.proofs.Lines.{Places, declared-at, name-at}
+use Rattle.event_places.proofs.Lines.{Places, operand-of, declared-at, name-at}
 
 -- the place of an event has the property, and so has the variable of a declaration; the mark of a call has no place of its own
 abbrev pub Stood : (Place → Type 0) → (Variable → Type 0) → Item → Type 0
@@ -32,19 +32,6 @@ module _ (P : Place → Type 0) (V : Variable → Type 0) (F : Facts) (variables
 
   abbrev InRow : Row → Type 0
   InRow r = EachInRow (Stood P V) r
-
-  operand-of : (op : UnaryOp) (l : Line) → Places P (unary_line op l) → Places P l
-  operand-of unary.PostInc l h = h.0
-  operand-of unary.PostDec l h = h.0
-  operand-of unary.PreInc l h = h.1
-  operand-of unary.PreDec l h = h.1
-  operand-of unary.AddressOf l h = h.1
-  operand-of unary.Deref l h = h.1
-  operand-of unary.Plus l h = h.1
-  operand-of unary.Minus l h = h.1
-  operand-of unary.BitNot l h = h.1
-  operand-of unary.Not l h = h.1
-  operand-of unary.Sizeof l h = h.1
 
   unary-all : (n : Node) (op : UnaryOp) (x : Form) → P (tree_place n) → InForm x → InForm (unary_form n op x)
   unary-all n unary.PostInc x o h = (λ t. o, (h, (o, tt)))
@@ -114,7 +101,7 @@ module _ (P : Place → Type 0) (V : Variable → Type 0) (F : Facts) (variables
     operation-all n (Member x member) o h = (λ t. o, (form-all x h.0.0, (o, tt)))
     operation-all n (Arrow x member) o h = (λ t. o, (form-all x h.0.0, (first-at x h.0.0, (o, tt))))
     operation-all n (CompoundLit of braces) o h = (λ t. o, (form-all braces h.1, (o, tt)))
-    operation-all n (Unary op x) o h = unary-all n op (form_of F x) o (form-all x (operand-of op (line_of x) h))
+    operation-all n (Unary op x) o h = unary-all n op (form_of F x) o (form-all x (operand-of P op (line_of x) h))
     operation-all n (SizeofType of) o h = (λ t. o, (o, tt))
     operation-all n (Cast to x) o h = (λ t. o, (form-all x h.1, (o, tt)))
     operation-all n (Binary op x y) o h = binary-all n op (is_zero y) (form_of F x) (form_of F y) o (form-all x h.0.0) (form-all y h.1)

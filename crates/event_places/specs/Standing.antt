@@ -1,6 +1,7 @@
--- Texts whose trees stand over their tokens: what is known of the texts of files.
+-- Texts whose trees stand over their tokens, and whose tables are those of their trees: what is known of the texts of files.
 use Rattle.std.specs.Prelude.{◌≡◌, ℕ, List, Some, slice_get}
 use Rattle.c_tree.specs.TokenPlaces.{StandInFile}
+use Rattle.type_rules.specs.Unit.{table_by}
 use Rattle.typed_unit.specs.Places.{StandOver}
 use Rattle.typed_unit.specs.Texts.{Text}
 
@@ -12,3 +13,7 @@ pub record StandsIn (file : ℕ) (t : Text) : Type 0 where
 -- each text stands in the file with its position
 abbrev pub StandInFiles : List Text → Type 0
 StandInFiles ts = (file : ℕ) (t : Text) → slice_get ts file ≡ Some t → StandsIn file t
+
+-- each has the table that typing gives its trees
+abbrev pub HaveTheirTables : List Text → Type 0
+HaveTheirTables ts = (file : ℕ) (t : Text) → slice_get ts file ≡ Some t → t.table ≡ table_by t.trees

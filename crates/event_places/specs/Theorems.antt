@@ -1,5 +1,5 @@
 -- THE THEOREMS as statements, which contracts can name: events stand at tokens, so rules with an action are reported; bodies end at their last
--- tokens; a tree is spelled by its own tokens.
+-- tokens; a tree is spelled by its own tokens. First of texts that are as they are asked to be, and behind that of the texts of files.
 use Rattle.std.specs.Prelude.{◌≡◌, ℕ, List, ◌++◌, Bool, true, false, Option, None, Some, slice_get}
 use Rattle.c_grammar.specs.CPlaces.Stands.{StandsOver}
 use Rattle.c_objects.specs.Objects.{Object}
@@ -19,12 +19,16 @@ use Rattle.path_model.specs.CheckerModel.Happenings.{Function, Happening}
 use Rattle.path_model.specs.CheckerModel.Reports.{Checker, token_at, report_at}
 use Rattle.path_model.specs.CheckerPrograms.Paths.{program}
 use Rattle.path_model.specs.CheckerPrograms.Texts.{functions_in, tokens_of as tokens_in, with_close}
+use Rattle.path_theory.specs.Actions.{Actions, Did, State, fold}
+use Rattle.path_theory.specs.FlatPaths.{IsPath, InErrors}
 use Rattle.path_theory.specs.Paths.{Callers, Path, after, Reported}
+use Rattle.path_theory.specs.Trails.{More}
 use Rattle.type_rules.specs.Functions.{Defined}
 use Rattle.type_rules.specs.Options.{◌>?◌}
 use Rattle.typed_unit.specs.Texts.{Text}
+use Rattle.request_files.specs.Meanings.{HaveTexts}
 use Rattle.event_places.specs.Bodies.{AreOfGrammar, EndsAt}
-use Rattle.event_places.specs.Standing.{StandInFiles}
+use Rattle.event_places.specs.Standing.{StandInFiles, HaveTheirTables}
 
 -- the report that a rule has at the event of a path, at the token that stands there
 pub record IsReportedThere (c : Checker) (ts : List Text) (f : Function) (h : Happening) (o : Option Object) (t : Taken) (pieces : List Piece) : Type 0 where
@@ -36,10 +40,11 @@ abbrev pub is_declaration : Event → Bool
 is_declaration (Declared x) = true
 is_declaration _ = false
 
--- each event of a path stands at a token of its unit; at a declaration no rule is taken
+-- each event of a path stands at a token of its unit; the declaration of a variable, at which no rule is taken, where tables are those of the trees
 abbrev pub EventsStandAtTokens : Type 0
 EventsStandAtTokens = (c : Checker) (ts : List Text) → StandInFiles ts
-    → (f : Function) (k : Bool) (p q : (program c ts).Place) (b : Callers (model c) (program c ts)) (P : Path (model c) (program c ts) f k p b) (h : Happening) → (program c ts).Goes f p h q → is_declaration h.event ≡ false
+    → (f : Function) (k : Bool) (p q : (program c ts).Place) (b : Callers (model c) (program c ts)) (P : Path (model c) (program c ts) f k p b) (h : Happening) → (program c ts).Goes f p h q
+    → (is_declaration h.event ≡ true → HaveTheirTables ts)
     → (token : Token) × (token_at (event_place h.event) h.tokens ≡ Some token)
 
 -- NO ERROR TRANSITION WITHOUT A REPORT: where an object takes a rule with an action at the event of a path, its report is one of the program
@@ -68,3 +73,33 @@ abbrev pub TreesAreSpelledByTheirTokens : Type 0
 TreesAreSpelledByTheirTokens = (w : Source) (file : ℕ) (n : Node) (before ts rest : List Token) (low high : ℕ)
     → StandInFile file w.tokens → w.tokens ≡ before ++ ts → StandsOver n low high ts rest
     → (ts ≡ tree_tokens w n ++ rest) × (symbols_of (tree_tokens w n) ≡ tokens_of (syntax_of n))
+
+-- THE TEXTS OF FILES stand in them, are of the grammar, and have the tables of their trees: so all of this holds of them
+abbrev pub TextsOfFilesStand : Type 0
+TextsOfFilesStand = (before names words contents : List (List ℕ)) (ts : List Text) → HaveTexts 0 before names words contents ts
+    → StandInFiles ts × AreOfGrammar ts × HaveTheirTables ts
+
+-- OF FILES each event of a path stands at a token
+abbrev pub EventsOfFilesStandAtTokens : Type 0
+EventsOfFilesStandAtTokens = (before names words contents : List (List ℕ)) (c : Checker) (ts : List Text) → HaveTexts 0 before names words contents ts
+    → (f : Function) (k : Bool) (p q : (program c ts).Place) (b : Callers (model c) (program c ts)) (P : Path (model c) (program c ts) f k p b) (h : Happening) → (program c ts).Goes f p h q
+    → (token : Token) × (token_at (event_place h.event) h.tokens ≡ Some token)
+
+-- the rule that an object, or the global state, takes at an event in this state
+abbrev pub takes : (c : Checker) → Happening → State (model c) → Option Object → Option Taken
+takes c h s (Some o) = taken c.machine c.depth h s.top.fn s.top.is_root s.global o (source_at c.depth h o >? s.top.map)
+takes c h s None = taken_global c.machine c.depth h s.top.fn s.top.is_root s.global
+
+-- the error of a rule that is taken at an event, at the token that stands there, is one of the errors of the program
+pub record IsErrorThere (c : Checker) (ts : List Text) (f : Function) (h : Happening) (o : Option Object) (t : Taken) (pieces : List Piece) : Type 0 where
+  pub token : Token
+  pub there : token_at (event_place h.event) h.tokens ≡ Some token
+  pub error : InErrors (model c) (program c ts) (report_at c h f o t token pieces)
+
+-- OF FILES NO ERROR TRANSITION IS LEFT OUT: where a flat list of events, calls and returns is a path of their texts, and at its last event a rule with
+-- an action is taken, in the state to which the list before it folds, a token stands there, and the report at this token is an error of the program
+abbrev pub ErrorsOfFilesAreReported : Type 0
+ErrorsOfFilesAreReported = (before names words contents : List (List ℕ)) (c : Checker) (ts : List Text) → HaveTexts 0 before names words contents ts
+    → (root : Function) (l : Actions (model c)) (h : Happening) → IsPath (model c) (program c ts) root (More l (Did h))
+    → (o : Option Object) (t : Taken) (pieces : List Piece) → takes c h (fold (model c) root l) o ≡ Some t → t.rule.action ≡ Some pieces
+    → IsErrorThere c ts (fold (model c) root l).top.fn h o t pieces

@@ -5,6 +5,7 @@
 mod theorems;
 
 pub use theorems::{
-    bodies_end_at_their_last_tokens, errors_are_reported, events_stand_at_tokens,
-    global_errors_are_reported, trees_are_spelled_by_their_tokens,
+    bodies_end_at_their_last_tokens, errors_are_reported, errors_of_files_are_reported,
+    events_of_files_stand_at_tokens, events_stand_at_tokens, global_errors_are_reported,
+    texts_of_files_stand, trees_are_spelled_by_their_tokens,
 };

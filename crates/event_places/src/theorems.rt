@@ -1,8 +1,9 @@
 // The theorems about where events stand, each in the contract of a function that does nothing.
 
-ghost use Rattle.event_places.specs.Theorems.{BodiesEndAtTheirLastTokens, ErrorsAreReported, EventsStandAtTokens, GlobalErrorsAreReported, TreesAreSpelledByTheirTokens};
+ghost use Rattle.event_places.specs.Theorems.{BodiesEndAtTheirLastTokens, ErrorsAreReported, ErrorsOfFilesAreReported, EventsOfFilesStandAtTokens, EventsStandAtTokens, GlobalErrorsAreReported, TextsOfFilesStand, TreesAreSpelledByTheirTokens};
 
-/// Each event of a path stands at a token of its unit, but for the declaration of a variable, at which no rule is taken.
+/// Each event of a path stands at a token of its unit; the declaration of a variable, at which no rule is taken, where the tables of the
+/// texts are those of their trees.
 pub fn events_stand_at_tokens()
     ensures { EventsStandAtTokens }
 {}
@@ -26,4 +27,21 @@ pub fn bodies_end_at_their_last_tokens()
 /// What a message spells of a tree are the tokens over which it stands, and these are the tokens of its line of the grammar.
 pub fn trees_are_spelled_by_their_tokens()
     ensures { TreesAreSpelledByTheirTokens }
+{}
+
+/// The texts of files stand in them, are of the grammar, and have the tables of their trees: so each fact above holds of the texts of a
+/// request.
+pub fn texts_of_files_stand()
+    ensures { TextsOfFilesStand }
+{}
+
+/// On each path through the texts of files each event stands at a token.
+pub fn events_of_files_stand_at_tokens()
+    ensures { EventsOfFilesStandAtTokens }
+{}
+
+/// A rule with an action that is taken at the last event of a flat path through the texts of files is an error of the program, at the token
+/// of that event: so it is in the list of all errors, which a run prints.
+pub fn errors_of_files_are_reported()
+    ensures { ErrorsOfFilesAreReported }
 {}
