@@ -183,15 +183,6 @@ fn woken_in(
     }
 }
 
-// Equal edges.
-fn copies(alloc: Global, edges: &[NumberedEdge]) -> Result<Vec<NumberedEdge>, AllocError>
-    ensures { IfOk result (λ list. list.items ≡ edges.now) }
-{
-    let mut list = Vec::new(alloc);
-    list.extend_from_slice(edges)?;
-    Ok(list)
-}
-
 impl<'p, L> NumberedEngine<'p, L> {
     /// An engine that has worked out nothing yet.
     pub fn new(alloc: Global, program: &'p ProgramRows) -> Self
@@ -229,7 +220,7 @@ impl<L> CachingRules for NumberedEngine<'_, L> {
     ghost wakes = { IsWoken };
 
     fn begin(&self, alloc: Global) -> Result<Vec<NumberedEdge>, AllocError> {
-        copies(alloc, self.program.begun.as_slice())
+        self.program.begun.as_slice().to_vec(alloc)
     }
 
     fn enter(

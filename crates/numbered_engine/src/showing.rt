@@ -14,15 +14,6 @@ use block_summary::{BlockSummary, Entered};
 use row_flows::{Firing, cross};
 use std::alloc::{AllocError, Global};
 
-// Equal firings.
-fn copies(alloc: Global, firings: &[Firing]) -> Result<Vec<Firing>, AllocError>
-    ensures { IfOk result (λ list. list.items ≡ firings.now) }
-{
-    let mut list = Vec::new(alloc);
-    list.extend_from_slice(firings)?;
-    Ok(list)
-}
-
 // Those of an edge's block, worked out.
 fn worked_out(
     alloc: Global,
@@ -59,7 +50,7 @@ fn firings_in(
         is_root: is_own_frame(function, edge.context.entry),
     };
     match summary.held(&entered) {
-        Some(exits) => copies(alloc, exits.firings.as_slice()),
+        Some(exits) => exits.firings.as_slice().to_vec(alloc),
         None => worked_out(alloc, function, block, edge),
     }
 }

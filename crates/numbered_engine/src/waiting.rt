@@ -2,39 +2,13 @@
 
 ghost use Rattle.std.specs.Prelude.{◌≡◌, ◌++◌, ◌∷◌, [], cond, nat_eq, flat_map, map, IfOk};
 ghost use Rattle.numbered_engine.specs.Waiting.{ended_in, restored, tuples_behind, waiter, waiting_at, waits_for, waits_from, waits_with, woken_at};
-ghost use Rattle.row_flows.specs.Choices.{bare};
-ghost use Rattle.row_flows.specs.Numbers.{is_own};
 
 use crate::edges::{NumberedContext, NumberedEdge, NumberedWaiter};
 use crate::following::{at, passed};
 use crate::program::{Call, Ending};
 use least_set::Wait;
-use row_flows::NumberedTuple;
+use row_flows::{NumberedTuple, bare, is_own};
 use std::alloc::{AllocError, Global};
-
-// Whether the object with a number is saved.
-fn is_saved(saved: &[bool], object: u32) -> bool
-    ensures { result ≡ is_own saved.now object }
-{
-    if object == 0 {
-        return false;
-    }
-    match saved.get(object as usize - 1) {
-        Some(saved) => *saved,
-        None => false,
-    }
-}
-
-// The tuple of a global state alone.
-fn bare(global: u16) -> NumberedTuple
-    ensures { result ≡ bare global }
-{
-    NumberedTuple {
-        global,
-        state: 0,
-        object: 0,
-    }
-}
 
 // The frame of an edge, which waits at the call in which its block ends.
 fn waiter(edge: &NumberedEdge, saved: NumberedTuple) -> NumberedWaiter
@@ -88,7 +62,7 @@ fn add_with(
 ) -> Result<(), AllocError>
     ensures { IfOk result (λ _. list.new.items ≡ list.old.items ++ waits_with edge.now call.now tuple) }
 {
-    if is_saved(call.saved.as_slice(), tuple.object) {
+    if is_own(call.saved.as_slice(), tuple.object) {
         list.push(Wait {
             on: NumberedContext {
                 function: call.callee,

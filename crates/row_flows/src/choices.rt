@@ -7,8 +7,8 @@ ghost use Rattle.row_flows.specs.Numbers.{is_own};
 use crate::rows::{Applied, EventRow, NumberedSource, NumberedTarget};
 use crate::tuples::NumberedTuple;
 
-// Whether the object with a number is the function's own.
-fn is_own(own: &[bool], object: u32) -> bool
+/// Whether this is said of the object with a number, where it is said for each object in turn; it isn't of 0, which is no object.
+pub fn is_own(own: &[bool], object: u32) -> bool
     ensures { result ≡ is_own own.now object }
 {
     if object == 0 {
@@ -148,8 +148,8 @@ fn state_behind(target: NumberedTarget, state: u16) -> u16
     }
 }
 
-// The tuple of a global state alone.
-fn bare(global: u16) -> NumberedTuple
+/// The tuple of a global state alone.
+pub fn bare(global: u16) -> NumberedTuple
     ensures { result ≡ bare global }
 {
     NumberedTuple {

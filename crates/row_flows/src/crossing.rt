@@ -50,15 +50,6 @@ fn first(alloc: Global, tuple: NumberedTuple) -> Result<IndexSet<NumberedTuple>,
     Ok(set)
 }
 
-// A list of these.
-fn copies(alloc: Global, tuples: &[NumberedTuple]) -> Result<Vec<NumberedTuple>, AllocError>
-    ensures { IfOk result (λ list. list.items ≡ tuples.now) }
-{
-    let mut list = Vec::new(alloc);
-    list.extend_from_slice(tuples)?;
-    Ok(list)
-}
-
 // Whether an event leaves each of these tuples calm.
 fn are_calm(row: &EventRow, tuples: &[NumberedTuple]) -> bool
     ensures { result ≡ are_calm row.now tuples.now }
@@ -126,7 +117,7 @@ pub fn cross(
         let behind = next(alloc, row, is_root, own, items(&now))?;
         now = behind;
     }
-    let tuples = copies(alloc, items(&now))?;
+    let tuples = items(&now).to_vec(alloc)?;
     Ok(Crossed {
         tuples,
         firings: found,

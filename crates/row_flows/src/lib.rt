@@ -20,6 +20,7 @@ mod crossing;
 pub use behind::{Firing, given};
 pub use blocks::BlockRows;
 pub use calm::is_calm;
+pub use choices::{bare, is_own};
 pub use crossing::{Crossed, cross};
 pub use rows::{Applied, EventRow, NumberedSource, NumberedTarget, Touched};
 pub use tuples::NumberedTuple;

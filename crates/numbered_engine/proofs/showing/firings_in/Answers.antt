@@ -24,4 +24,4 @@ returns-in-Some c =
     let rows = subst (λ l. IsExactly found (Contains (shown 0 l k (own_in p e.context.function) e.tuple))) (rows_there p e f b c.requires.function c.requires.block) exact in
     let own = subst (λ l. IsExactly found (Contains (shown 0 b.rows.rows.items k l e.tuple))) (own_there p e f b c.requires.function c.requires.block) rows in
     let kind = subst (λ r. IsExactly found (Contains (shown 0 b.rows.rows.items r f.own.items e.tuple))) c.is_own_frame.ensures own in
-    if_ok _ _ c.copies.result (λ list made. subst (λ l. IsExactly l (Contains (shown 0 b.rows.rows.items (is_own_frame f e.context.entry) f.own.items e.tuple))) (sym (made ∙ c.as_slice.ensures.value)) kind) c.copies.ensures
+    if_ok _ _ c.to_vec.result (λ list made. subst (λ l. IsExactly l (Contains (shown 0 b.rows.rows.items (is_own_frame f e.context.entry) f.own.items e.tuple))) (sym (made ∙ c.as_slice.ensures.value)) kind) (if_ok _ _ c.to_vec.result (λ list same. same (λ x y h. h)) c.to_vec.ensures.items_if_clones_equal)

@@ -57,7 +57,7 @@ returns-clause-tuples c =
     let t = c.args.tuple in
     let i = c.loop-event.event in
     let way = subst (λ l. OnTheWay r own rows t l i c.loop-event.now.keys c.loop-event.found.items) (drop_all i rows c.loop-event-test.false) c.loop-event.invariant in
-    subst (λ l. IsExactly l (Contains (ends rows r own t))) (sym (c.in_ok-tuples.ensures ∙ c.items-2.ensures.keys)) (ended r own rows t i c.loop-event.now.keys c.loop-event.found.items way).0
+    subst (λ l. IsExactly l (Contains (ends rows r own t))) (sym (c.in_ok-tuples.ensures.items_if_clones_equal (λ x y h. h) ∙ c.items-2.ensures.keys)) (ended r own rows t i c.loop-event.now.keys c.loop-event.found.items way).0
 
 pub returns-clause-firings : goal.returns-clause-firings
 returns-clause-firings c =
