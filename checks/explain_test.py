@@ -71,13 +71,12 @@ class Cases(Folder):
         for name in runner.all_cases():
             with tempfile.TemporaryDirectory() as folder:
                 words, wanted, rows, _ = runner.read(os.path.join(runner.CASES, name + ".case"), folder)
-                runs = [(line, file, data, answer) for line, file, data, answer in rows] or [(None, None, None, wanted)]
                 os.chdir(folder)
-                for line, file, data, (_, errs, status) in runs:
+                for line, asked, file, (_, errs, status) in rows or [(None, None, None, wanted)]:
                     if file:
-                        runner.write(folder, file, data)
+                        runner.write(folder, *file)
                     if status == 3:
-                        yield f"{name}: {line}" if line else name, words, errs.decode("latin-1").rstrip("\n")
+                        yield f"{name}: {line}" if line else name, asked or words, errs.decode("latin-1").rstrip("\n")
                 os.chdir(self.folder)
 
     def test_each_has_its_line_and_its_way_round(self):

@@ -251,11 +251,12 @@ class Promises(unittest.TestCase):
         for name, call, record in (("metalcheck/src/styles.rt", "fn run_in_styles", "PromiseInStyles"), ("command/src/program.rt", "fn run", "Promise")):
             source = page(f"crates/{name}")
             contract = source[source.index(f"{call}<"):].split("\n{\n")[0]
-            self.assertEqual(re.findall(r"\b(?:requires|ensures)\b.*", contract), [f"ensures {{ {record} files.old files.new (record {{"])
+            self.assertEqual(re.findall(r"\b(?:requires|ensures)\b.*", contract), [
+                f"ensures {{ {record} files.old files.new (AreHanded O.write_gives E.write_gives out.old out.new errs.old errs.new) (record {{"])
 
     def test_fields(self):
         clauses = records_of("command")["Promise"]
-        self.assertEqual(len(clauses), 23)
+        self.assertEqual(len(clauses), 25)
         self.assertEqual(records_of("metalcheck")["PromiseInStyles"], ["promise", "in_format"])
         clauses = clauses + ["in_format"]
         told = section(page("README.md"), "## What is promised")

@@ -4,6 +4,7 @@ import shutil
 import socket
 import subprocess
 
+import system_calls
 from hostile import Run, fault_of
 from program import ROOT
 
@@ -60,6 +61,10 @@ class Room:
         except subprocess.TimeoutExpired:
             return Run("no end", b"", b"")
         return Run(done.returncode, done.stdout or b"", done.stderr or b"")
+
+    def changed(self, change, *words):
+        """The same while system calls are changed."""
+        return system_calls.run([self.program, *words], self.folder, change)
 
     def over(self, word, **how):
         """What a run of the checker over the file of this name comes to."""
@@ -220,6 +225,22 @@ def read_that_fails(room):
     return not_read(room, "/proc/self/mem")
 
 
+def reads_that_fail(room):
+    """The first read of one of the files fails: of the checker, of the C file, and of a third one, which is never read."""
+    room.put("a.c", USE)
+    answers = [Run(4, b"", b"free.metal: not read\n"), Run(4, b"", b"a.c: not read\n"), Run(1, REPORT, b"")]
+    return [line for number, wanted in enumerate(answers)
+            for line in differs(room.changed(system_calls.ReadFault(room.folder, number), "free.metal", "a.c"), wanted)]
+
+
+def writes_that_fail(room):
+    """One of the writes of a report fails, of which each takes ten bytes; a sixth one is never made."""
+    room.put("a.c", USE)
+    answers = [Run(5, REPORT[:10 * number], b"") for number in range(5)] + [Run(1, REPORT, b"")]
+    return [line for number, wanted in enumerate(answers)
+            for line in differs(room.changed(system_calls.WriteFault(number), "free.metal", "a.c"), wanted)]
+
+
 def no_surroundings(room):
     """No environment at all."""
     room.put("a.c", USE)
@@ -264,6 +285,8 @@ STEPS = {
     "a file without end": file_without_end,
     "a file of null bytes": file_of_nulls,
     "a read that fails": read_that_fails,
+    "reads that fail one by one": reads_that_fail,
+    "writes that fail one by one": writes_that_fail,
     "no environment": no_surroundings,
     "every beginning of a C file": beginnings("a.c", PREPROCESSED),
     "every beginning of a checker": beginnings("free.metal", checker_text()),

@@ -4,10 +4,8 @@
 // what is kept
 mod exits;
 mod keys;
-mod steps;
 mod summary;
 
 pub use exits::Exits;
 pub use keys::Entered;
-pub use steps::Steps;
 pub use summary::BlockSummary;

@@ -9,8 +9,8 @@ ghost use Rattle.row_flows.specs.declared.rows.EventRow.{EventRow};
 
 use crate::exits::{Exits, unchanged, worked_out};
 use crate::keys::Entered;
-use crate::steps::Steps;
 use indexmap::{IndexMap, IndexSet};
+use mx_base::Steps;
 use row_flows::BlockRows;
 use std::alloc::{AllocError, Global};
 

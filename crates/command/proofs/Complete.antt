@@ -2,7 +2,7 @@
 use Rattle.std.proofs.Common.{◌≡◌, ◌≢◌, inl, inr, ℕ, ◌+◌, List, [], ◌∷◌, ◌++◌, length, Option, Some, None, refl, sym, ap, ◌∙◌, subst, length-append, arith}
 use Rattle.mx_io.specs.Reads.{Stands}
 use Rattle.report_model.specs.declared.report.Report.{Report}
-use Rattle.command.specs.Bytes.{Bytes}
+use Rattle.mx_io.specs.Bytes.{Bytes}
 use Rattle.command.specs.Commands.{Command, checkers_of, sources_of, turns_of}
 use Rattle.command.specs.Due.{HasTask, IsDueFor, IsRefused}
 use Rattle.command.specs.Run.{Completes, Did, EndsIn, Gives, MayBeDue, NoReadFailed, RanAsDue, Run, called_in, rendered_in, reporters_in}
@@ -37,7 +37,7 @@ same_contents told (n ∷ ns) (b ∷ bs) (x ∷ cs) a t h =
     let rest : bs ≡ cs = same_contents told ns bs cs a.1 t.1 (omega (arith, h)) in
     cc
 
-longer : (old : List (List ℕ)) (name : List ℕ) → old ++ name ∷ [] ≡ old → ⊥
+pub longer : (old : List (List ℕ)) (name : List ℕ) → old ++ name ∷ [] ≡ old → ⊥
 longer old name e = omega (arith, length-append old (name ∷ []), ap length e)
 
 module _ (told : List ℕ → Option (List ℕ)) (command : Command) (contents : List (List ℕ)) where

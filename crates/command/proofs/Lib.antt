@@ -4,8 +4,10 @@ mod Turns
 mod Plans
 mod Positions
 mod Writing
+mod Handing
 mod Statuses
 mod Complete
+mod Readable
 mod Contents
 mod Generating
 pub mod Promised

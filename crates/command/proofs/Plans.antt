@@ -117,15 +117,18 @@ leaves_unasked words called count rendered before after status.NoMemory is kept 
 
 -- ---- what is due was written
 
-pub carried_out : (Holds : List ℕ → List ℕ → Type 0) (words : List (List ℕ)) (r : ReporterStep) (old new : List (List ℕ)) (result : Status) (out errs : SinkStep) (s : Status) (text handed line rest : List ℕ)
-    → handed ≡ text → rest ≡ line → IsDue Holds words r.called r.rendered old new s text line → Leaves words r s → Spares words r → Written s handed rest result out errs → (Fits handed rest out errs → result ≡ s) → CarriesOut Holds words r old new result out errs
-carried_out Holds words r old new result out errs s text handed line rest e f due leaves spares written fitting = record {
-  status = s;
-  text = text;
-  line = line;
-  due = due;
-  leaves = leaves;
-  spares = spares;
-  written = of_both (λ t l. Written s t l result out errs) handed rest text line e f written;
-  fitting = of_both (λ t l. Fits t l out errs → result ≡ s) handed rest text line e f fitting;
-}
+pub carried_out : (Hands Holds : List ℕ → List ℕ → Type 0) (words : List (List ℕ)) (r : ReporterStep) (old new : List (List ℕ)) (result : Status) (out errs : SinkStep) (s : Status) (text handed line rest : List ℕ)
+    → handed ≡ text → rest ≡ line → IsDue Holds words r.called r.rendered old new s text line → Leaves words r s → Spares words r → Written s handed rest result out errs → (Fits handed rest out errs → result ≡ s) → Hands handed rest → (c : CarriesOut Holds words r old new result out errs) × Hands c.text c.line
+carried_out Hands Holds words r old new result out errs s text handed line rest e f due leaves spares written fitting hands = (
+  record {
+    status = s;
+    text = text;
+    line = line;
+    due = due;
+    leaves = leaves;
+    spares = spares;
+    written = of_both (λ t l. Written s t l result out errs) handed rest text line e f written;
+    fitting = of_both (λ t l. Fits t l out errs → result ≡ s) handed rest text line e f fitting;
+  },
+  of_both Hands handed rest text line e f hands,
+)

@@ -1,27 +1,35 @@
 -- The promise of a run, field by field from what it was due.
-use Rattle.std.proofs.Common.{◌≡◌, inl, ℕ, List, [], ◌∷◌, map, slice_get, Option, refl, sym, ap, ◌∙◌, subst}
+use Rattle.std.proofs.Common.{◌≡◌, ◌≢◌, inl, inr, ℕ, List, [], ◌∷◌, map, slice_get, Option, refl, sym, ap, ◌∙◌, subst}
 use Rattle.command_words.specs.Generation.{IsGeneration}
+use Rattle.mx_io.specs.Reads.{ReadsReadable}
 use Rattle.report_model.specs.declared.report.Report.{Report}
-use Rattle.request_files.specs.Telling.{may_hold, surely_holds}
-use Rattle.command.specs.Bytes.{Bytes, Told, Words}
-use Rattle.command.specs.Commands.{GiveNone, IsOther, checkers_of, sources_of}
+use Rattle.request_files.specs.Telling.{AreReadable, may_hold, surely_holds}
+use Rattle.mx_io.specs.Bytes.{Bytes, Readable, Told, Words}
+use Rattle.command.specs.Commands.{Command, GiveNone, IsOther, checkers_of, sources_of, turns_of}
 use Rattle.command.specs.Due.{FailedInTurn}
-use Rattle.command.specs.Ran.{Ran, ReporterStep, reporter_step}
-use Rattle.command.specs.Run.{Promise, RanAsDue, ReporterState, Run, called_in, reporter_state, reporters_in}
+use Rattle.command.specs.Ran.{RanHanding, ReporterStep, reporter_step}
+use Rattle.command.specs.Run.{Gives, HandsAsDue, NoReadFailed, Promise, RanAsDue, ReporterState, Run, called_in, reporter_state, reporters_in}
 use Rattle.command.specs.Written.{SinkStep}
 use Rattle.command.specs.declared.status.Status.{Status}
-use Rattle.command.specs.declared.status.Status.TheVariants.{NoMemory}
+use Rattle.command.specs.declared.status.Status.TheVariants.{NoMemory, ReadFault}
 use Rattle.command.proofs.Complete.{accepted_linked, complete, faulty, refused_where}
 use Rattle.command.proofs.Generating.{generation, measured}
+use Rattle.command.proofs.Readable.{readable_is_read}
 use Rattle.command.proofs.Statuses.{clean, reports, usage, refused, read_fault, write_fault, no_memory, no_command, failed}
 use Rattle.command.proofs.Unique.OneAnswer.{surely_may, unsound_or_accepted}
 use Rattle.command.proofs.Unique.OneDue.{determined, fitting}
 
-pub promised : {Files : Type 0} (before after : Files) (run : Run) → RanAsDue run → ((count : ℕ) → IsGeneration run.words count → after ≡ before) → (GiveNone run.words (called_in run) → after ≡ before)
+-- what was handed in this way was done
+ran_of : (Hands : Bytes → Bytes → Type 0) (run : Run) → HandsAsDue Hands run → RanAsDue run
+ran_of Hands run (inl stops) = inl stops
+ran_of Hands run (inr (c, hands)) = inr c
+
+pub promised : {Files : Type 0} (before after : Files) (Hands : Bytes → Bytes → Type 0) (run : Run) → HandsAsDue Hands run → ((command : Command) → Gives run command → AreReadable run.readable (turns_of command) → NoReadFailed run × (run.status ≢ ReadFault)) → ((count : ℕ) → IsGeneration run.words count → after ≡ before) → (GiveNone run.words (called_in run) → after ≡ before)
     → map (λ (r : ReporterState). r.called) run.reporters_after ≡ called_in run → map (λ (r : ReporterState). r.style) run.reporters_after ≡ map (λ (r : ReporterState). r.style) run.reporters_before
-    → ((k : ℕ) → IsOther run.words (called_in run) k → slice_get (reporters_in run).after k ≡ slice_get (reporters_in run).before k) → Promise before after run
-promised before after run ran untouched unread names styles others = record {
+    → ((k : ℕ) → IsOther run.words (called_in run) k → slice_get (reporters_in run).after k ≡ slice_get (reporters_in run).before k) → Promise before after Hands run
+promised before after Hands run handed readable untouched unread names styles others = let ran = ran_of Hands run handed in record {
   ran = ran;
+  handed = handed;
   determined = λ status text line due. determined run.told run.words (reporters_in run) run.failed_before run.failed_after run.status run.out run.errs status text line ran due;
   clean = clean run ran;
   reports = reports run ran;
@@ -40,6 +48,7 @@ promised before after run ran untouched unread names styles others = record {
   generation = λ count is. generation run count is ran;
   no_command = no_command run ran;
   fitting = λ status text line due fits. fitting run.told run.words (reporters_in run) run.failed_before run.failed_after run.status run.out run.errs status text line ran due fits;
+  readable = readable;
   failed = failed run ran;
   untouched = untouched;
   unread = unread;
@@ -50,10 +59,11 @@ promised before after run ran untouched unread names styles others = record {
 
 -- ---- reporters, and the list of their states
 
-abbrev pub run_of : Words → Told → Words → Words → List ReporterState → List ReporterState → SinkStep → SinkStep → Status → Run
-run_of words told old new reporters left out errs status = record {
+abbrev pub run_of : Words → Told → Readable → Words → Words → List ReporterState → List ReporterState → SinkStep → SinkStep → Status → Run
+run_of words told readable old new reporters left out errs status = record {
   words = words;
   told = told;
+  readable = readable;
   failed_before = old;
   failed_after = new;
   reporters_before = reporters;
@@ -104,20 +114,22 @@ module _ {B : Type 0} (called : B → Bytes) (style : B → List Report → Byte
   }
 
   -- the promise by what is said of the reporters themselves
-  pub promised_of : {Files : Type 0} (before after : Files) (words : Words) (told : Told) (old new : Words) (items left : List B) (out errs : SinkStep) (status : Status)
-      → Ran (may_hold told) words (step items left) old new status out errs → ((count : ℕ) → IsGeneration words count → after ≡ before) → (GiveNone words (map called items) → after ≡ before)
+  pub promised_of : {Files : Type 0} (before after : Files) (Hands : Bytes → Bytes → Type 0) (words : Words) (told : Told) (can-read : Readable) (old new : Words) (items left : List B) (out errs : SinkStep) (status : Status)
+      → RanHanding Hands (may_hold told) words (step items left) old new status out errs → ReadsReadable can-read old new → ((count : ℕ) → IsGeneration words count → after ≡ before) → (GiveNone words (map called items) → after ≡ before)
       → map called left ≡ map called items → map style left ≡ map style items → ((k : ℕ) → IsOther words (map called items) k → slice_get (map taken left) k ≡ slice_get (map taken items) k)
-      → Promise before after (run_of words told old new (map state_of items) (map state_of left) out errs status)
-  promised_of before after words told old new items left out errs status ran untouched unread names styles others =
-      promised before after (run_of words told old new (map state_of items) (map state_of left) out errs status) (subst (λ (r : ReporterStep). Ran (may_hold told) words r old new status out errs) (same_step items left) ran) untouched
+      → Promise before after Hands (run_of words told can-read old new (map state_of items) (map state_of left) out errs status)
+  promised_of before after Hands words told can-read old new items left out errs status handed reads untouched unread names styles others =
+      let run = run_of words told can-read old new (map state_of items) (map state_of left) out errs status in
+      let due : HandsAsDue Hands run = subst (λ (r : ReporterStep). RanHanding Hands (may_hold told) words r old new status out errs) (same_step items left) handed in
+      promised before after Hands run due (readable_is_read run (ran_of Hands run due) reads) untouched
       (λ none. unread (subst (λ (c : Words). GiveNone words c) (called_is items) none)) (called_is left ∙ names ∙ sym (called_is items)) (style_is left ∙ styles ∙ sym (style_is items))
       (λ k other. ap (λ (l : List (List Report)). slice_get l k) (taken_is left) ∙ others k (subst (λ (c : Words). IsOther words c k) (called_is items) other) ∙ sym (ap (λ (l : List (List Report)). slice_get l k) (taken_is items)))
 
   -- the same where there was no memory before the first write
-  pub stopped_of : {Files : Type 0} (before after : Files) (words : Words) (told : Told) (old new : Words) (items left : List B) (out : Option Bytes) (out-faults out-sure : ℕ) (errs : Option Bytes) (errs-faults errs-sure : ℕ)
-      → FailedInTurn (may_hold told) words (map called items) old new → ((count : ℕ) → IsGeneration words count → after ≡ before) → (GiveNone words (map called items) → after ≡ before)
+  pub stopped_of : {Files : Type 0} (before after : Files) (Hands : Bytes → Bytes → Type 0) (words : Words) (told : Told) (can-read : Readable) (old new : Words) (items left : List B) (out : Option Bytes) (out-faults out-sure : ℕ) (errs : Option Bytes) (errs-faults errs-sure : ℕ)
+      → FailedInTurn (may_hold told) words (map called items) old new → ReadsReadable can-read old new → ((count : ℕ) → IsGeneration words count → after ≡ before) → (GiveNone words (map called items) → after ≡ before)
       → map called left ≡ map called items → map style left ≡ map style items → ((k : ℕ) → IsOther words (map called items) k → slice_get (map taken left) k ≡ slice_get (map taken items) k)
-      → Promise before after (run_of words told old new (map state_of items) (map state_of left) (left_alone out out-faults out-sure) (left_alone errs errs-faults errs-sure) NoMemory)
-  stopped_of before after words told old new items left out out-faults out-sure errs errs-faults errs-sure turn untouched unread names styles others =
-      promised_of before after words told old new items left (left_alone out out-faults out-sure) (left_alone errs errs-faults errs-sure) NoMemory
-      (inl (record { status = refl; turn = turn; out_same = (refl, refl); errs_same = (refl, refl) })) untouched unread names styles others
+      → Promise before after Hands (run_of words told can-read old new (map state_of items) (map state_of left) (left_alone out out-faults out-sure) (left_alone errs errs-faults errs-sure) NoMemory)
+  stopped_of before after Hands words told can-read old new items left out out-faults out-sure errs errs-faults errs-sure turn reads untouched unread names styles others =
+      promised_of before after Hands words told can-read old new items left (left_alone out out-faults out-sure) (left_alone errs errs-faults errs-sure) NoMemory
+      (inl (record { status = refl; turn = turn; out_same = (refl, refl); errs_same = (refl, refl) })) reads untouched unread names styles others

@@ -1,6 +1,6 @@
 -- THE FIXED CHECKER: what is freed is neither used nor freed again.
 use Rattle.std.specs.Prelude.{◌++◌, codes}
-use Rattle.command.specs.Bytes.{Bytes}
+use Rattle.mx_io.specs.Bytes.{Bytes}
 
 abbrev pub free_text : Bytes
 free_text =

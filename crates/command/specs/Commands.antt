@@ -5,7 +5,7 @@ use Rattle.std.specs.Str.{bytes_eq}
 use Rattle.command_words.specs.Generation.{IsGeneration}
 use Rattle.command_words.specs.Words.{Request, IsRequest, is_checker_word, is_source_word}
 use Rattle.request_files.specs.Turns.{Turn, turns}
-use Rattle.command.specs.Bytes.{Bytes, Words}
+use Rattle.mx_io.specs.Bytes.{Bytes, Words}
 
 -- what is to be done: objects with at most so many steps, the reporter at this place or none, and these files
 pub record Command : Type 0 where

@@ -1,4 +1,3 @@
-pub mod Bytes
 pub mod Checker
 pub mod Commands
 pub mod Due

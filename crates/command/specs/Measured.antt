@@ -2,7 +2,7 @@
 use Rattle.std.specs.Prelude.{◌≡◌, ◌≢◌, ℕ, ◌+◌, Bool, MatchBool, List, [], ◌∷◌, ◌++◌, length, codes}
 use Rattle.std.specs.Fmt.{decimal}
 use Rattle.report_model.specs.declared.report.Report.{Report}
-use Rattle.command.specs.Bytes.{Bytes}
+use Rattle.mx_io.specs.Bytes.{Bytes}
 use Rattle.command.specs.Checker.{free_text}
 use Rattle.command.specs.GeneratedProgram.Generated.{generated}
 use Rattle.command.specs.JudgedFiles.Judged.{AreJudged}

@@ -1,6 +1,6 @@
 -- What is planned where the files of a command gave no reports.
 use Rattle.std.specs.Prelude.{◌≡◌, ◌<◌, ℕ, [], slice_get, Some}
-use Rattle.command.specs.Bytes.{Bytes, Words}
+use Rattle.mx_io.specs.Bytes.{Bytes, Words}
 use Rattle.command.specs.Due.{not_read_line}
 use Rattle.command.specs.declared.status.Status.{Status}
 use Rattle.command.specs.declared.status.Status.TheVariants as status

@@ -2,7 +2,7 @@
 use Rattle.std.specs.Prelude.{◌≡◌, ℕ, ◌⊎◌, List}
 use Rattle.report_model.specs.declared.report.Report.{Report}
 use Rattle.command_words.specs.Generation.{IsGeneration}
-use Rattle.command.specs.Bytes.{Bytes, Words}
+use Rattle.mx_io.specs.Bytes.{Bytes, Words}
 use Rattle.command.specs.Commands.{Command, IsCommand}
 use Rattle.command.specs.Due.{IsDue, FailedInTurn}
 use Rattle.command.specs.declared.status.Status.{Status}
@@ -62,6 +62,11 @@ pub record CarriesOut (Holds : Bytes → Bytes → Type 0) (words : Words) (r : 
 
 abbrev pub Ran : (Bytes → Bytes → Type 0) → Words → ReporterStep → Words → Words → Status → SinkStep → SinkStep → Type 0
 Ran Holds words r old new result out errs = Stops Holds words r old new result out errs ⊎ CarriesOut Holds words r old new result out errs
+
+-- the same, and how the text and the line were handed to the sinks is said by a word that is handed in
+abbrev pub RanHanding : (Bytes → Bytes → Type 0) → (Bytes → Bytes → Type 0) → Words → ReporterStep → Words → Words → Status → SinkStep → SinkStep → Type 0
+RanHanding Hands Holds words r old new result out errs =
+    Stops Holds words r old new result out errs ⊎ ((c : CarriesOut Holds words r old new result out errs) × Hands c.text c.line)
 
 -- this was written, as far as the sinks took it, or there was no memory before the first write
 abbrev pub DidAs : Status → Bytes → Bytes → Status → SinkStep → SinkStep → Type 0

@@ -2,7 +2,7 @@
 use Rattle.std.specs.Prelude.{◌≡◌, ◌≢◌, ℕ, List, [], slice_get, Option, None, Some}
 use Rattle.report_model.specs.declared.report.Report.{Report}
 use Rattle.report_model.specs.Lines.{text_of}
-use Rattle.command.specs.Bytes.{Bytes}
+use Rattle.mx_io.specs.Bytes.{Bytes}
 use Rattle.command.specs.declared.status.Status.{Status}
 use Rattle.command.specs.declared.status.Status.TheVariants as status
 

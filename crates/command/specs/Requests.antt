@@ -2,7 +2,7 @@
 use Rattle.std.specs.Prelude.{◌≡◌, ◌-◌, ℕ, List, [], get_or, length, map, Option, None, Some}
 use Rattle.std.specs.List.{range_with_len}
 use Rattle.command_words.specs.Generation.{IsGeneration}
-use Rattle.command.specs.Bytes.{Words}
+use Rattle.mx_io.specs.Bytes.{Words}
 use Rattle.command.specs.Commands.{Command, IsCommand}
 use Rattle.command.specs.declared.request.Request.{Request}
 

@@ -1,19 +1,19 @@
 -- WHAT A RUN PROMISES: the contract of `run`, and the page to begin with. First what a run is handed and what it leaves, then what it did by
 -- each way in which it can end, and last the promise, field by field. What words ask for stands in `Commands`, what is due in `Due`, how reports
--- look in `Rendered`, what a sink takes in `Written`, what files mean in `JudgedFiles`, and a generated program in `Measured`.
+-- look in `Rendered`, what a sink takes and is handed in `Written`, what files mean in `JudgedFiles`, and a generated program in `Measured`.
 use Rattle.std.specs.Prelude.{◌≡◌, ◌≢◌, ◌⊎◌, ℕ, List, [], map, slice_get}
 use Rattle.command_words.specs.Generation.{IsGeneration}
 use Rattle.report_model.specs.declared.report.Report.{Report}
 use Rattle.request_files.specs.Faults.{Located, refused_line}
 use Rattle.request_files.specs.Reading.{UnsoundAt, at_first}
-use Rattle.request_files.specs.Telling.{Tells, may_hold, surely_holds}
-use Rattle.command.specs.Bytes.{Bytes, Told, Words}
+use Rattle.request_files.specs.Telling.{AreReadable, Tells, may_hold, surely_holds}
+use Rattle.mx_io.specs.Bytes.{Bytes, Readable, Told, Words}
 use Rattle.command.specs.Commands.{Command, GiveNone, IsCommand, IsOther, checkers_of, sources_of, turns_of}
 use Rattle.command.specs.Due.{IsDue, IsLacking, IsMeasuredAs, IsMisused, IsRefused, IsReported, usage_line}
 use Rattle.command.specs.JudgedFiles.FirstFault.{IsFirstFault}
 use Rattle.command.specs.JudgedFiles.Judged.{AreJudged, AreLinked}
 use Rattle.command.specs.Measured.{IsMeasured, measure_line}
-use Rattle.command.specs.Ran.{DidAs, IsEmptied, Ran, ReporterStep, Stops, reporter_step}
+use Rattle.command.specs.Ran.{DidAs, IsEmptied, Ran, RanHanding, ReporterStep, Stops, reporter_step}
 use Rattle.command.specs.Rendered.{IsText}
 use Rattle.command.specs.Written.{Fits, IsStill, NoWriteFailed, SinkStep, Took, WriteFailed}
 use Rattle.command.specs.declared.status.Status.{Status}
@@ -36,6 +36,8 @@ pub record Run : Type 0 where
   pub words : Words
   -- what is told of the bytes in each file
   pub told : Told
+  -- which files are readable: no read of them fails
+  pub readable : Readable
   -- the names of the files whose reads failed, before the run and behind it
   pub failed_before : Words
   pub failed_after : Words
@@ -100,6 +102,10 @@ EndsIn run status = (run.status ≡ status) ⊎ ((run.status ≡ WriteFault) ⊎
 -- no memory before the first write, or what the run is due, written as far as the sinks took it
 abbrev pub RanAsDue : Run → Type 0
 RanAsDue run = Ran (may_hold run.told) run.words (reporters_in run) run.failed_before run.failed_after run.status run.out run.errs
+
+-- the same, and the text and the line were handed to the sinks in this way
+abbrev pub HandsAsDue : (Bytes → Bytes → Type 0) → Run → Type 0
+HandsAsDue Hands run = RanHanding Hands (may_hold run.told) run.words (reporters_in run) run.failed_before run.failed_after run.status run.out run.errs
 
 -- the words give a command, its files were read and have no fault, and their reports, which are of the kind that is asked, were written; the
 -- chosen reporter is empty
@@ -171,11 +177,13 @@ pub record CompletesMeasure (run : Run) (count : ℕ) : Type 0 where
   pub printed : Took run.out (measure_line count reports)
   pub nothing : Took run.errs []
 
--- ---- THE PROMISE of a run, by the files before it and behind it
+-- ---- THE PROMISE of a run, by the files before it and behind it, and by what it is to hand a text to `out` and a line to `errs`
 
-pub record Promise {Files : Type 0} (files_before files_after : Files) (run : Run) : Type 0 where
+pub record Promise {Files : Type 0} (files_before files_after : Files) (Hands : Bytes → Bytes → Type 0) (run : Run) : Type 0 where
   -- All of it: no memory before the first write, or what the run is due, written as far as the sinks took it.
   pub ran : RanAsDue run
+  -- Each write is handed all that isn't taken yet.
+  pub handed : HandsAsDue Hands run
   -- And nothing else: what is due by what is told of the files that are read is what the run did. At most one status, one text and one line is
   -- due (`one_answer::due_is_unique`).
   pub determined : (status : Status) (text line : Bytes) → IsSurelyDue run status text line → Did run status text line
@@ -221,6 +229,8 @@ pub record Promise {Files : Type 0} (files_before files_after : Files) (run : Ru
   pub no_command : GiveNone run.words (called_in run) → EndsIn run Usage
   -- What is due and fits into sinks that are known not to fail ends in its status: no write fails.
   pub fitting : (status : Status) (text line : Bytes) → IsSurelyDue run status text line → Fits text line run.out run.errs → (run.status ≡ status) ⊎ (run.status ≡ NoMemory)
+  -- A command whose files are readable is read: no read fails, and it doesn't end in one.
+  pub readable : (command : Command) → Gives run command → AreReadable run.readable (turns_of command) → NoReadFailed run × (run.status ≢ ReadFault)
   -- A failed read is told.
   pub failed : run.failed_after ≢ run.failed_before → EndsIn run ReadFault
   -- WHAT IS LEFT ALONE.

@@ -1,8 +1,9 @@
 -- What a run has written to its two sinks.
-use Rattle.std.specs.Prelude.{◌≡◌, ℕ, ◌<◌, ◌≤◌, ◌⊎◌, [], length, take, Option}
+use Rattle.std.specs.Prelude.{◌≡◌, ◌≢◌, ℕ, ◌<◌, ◌≤◌, ◌⊎◌, Bool, true, false, List, [], ◌∷◌, length, take, drop, Option, Result, Ok, Err}
 use Rattle.std.specs.Io.KnownBytes.{Appends}
 use Rattle.mx_io.specs.Causes.{Rose}
-use Rattle.command.specs.Bytes.{Bytes}
+use Rattle.mx_io.specs.declared.sink.SinkFailed.{SinkFailed}
+use Rattle.mx_io.specs.Bytes.{Bytes}
 use Rattle.command.specs.declared.status.Status.{Status}
 use Rattle.command.specs.declared.status.Status.TheVariants.{WriteFault}
 
@@ -47,3 +48,26 @@ Written status text line result out errs =
     ((result ≡ status) × Took out text × Took errs line × IsStill out × IsStill errs)
     ⊎ (((result ≡ WriteFault) × Broke out text × Took errs [] × IsStill errs)
     ⊎ ((result ≡ WriteFault) × Took out text × Broke errs line × IsStill out))
+
+-- ---- HOW A TEXT IS HANDED TO A SINK. What a write gives and leaves, by what it was handed, is said by a word that is handed in.
+
+abbrev pub WriteGives : Type 0 → Type 1
+WriteGives S = S → Bytes → Result ℕ SinkFailed → S → Type 0
+
+-- one write after the other, each of all that isn't taken yet: until nothing is left, or until one fails. The list has those that took something,
+-- each with how many bytes it took and the sink behind it
+abbrev pub HandsRest : {S : Type 0} → WriteGives S → S → Bytes → List (ℕ × S) → Bool → S → Type 0
+HandsRest Gives sink rest [] true after = (rest ≡ []) × (after ≡ sink)
+HandsRest Gives sink rest [] false after = (rest ≢ []) × ((fault : SinkFailed) × Gives sink rest (Err fault) after)
+HandsRest Gives sink rest (write ∷ writes) whole after = (rest ≢ []) × Gives sink rest (Ok write.0) write.1 × HandsRest Gives write.1 (drop write.0 rest) writes whole after
+
+-- a text was handed to a sink in this way, and whether it was taken whole
+pub record IsHanded {S : Type 0} (Gives : WriteGives S) (before : S) (text : Bytes) (whole : Bool) (after : S) : Type 0 where
+  pub writes : List (ℕ × S)
+  pub hands : HandsRest Gives before text writes whole after
+
+-- a text was handed to `out`, and then a line to `errs`, where the text was taken whole
+abbrev pub AreHanded : {O E : Type 0} → WriteGives O → WriteGives E → O → O → E → E → Bytes → Bytes → Type 0
+AreHanded OutGives ErrsGives out out_after errs errs_after text line =
+    (IsHanded OutGives out text true out_after × ((whole : Bool) × IsHanded ErrsGives errs line whole errs_after))
+    ⊎ (IsHanded OutGives out text false out_after × (errs_after ≡ errs))

@@ -3,6 +3,7 @@
 ghost use Rattle.std.specs.Prelude.{◌≡◌, ◌≤◌, length, IfOk, IfErr, OnOk};
 ghost use Rattle.command.specs.JudgedFiles.FirstFault.{AnswersUnjudged};
 ghost use Rattle.command.specs.JudgedFiles.Judged.{AreAccepted};
+ghost use Rattle.mx_io.specs.Reads.{ReadsReadable};
 ghost use Rattle.request_files.specs.Telling.{may_hold};
 ghost use Rattle.request_files.specs.Views.{words_of};
 
@@ -28,6 +29,7 @@ pub(crate) fn reports_of<F: Files>(
     ensures accepted { IfOk result (λ reports. AreAccepted (may_hold (F.contents files.old)) (words_of checkers.now) (words_of sources.now) depth reports.items) }
     ensures unjudged { IfErr result (λ e. AnswersUnjudged (may_hold (F.contents files.old)) (words_of checkers.now) (words_of sources.now) (F.failed files.old) (F.failed files.new) e) }
     ensures none_failed { OnOk result (F.failed files.new ≡ F.failed files.old) }
+    ensures readable { ReadsReadable (F.readable files.old) (F.failed files.old) (F.failed files.new) }
 {
     let Ok(mut checker_places) = empty_places(alloc, checkers.len()) else {
         return Err(Unjudged::NoMemory);

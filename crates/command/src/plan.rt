@@ -7,6 +7,7 @@ ghost use Rattle.command.specs.Due.{FailedInTurn, FailedInTurnOf, IsDue, IsDueFo
 ghost use Rattle.command.specs.Plans.{IsAmong, IsPlanOf};
 ghost use Rattle.command.specs.Ran.{Leaves, Spares, reporter_step};
 ghost use Rattle.command.specs.Tasks.{LeavesAt, command_of};
+ghost use Rattle.mx_io.specs.Reads.{ReadsReadable};
 ghost use Rattle.request_files.specs.Telling.{may_hold};
 ghost use Rattle.request_files.specs.Views.{words_of};
 
@@ -67,6 +68,7 @@ fn plan_task<F: Files>(
     requires within { IfSome task.now.place (λ p. p < vec_len reporters.old) }
     ensures due { IfOk result (λ plan. IsDueFor (may_hold (F.contents files.old)) (command_of task.now) (λ reports. map (λ b. rendered b reports) reporters.old.items) (F.failed files.old) (F.failed files.new) plan.status plan.text.items plan.line) }
     ensures failed { OnErr result (FailedInTurnOf (may_hold (F.contents files.old)) (command_of task.now) (F.failed files.old) (F.failed files.new)) }
+    ensures readable { ReadsReadable (F.readable files.old) (F.failed files.old) (F.failed files.new) }
     ensures names { map (λ b. called b) reporters.new.items ≡ map (λ b. called b) reporters.old.items }
     ensures styles { map (λ b. rendered b) reporters.new.items ≡ map (λ b. rendered b) reporters.old.items }
     ensures others { (k : ℕ) → task.now.place ≢ Some k → slice_get (map (λ b. taken b) reporters.new.items) k ≡ slice_get (map (λ b. taken b) reporters.old.items) k }
@@ -89,6 +91,7 @@ pub(crate) fn decide<F: Files>(
 ) -> Result<Plan, AllocError>
     ensures due { IfOk result (λ plan. IsDue (may_hold (F.contents files.old)) (map string_bytes words.now) (map (λ b. called b) reporters.old.items) (λ reports. map (λ b. rendered b reports) reporters.old.items) (F.failed files.old) (F.failed files.new) plan.status plan.text.items plan.line) }
     ensures failed { OnErr result (FailedInTurn (may_hold (F.contents files.old)) (map string_bytes words.now) (map (λ b. called b) reporters.old.items) (F.failed files.old) (F.failed files.new)) }
+    ensures readable { ReadsReadable (F.readable files.old) (F.failed files.old) (F.failed files.new) }
     ensures names { map (λ b. called b) reporters.new.items ≡ map (λ b. called b) reporters.old.items }
     ensures styles { map (λ b. rendered b) reporters.new.items ≡ map (λ b. rendered b) reporters.old.items }
     ensures others { (k : ℕ) → IsOther (map string_bytes words.now) (map (λ b. called b) reporters.old.items) k → slice_get (map (λ b. taken b) reporters.new.items) k ≡ slice_get (map (λ b. taken b) reporters.old.items) k }

@@ -2,6 +2,7 @@
 
 ghost use Rattle.std.specs.Prelude.{map, string_bytes};
 ghost use Rattle.command.specs.Run.{Promise, reporter_state};
+ghost use Rattle.command.specs.Written.{AreHanded};
 
 use crate::plan::decide;
 use crate::status::Status;
@@ -25,9 +26,10 @@ pub fn run<F: Files, O: Sink, E: Sink>(
     errs: &mut E,
     reporters: &mut Vec<Box<dyn Reporter>>,
 ) -> Status
-    ensures { Promise files.old files.new (record {
+    ensures { Promise files.old files.new (AreHanded O.write_gives E.write_gives out.old out.new errs.old errs.new) (record {
       words = map string_bytes words.now;
       told = F.contents files.old;
+      readable = F.readable files.old;
       failed_before = F.failed files.old;
       failed_after = F.failed files.new;
       reporters_before = map (λ b. reporter_state (called b) (rendered b) (taken b)) reporters.old.items;

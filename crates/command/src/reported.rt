@@ -29,7 +29,7 @@ fn files_with(alloc: Global, program: &[u8]) -> Result<MemFiles, AllocError>
 }
 
 /// The reports of the fixed checker over a program, judged as files with these contents are. A program that were refused would end
-/// like want of memory; of generated ones it is seen in tests that they aren't.
+/// like want of memory: no clause says that no generated one is, and none of the numbers in `cases/` gives one that is.
 pub(crate) fn program_reports(alloc: Global, program: &[u8]) -> Result<Vec<Report>, AllocError>
     ensures { IfOk result (λ reports. AreReportsOf program.now reports.items) }
 {

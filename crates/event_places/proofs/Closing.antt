@@ -32,7 +32,7 @@ use Rattle.event_places.specs.Bodies.{AreChunksOf, AreOfGrammar, EndsAt}
 use Rattle.event_places.specs.Standing.{StandsIn, StandInFiles}
 use Rattle.event_places.proofs.Braces.{IsCalm, opened, closed-last}
 use Rattle.event_places.proofs.Calm.{calm-block}
-use Rattle.event_places.proofs.Functions.{Each, each-map, IsFunctionOf, text-functions, function-at}
+use Rattle.event_places.proofs.Functions.{Each, each-map, each-more, IsFunctionOf, text-functions, function-at}
 
 -- the tokens of a line, and those behind it
 pub front : (l : Line) (low high : ℕ) (ts rest : List Token) → Stands l low high ts rest → (own : List Token) × (ts ≡ own ++ rest)
@@ -172,18 +172,14 @@ module _ (tokens : List Token) (end : ℕ) (rises : Rises 0 tokens end) where
   functions-end : (known : Names) (v : Scopes) (es : Nodes) → AreChunksOf known (syntaxes_of es) → (low high : ℕ) (ts rest : List Token) → Stands (row_line es) low high ts rest → Segment tokens ts → Each Ends (functions_in v es)
   functions-end known v no_more h low high ts rest s g = tt
   functions-end known v (more e es) h low high ts rest (OfBoth {middle = middle} {us = us} a b) g =
-      by (defined_in v e) refl (functions-end (declared (syntax_of e) known) (after v Plain (flat e)) es h.1 middle high us rest b (behind-line tokens (line_of e) low middle ts us a g))
-    where
-      by : (o : Option Defined) → defined_in v e ≡ o → Each Ends (functions_in (after v Plain (flat e)) es)
-          → Each Ends (if_there o (functions_in (after v Plain (flat e)) es) (λ f. f ∷ functions_in (after v Plain (flat e)) es))
-      by None n k = k
-      by (Some f) n k = (function-ends known v e f h.0 low middle ts us a g n, k)
+      each-more Ends (defined_in v e) (functions_in (after v Plain (flat e)) es) (λ f n. function-ends known v e f h.0 low middle ts us a g n)
+      (functions-end (declared (syntax_of e) known) (after v Plain (flat e)) es h.1 middle high us rest b (behind-line tokens (line_of e) low middle ts us a g))
 
 -- in its text, each function ends so
 abbrev EndsIn : ℕ → Text → Defined → Type 0
 EndsIn file t f = (f.file ≡ file) × EndsAt t.tokens f.body (closing_brace t.tokens (first_of f.body))
 
-each-two : (R S : Defined → Type 0) (fs : List Defined) → Each R fs → Each S fs → Each (λ f. R f × S f) fs
+pub each-two : (R S : Defined → Type 0) (fs : List Defined) → Each R fs → Each S fs → Each (λ f. R f × S f) fs
 each-two R S [] h k = tt
 each-two R S (f ∷ fs) h k = ((h.0, k.0), each-two R S fs h.1 k.1)
 

@@ -1,4 +1,4 @@
--- The texts of files stand in them, are of the grammar, and have the tables of their trees.
+-- The texts of files stand in them, are of the grammar, have the tables of their trees, and types.
 use Rattle.std.proofs.Common.{◌≡◌, ◌+◌, ℕ, zero, suc, List, [], ◌∷◌, length, slice_get, Option, None, Some, sym, subst, arith}
 use Rattle.c_grammar.specs.Names.{Names}
 use Rattle.c_grammar.specs.UnitGrammar.Grammar.{AreParses}
@@ -13,11 +13,12 @@ use Rattle.c_tree.specs.TokenPlaces.{AreOfFile, StandInFile}
 use Rattle.c_tree.specs.declared.token.Token.{Token}
 use Rattle.request_files.specs.Meanings.{IsSource, HaveTexts}
 use Rattle.request_files.proofs.Unique.KeptTokens.{rises_stripped, tokens_rise}
-use Rattle.type_rules.specs.Unit.{table_by}
+use Rattle.type_rules.specs.Definition.{first_fault}
+use Rattle.type_rules.specs.Unit.{places_of, table_by}
 use Rattle.typed_unit.specs.Places.{StandOver}
 use Rattle.typed_unit.specs.Texts.{Text}
 use Rattle.event_places.specs.Bodies.{AreChunksOf, AreOfGrammar}
-use Rattle.event_places.specs.Standing.{StandsIn, StandInFiles, HaveTheirTables}
+use Rattle.event_places.specs.Standing.{StandsIn, StandInFiles, HaveTheirTables, AreTyped}
 
 tokens-of-file : (number : ℕ) (names : List (List ℕ)) (before : ℕ) (ls : List Lexeme) (ts : List Token) → AreTokens number names before ls ts → AreOfFile number ts
 tokens-of-file number names before [] [] a = tt
@@ -43,7 +44,7 @@ parsed tokens known (more e es) [] h = absurd h
 parsed tokens known (more e es) (c ∷ chunks) h = (h.0.parse.well, parsed tokens (declared e known) es chunks h.1)
 
 abbrev IsText : ℕ → Text → Type 0
-IsText file t = StandsIn file t × AreChunksOf [] (syntaxes_of t.trees) × (t.table ≡ table_by t.trees)
+IsText file t = StandsIn file t × AreChunksOf [] (syntaxes_of t.trees) × (t.table ≡ table_by t.trees) × (first_fault (places_of t.trees) ≡ None)
 
 source-stands : (number : ℕ) (word : List ℕ) (before names : List (List ℕ)) (bytes : List ℕ) (t : Text) → IsSource number word before names bytes t → IsText number t
 source-stands number word before names bytes t s =
@@ -55,6 +56,7 @@ source-stands number word before names bytes t s =
       },
       parsed (stripped s.list.all) [] (syntaxes_of t.trees) s.typed.trees_are.bounds s.typed.trees_are.parses.parses,
       s.table,
+      s.typed.fine,
     )
 
 texts-from : (number : ℕ) (before names words contents : List (List ℕ)) (ts : List Text) → HaveTexts number before names words contents ts → (i : ℕ) (t : Text) → slice_get ts i ≡ Some t → IsText (number + i) t
@@ -72,8 +74,8 @@ texts-from number before names (word ∷ words) [] ts h i t e = absurd h
 texts-from number before names (word ∷ words) (b ∷ bs) [] h i t e = absurd h
 
 -- THE TEXTS OF FILES
-pub texts-stand : (before names words contents : List (List ℕ)) (ts : List Text) → HaveTexts 0 before names words contents ts → StandInFiles ts × AreOfGrammar ts × HaveTheirTables ts
-texts-stand before names words contents ts h = (λ i t e. (at i t e).0, λ i t e. (at i t e).1, λ i t e. (at i t e).2)
+pub texts-stand : (before names words contents : List (List ℕ)) (ts : List Text) → HaveTexts 0 before names words contents ts → StandInFiles ts × AreOfGrammar ts × HaveTheirTables ts × AreTyped ts
+texts-stand before names words contents ts h = (λ i t e. (at i t e).0, λ i t e. (at i t e).1, λ i t e. (at i t e).2, λ i t e. (at i t e).3)
   where
     at : (i : ℕ) (t : Text) → slice_get ts i ≡ Some t → IsText i t
     at i t e = let n : 0 + i ≡ i = omega arith in subst (λ m. IsText m t) n (texts-from 0 before names words contents ts h i t e)

@@ -70,11 +70,11 @@ abbrev pub Each : (Defined → Type 0) → List Defined → Type 0
 Each R [] = ⊤
 Each R (f ∷ fs) = R f × Each R fs
 
-each-both : (R : Defined → Type 0) (fs gs : List Defined) → Each R fs → Each R gs → Each R (fs ++ gs)
+pub each-both : (R : Defined → Type 0) (fs gs : List Defined) → Each R fs → Each R gs → Each R (fs ++ gs)
 each-both R [] gs h k = k
 each-both R (f ∷ fs) gs h k = (h.0, each-both R fs gs h.1 k)
 
-each-at : (R : Defined → Type 0) (fs : List Defined) (n : ℕ) (f : Defined) → Each R fs → slice_get fs n ≡ Some f → R f
+pub each-at : (R : Defined → Type 0) (fs : List Defined) (n : ℕ) (f : Defined) → Each R fs → slice_get fs n ≡ Some f → R f
 each-at R [] n f h e = cc
 each-at R (g ∷ fs) zero f h e = let s : g ≡ f = cc in subst R s h.0
 each-at R (g ∷ fs) (suc n) f h e = each-at R fs n f h.1 e
@@ -83,14 +83,15 @@ pub each-map : (R S : Defined → Type 0) → ((f : Defined) → R f → S f) �
 each-map R S g [] h = tt
 each-map R S g (f ∷ fs) h = (g f h.0, each-map R S g fs h.1)
 
+-- one definition more, where there is one
+pub each-more : (R : Defined → Type 0) (o : Option Defined) (fs : List Defined) → ((f : Defined) → o ≡ Some f → R f) → Each R fs → Each R (if_there o fs (λ f. f ∷ fs))
+each-more R None fs h k = k
+each-more R (Some f) fs h k = (h f refl, k)
+
 functions-placed : (P : Place → Type 0) (v : Scopes) (es : Nodes) → Places P (row_line es) → Each (IsPlaced P) (functions_in v es)
 functions-placed P v no_more h = tt
-functions-placed P v (more e es) h = by (defined_in v e) refl (functions-placed P (after v Plain (flat e)) es h.1)
-  where
-    by : (o : Option Defined) → defined_in v e ≡ o → Each (IsPlaced P) (functions_in (after v Plain (flat e)) es)
-        → Each (IsPlaced P) (if_there o (functions_in (after v Plain (flat e)) es) (λ f. f ∷ functions_in (after v Plain (flat e)) es))
-    by None n a = a
-    by (Some f) n a = (function-placed P v e f h.0 n, a)
+functions-placed P v (more e es) h =
+    each-more (IsPlaced P) (defined_in v e) (functions_in (after v Plain (flat e)) es) (λ f n. function-placed P v e f h.0 n) (functions-placed P (after v Plain (flat e)) es h.1)
 
 -- a token of this file stands there
 abbrev pub IsThere : ℕ → List Token → Place → Type 0

@@ -1,5 +1,6 @@
 pub mod Lines
 pub mod Items
+pub mod EachNode
 pub mod Trees
 pub mod Tokens
 pub mod Functions
@@ -12,4 +13,16 @@ pub mod Calm
 pub mod Closing
 pub mod Spelled
 pub mod Spelling
+pub mod Bases
+pub mod Formals
+pub mod Objects
+pub mod Holes
+pub mod Passing
+pub mod Events
+pub mod Frames
+pub mod Slots
+pub mod Scoping
+pub mod Declared
+pub mod OwnTokens
+pub mod TakenTrees
 pub mod Files

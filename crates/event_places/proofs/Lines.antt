@@ -1,14 +1,14 @@
--- The places that stand in a line of the grammar, where the line stands over tokens.
-use Rattle.std.proofs.Common.{◌≡◌, ℕ, List, [], ◌∷◌, ◌++◌, Option, None, Some, inl, inr, refl, sym, ap, subst}
+-- The places that stand in a line of the grammar, where the line stands over tokens; and what passes from a line to its parts.
+use Rattle.std.proofs.Common.{◌≡◌, ℕ, List, [], ◌∷◌, ◌++◌, Option, None, Some, inl, inr, refl, sym, subst}
 use Rattle.std.specs.Prelude.{⊤}
 use Rattle.c_grammar.specs.CPlaces.Lines.{Line, nothing, kept, all_kept, fixed, at, numbered, names, ◌⨾◌, unary_line, line_of, declarator_line, declared_token, declarator_token}
 use Rattle.c_grammar.specs.CPlaces.Stands.{Stands, OfNothing, OfKept, OfAll, OfFixed, OfPlace, OfNumber, OfName, OfBoth}
-use Rattle.c_tree.specs.PathSubjects.Subjects.{first_of}
+use Rattle.c_tree.specs.PathSubjects.Subjects.{first_of, tree_place}
 use Rattle.c_tree.specs.declared.operator.UnaryOp.{UnaryOp}
 use Rattle.c_tree.specs.declared.operator.UnaryOp.TheVariants as unary
 use Rattle.c_tree.specs.declared.place.Place.{Place}
 use Rattle.c_tree.specs.declared.token.Token.{Token}
-use Rattle.c_tree.specs.Node.{Node, node, Primary, Operation, Initializer, Specifier, Declarator, Part, Outer, Statement, Iteration, Jump, Ident, DeclaratorShape, Named, Nested, Unnamed}
+use Rattle.c_tree.specs.Node.{Node, node, Primary, Operation, Initializer, Specifier, Declarator, Part, Outer, Statement, Iteration, Jump, Ident, Init, DeclaratorShape, Named, Nested, Unnamed}
 use Rattle.flow_graph.specs.CPaths.Membership.{Among}
 
 -- the node is the identifier of a declared token
@@ -66,19 +66,25 @@ places-map P Q g (names None n) h = h
 places-map P Q g (names (Some t) n) h = h
 places-map P Q g (l ⨾ m) h = (places-map P Q g l h.0, places-map P Q g m h.1)
 
+-- A PROPERTY OF LINES PASSES DOWN: the parts of a line have it, and so has the identifier of the name that a declarator declares
+pub record PassesDown (R : Line → Type 0) : Type 0 where
+  pub front : {l m : Line} → R (l ⨾ m) → R l
+  pub back : {l m : Line} → R (l ⨾ m) → R m
+  pub identifier : (declarator name : Node) → R (line_of declarator ⨾ names (declared_token declarator) name) → R (line_of name)
+
 -- the operand of an operator before or behind it
-pub operand-of : (P : Place → Type 0) (op : UnaryOp) (l : Line) → Places P (unary_line op l) → Places P l
-operand-of P unary.PostInc l h = h.0
-operand-of P unary.PostDec l h = h.0
-operand-of P unary.PreInc l h = h.1
-operand-of P unary.PreDec l h = h.1
-operand-of P unary.AddressOf l h = h.1
-operand-of P unary.Deref l h = h.1
-operand-of P unary.Plus l h = h.1
-operand-of P unary.Minus l h = h.1
-operand-of P unary.BitNot l h = h.1
-operand-of P unary.Not l h = h.1
-operand-of P unary.Sizeof l h = h.1
+pub operand-of : (R : Line → Type 0) → PassesDown R → (op : UnaryOp) (l : Line) → R (unary_line op l) → R l
+operand-of R d unary.PostInc l h = d.front h
+operand-of R d unary.PostDec l h = d.front h
+operand-of R d unary.PreInc l h = d.back h
+operand-of R d unary.PreDec l h = d.back h
+operand-of R d unary.AddressOf l h = d.back h
+operand-of R d unary.Deref l h = d.back h
+operand-of R d unary.Plus l h = d.back h
+operand-of R d unary.Minus l h = d.back h
+operand-of R d unary.BitNot l h = d.back h
+operand-of R d unary.Not l h = d.back h
+operand-of R d unary.Sizeof l h = d.back h
 
 -- the token that a declarator declares
 mutual
@@ -99,7 +105,22 @@ mutual
   declared-by P (Nested pointers inner suffixes) t h e = declared-at P inner t h.0.0.1 e
   declared-by P (Unnamed pointers suffixes) t h e = cc
 
--- and the name that stands for it
-pub name-at : (P : Place → Type 0) (o : Option Token) (name : Node) → ((t : Token) → o ≡ Some t → P t.place) → Places P (names o name) → P (first_of name)
-name-at P None name g h = absurd h
-name-at P (Some t) name g h = subst P (sym (ap first_of h.1)) (g t refl)
+-- and the identifier that stands for it
+identifier-at : (P : Place → Type 0) (o : Option Token) (name : Node) → ((t : Token) → o ≡ Some t → P t.place) → Places P (names o name) → Places P (line_of name)
+identifier-at P None name g h = absurd h
+identifier-at P (Some t) name g h = subst (λ (n : Node). Places P (line_of n)) (sym h.1) ((g t refl, g t refl), tt)
+
+declared-identifier : (P : Place → Type 0) (declarator name : Node) → Places P (line_of declarator) → Places P (names (declared_token declarator) name) → Places P (line_of name)
+declared-identifier P declarator name h g = identifier-at P (declared_token declarator) name (λ t e. declared-at P declarator t h e) g
+
+-- the places of a line pass down
+pub places-down : (P : Place → Type 0) → PassesDown (Places P)
+places-down P = record { front = λ h. h.0; back = λ h. h.1; identifier = λ declarator name h. declared-identifier P declarator name h.0 h.1 }
+
+-- a node begins at one of them, and so does its event
+pub first-at : (P : Place → Type 0) (n : Node) → Places P (line_of n) → P (first_of n)
+first-at P (node i p s) h = h.0.0
+
+pub tree-at : (P : Place → Type 0) (n : Node) → Places P (line_of n) → P (tree_place n)
+tree-at P (node i p (Initializer (Init name declarator initial))) h = first-at P name (declared-identifier P declarator name h.0.1.0.0.0 h.0.1.0.0.1)
+tree-at P (node i p s) h = h.0.0

@@ -3,8 +3,8 @@ use Rattle.std.proofs.Common.{◌≡◌, ◌⊎◌, ℕ, suc, leb, ◌-◌, List
 use Rattle.std.proofs.lemmas.Bool.{true≢false}
 use Rattle.std.specs.Option.{option_map}
 use Rattle.c_objects.specs.Objects.{Object}
-use Rattle.c_tree.specs.Node.{Node, node}
-use Rattle.c_tree.specs.PathSubjects.Subjects.{first_of}
+use Rattle.c_tree.specs.Node.{Node}
+use Rattle.c_tree.specs.PathSubjects.Subjects.{Tree, DerefOf, first_of}
 use Rattle.c_tree.specs.declared.place.Place.{Place}
 use Rattle.c_tree.specs.declared.token.Token.{Token}
 use Rattle.c_grammar.specs.CPlaces.Lines.{line_of}
@@ -36,9 +36,10 @@ use Rattle.typed_unit.specs.Texts.{Text}
 use Rattle.typed_unit.specs.TokenSearch.Numbers.{from}
 use Rattle.event_places.specs.Standing.{StandInFiles, HaveTheirTables}
 use Rattle.event_places.specs.Theorems.{IsReportedThere, is_declaration}
+use Rattle.event_places.proofs.EachNode.{own, of-node}
 use Rattle.event_places.proofs.Functions.{function-stands}
 use Rattle.event_places.proofs.Items.{of-flow}
-use Rattle.event_places.proofs.Lines.{Places}
+use Rattle.event_places.proofs.Lines.{Places, places-down, first-at, tree-at}
 use Rattle.event_places.proofs.Tokens.{HaveTokenAt, further, found}
 use Rattle.event_places.proofs.Trees.{Stood, flow-all}
 use Rattle.event_places.proofs.Variables.{text-variables}
@@ -73,20 +74,22 @@ close-among ts first h = by (closing 0 (from first.token ts)) refl
     by None e = h
     by (Some p) e = let x = closing-among 0 (from first.token ts) p e in record { token = x.token; among = from-among first.token ts x.token x.among; place = x.place }
 
-first-place : (P : Place → Type 0) (n : Node) → Places P (line_of n) → P (first_of n)
-first-place P (node i p s) h = h.0.0
+-- the nodes of a tree have places at which tokens stand
+abbrev AtTokens : List Token → Node → Type 0
+AtTokens tokens n = Places (HaveTokenAt tokens) (line_of n)
 
--- an item stands at a token; a declared variable does where this event is a declaration
+-- so has an item; a declared variable does where this event is a declaration
 abbrev StoodAt : List Token → Event → Item → Type 0
-StoodAt tokens e = Stood (HaveTokenAt tokens) (λ x. is_declaration e ≡ true → HaveTokenAt tokens x.place)
+StoodAt tokens e = Stood (AtTokens tokens) (λ x. is_declaration e ≡ true → HaveTokenAt tokens x.place)
 
 stood-at : (tokens : List Token) (e : Event) → StoodAt tokens e (EventMark e) → HaveTokenAt tokens (event_place e)
-stood-at tokens (Evaluated s) h = h
+stood-at tokens (Evaluated (Tree n)) h = tree-at (HaveTokenAt tokens) n (own (AtTokens tokens) n h)
+stood-at tokens (Evaluated (DerefOf x)) h = first-at (HaveTokenAt tokens) x (own (AtTokens tokens) x h)
 stood-at tokens (Declared x) h = h refl
-stood-at tokens (Branched n t) h = h
-stood-at tokens (Exited function place) h = h
+stood-at tokens (Branched n t) h = tree-at (HaveTokenAt tokens) n (own (AtTokens tokens) n h)
+stood-at tokens (Exited function place) h = subst (HaveTokenAt tokens) h.1 (first-at (HaveTokenAt tokens) h.0 h.2)
 
-same-event : (a b : Event) → ◌≡◌ {A = Item} (EventMark a) (EventMark b) → a ≡ b
+pub same-event : (a b : Event) → ◌≡◌ {A = Item} (EventMark a) (EventMark b) → a ≡ b
 same-event a b e = cc
 
 -- AT A DECLARATION no rule is taken
@@ -156,10 +159,11 @@ module _ (c : Checker) (ts : List Text) (stand : StandInFiles ts) where
       → InFlow (EventMark e) (flow_of F d.place d.body) ⊎ (◌≡◌ {A = Item} (EventMark e) (EventMark (Exited d.place (closing_brace tokens (first_of d.body))))) → HaveTokenAt tokens (event_place e)
   in-definition F d tokens e places variables (inl i) =
       stood-at tokens e (of-flow (StoodAt tokens e) (EventMark e) (flow_of F d.place d.body)
-      (flow-all (HaveTokenAt tokens) (λ x. is_declaration e ≡ true → HaveTokenAt tokens x.place) F (λ n x k declares. variables declares n x k) d.place d.body places) i)
+      (flow-all (AtTokens tokens) (λ x. is_declaration e ≡ true → HaveTokenAt tokens x.place) F (λ n x k declares. variables declares n x k) d.place d.body
+      (of-node (Places (HaveTokenAt tokens)) (places-down (HaveTokenAt tokens)) d.body places)) i)
   in-definition F d tokens e places variables (inr i) =
       subst (λ (x : Event). HaveTokenAt tokens (event_place x)) (sym (same-event e (Exited d.place (closing_brace tokens (first_of d.body))) i))
-      (close-among tokens (first_of d.body) (first-place (HaveTokenAt tokens) d.body places))
+      (close-among tokens (first_of d.body) (first-at (HaveTokenAt tokens) d.body places))
 
   of-function : (f : Function) → IsDefined (functions_in ts) f → (h : Happening) → IsInText c ts f h → (is_declaration h.event ≡ true → HaveTheirTables ts) → HaveTokenAt h.tokens (event_place h.event)
   of-function f w h x tables =

@@ -11,20 +11,21 @@ use Rattle.call_graph.specs.OfPrograms.Calls.{body_called}
 use Rattle.flow_graph.specs.CPaths.BlockGraphs.{events_at, block_graphs}
 use Rattle.flow_graph.specs.CPaths.Building.{Graph, graph_of}
 use Rattle.flow_graph.specs.CPaths.Events.{Event, Exited, Item}
-use Rattle.flow_graph.specs.CPaths.Graphs.{Block}
-use Rattle.flow_graph.specs.CPaths.Occurrences.{InFlow, InEvents, InGraph}
+use Rattle.flow_graph.specs.CPaths.Fragments.{Has}
+use Rattle.flow_graph.specs.CPaths.Graphs.{Block, Calls}
+use Rattle.flow_graph.specs.CPaths.Occurrences.{InFlow, InEvents, InEnding, InGraph}
 use Rattle.flow_graph.specs.CPaths.TreeFlow.{flow_of}
 use Rattle.flow_graph.proofs.CPaths.BuiltGraphs.{built_traces}
 use Rattle.flow_graph.proofs.CPaths.BuiltTexts.{built_graph_text}
 use Rattle.flow_graph.proofs.CPaths.EngineGraphs.{blocks_have_steps}
 use Rattle.flow_graph.proofs.CPaths.SoundDrafts.{built_graph_sound}
 use Rattle.path_theory.specs.FlowGraphs.{FlowGraphs, supergraph}
-use Rattle.path_theory.specs.Marks.{EventMark}
+use Rattle.path_theory.specs.Marks.{EventMark, CallMark}
 use Rattle.path_theory.specs.Paths.{Callers, NoCaller, Waiting, Path, Begin, Skip, Go, Call, Return}
-use Rattle.path_theory.specs.Relevant.{EventOf}
+use Rattle.path_theory.specs.Relevant.{EventOf, CallOf}
 use Rattle.path_theory.specs.Supergraph.{Supergraph}
 use Rattle.path_theory.specs.Walks.{HasTraces}
-use Rattle.path_theory.proofs.BlockEvents.{IsIn, event_in_block}
+use Rattle.path_theory.proofs.BlockEvents.{IsIn, event_in_block, call_in_block}
 use Rattle.path_theory.proofs.Known.{event_of}
 use Rattle.path_theory.proofs.Splitting.{split}
 use Rattle.path_model.specs.CheckerModel.Checkers.{model}
@@ -34,7 +35,7 @@ use Rattle.path_model.specs.CheckerPrograms.Paths.{program}
 use Rattle.path_model.specs.CheckerPrograms.Roots.{followed_into, IsRootFunction}
 use Rattle.path_model.specs.CheckerPrograms.Texts.{functions_in, function_of, defines, defined_as, definition_of, flow_facts, table_of, happening, site}
 use Rattle.path_model.proofs.CheckerGraphs.Numbers.{defines-is}
-use Rattle.path_model.proofs.CheckerGraphs.SameTraces.{event_on}
+use Rattle.path_model.proofs.CheckerGraphs.SameTraces.{event_on, call_on}
 use Rattle.typed_unit.specs.Texts.{Text}
 
 -- an event that stands in a block's list, as a model names it
@@ -47,6 +48,12 @@ in-block : {E : Type 0} (g : Event → E) (e : E) (ss : List Block) (b : ℕ) �
 in-block g e [] b h = absurd h
 in-block g e (s ∷ ss) zero h = let x = in-list g e s.events h in (x.0, x.1, inl (inl x.2))
 in-block g e (s ∷ ss) (suc b) h = let x = in-block g e ss b h in (x.0, x.1, inr x.2)
+
+-- a call in which a block ends
+in-ends : (n : Node) (ss : List Block) (b c : ℕ) (es : List Event) → Has ss b es (Calls n c) → InGraph (CallMark n) ss
+in-ends n [] b c es h = cc
+in-ends n (s ∷ ss) zero c es h = let same : record { events = es; ending = Calls n c } ≡ s = cc in inl (inr (subst (λ (x : Block). InEnding (CallMark n) x.ending) same refl))
+in-ends n (s ∷ ss) (suc b) c es h = inr (in-ends n ss b c es h)
 
 -- the first definition of a function
 pub record IsDefined (ds : List Defined) (f : Function) : Type 0 where
@@ -95,11 +102,29 @@ module _ (c : Checker) (ts : List Text) where
     pub is : h ≡ happening ts f event
     pub stands : InFlow (EventMark event) (flow_of (flow_facts ts f) (definition_of ts f).place (definition_of ts f).body) ⊎ (◌≡◌ {A = Item} (EventMark event) (EventMark (Exited (definition_of ts f).place (definition_of ts f).close)))
 
-  event-in-text : (f : Function) (h : Happening) → EventOf (model c) (program c ts) f h → IsInText f h
+  pub event-in-text : (f : Function) (h : Happening) → EventOf (model c) (program c ts) f h → IsInText f h
   event-in-text f h e =
       let b = event_in_block (model c) in_blocks (event_on (model c) (program c ts) (supergraph (model c) in_blocks) same_traces e) in
       let x = in-block (happening ts f) h (graph f).blocks b.0 b.1 in
       record { event = x.0; is = x.1; stands = built_graph_text (flow_facts ts f) (definition_of ts f) (EventMark x.0) x.2 }
+
+  -- a followed call stands there too
+  pub record IsCallInText (f : Function) (s : Site) : Type 0 where
+    pub call : Node
+    pub is : s ≡ site c.depth ts f call
+    pub stands : InFlow (CallMark call) (flow_of (flow_facts ts f) (definition_of ts f).place (definition_of ts f).body)
+
+  pub call-in-text : (f g : Function) (s : Site) → CallOf (model c) (program c ts) f s g → IsCallInText f s
+  call-in-text f g s w =
+      let b = call_in_block (model c) in_blocks (call_on (model c) (program c ts) (supergraph (model c) in_blocks) same_traces w) in
+      let x = b.2 in
+      record { call = x.1; is = x.3; stands = by x.1 (built_graph_text (flow_facts ts f) (definition_of ts f) (CallMark x.1) (in-ends x.1 (graph f).blocks b.0 b.1 x.0 x.2)) }
+    where
+      -- the mark of a call is no event
+      by : (n : Node) → InFlow (CallMark n) (flow_of (flow_facts ts f) (definition_of ts f).place (definition_of ts f).body) ⊎ (◌≡◌ {A = Item} (CallMark n) (EventMark (Exited (definition_of ts f).place (definition_of ts f).close)))
+          → InFlow (CallMark n) (flow_of (flow_facts ts f) (definition_of ts f).place (definition_of ts f).body)
+      by n (inl i) = i
+      by n (inr e) = cc
 
   -- THE EVENT OF A PATH
   pub path-event : {f : Function} {k : Bool} {p q : K.Place} {b : Callers (model c) (program c ts)} → Path (model c) (program c ts) f k p b → (h : Happening) → K.Goes f p h q → IsInText f h

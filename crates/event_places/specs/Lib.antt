@@ -1,3 +1,5 @@
 pub mod Standing
 pub mod Bodies
+pub mod Naming
+pub mod Spelling
 pub mod Theorems

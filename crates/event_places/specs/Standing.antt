@@ -1,7 +1,8 @@
 -- Texts whose trees stand over their tokens, and whose tables are those of their trees: what is known of the texts of files.
-use Rattle.std.specs.Prelude.{◌≡◌, ℕ, List, Some, slice_get}
+use Rattle.std.specs.Prelude.{◌≡◌, ℕ, List, None, Some, slice_get}
 use Rattle.c_tree.specs.TokenPlaces.{StandInFile}
-use Rattle.type_rules.specs.Unit.{table_by}
+use Rattle.type_rules.specs.Definition.{first_fault}
+use Rattle.type_rules.specs.Unit.{places_of, table_by}
 use Rattle.typed_unit.specs.Places.{StandOver}
 use Rattle.typed_unit.specs.Texts.{Text}
 
@@ -17,3 +18,7 @@ StandInFiles ts = (file : ℕ) (t : Text) → slice_get ts file ≡ Some t → S
 -- each has the table that typing gives its trees
 abbrev pub HaveTheirTables : List Text → Type 0
 HaveTheirTables ts = (file : ℕ) (t : Text) → slice_get ts file ≡ Some t → t.table ≡ table_by t.trees
+
+-- and each has types
+abbrev pub AreTyped : List Text → Type 0
+AreTyped ts = (file : ℕ) (t : Text) → slice_get ts file ≡ Some t → first_fault (places_of t.trees) ≡ None

@@ -1,5 +1,6 @@
 -- THE THEOREMS as statements, which contracts can name: events stand at tokens, so rules with an action are reported; bodies end at their last
--- tokens; a tree is spelled by its own tokens. First of texts that are as they are asked to be, and behind that of the texts of files.
+-- tokens; a tree is spelled by its own tokens; and no frame knows another function's local. First of texts that are as they are asked to be, if
+-- anything is asked of them, and behind that of the texts of files.
 use Rattle.std.specs.Prelude.{◌≡◌, ℕ, List, ◌++◌, Bool, true, false, Option, None, Some, slice_get}
 use Rattle.c_grammar.specs.CPlaces.Stands.{StandsOver}
 use Rattle.c_objects.specs.Objects.{Object}
@@ -11,12 +12,15 @@ use Rattle.c_tree.specs.Tokens.{tokens_of}
 use Rattle.c_tree.specs.declared.token.Token.{Token}
 use Rattle.flow_graph.specs.CPaths.EventPlaces.{event_place}
 use Rattle.flow_graph.specs.CPaths.Events.{Event, Declared}
+use Rattle.hole_matching.specs.Callouts.{is_local}
+use Rattle.hole_matching.specs.Matching as matching
+use Rattle.hole_matching.specs.Matching.{Binding, slot}
 use Rattle.hole_matching.specs.Message.{Source, tree_tokens}
-use Rattle.metal_tree.specs.MetalMachines.Machine.{Piece}
+use Rattle.metal_tree.specs.MetalMachines.Machine.{Dest, Item, Piece}
 use Rattle.path_model.specs.CheckerModel.Checkers.{model, source_at}
-use Rattle.path_model.specs.CheckerModel.Choices.{Taken, taken, taken_global}
+use Rattle.path_model.specs.CheckerModel.Choices.{Taken, State as ObjectState, applied, is_exit, scene, taken, taken_global}
 use Rattle.path_model.specs.CheckerModel.Happenings.{Function, Happening}
-use Rattle.path_model.specs.CheckerModel.Reports.{Checker, token_at, report_at}
+use Rattle.path_model.specs.CheckerModel.Reports.{Checker, token_at, report_at, source_of}
 use Rattle.path_model.specs.CheckerPrograms.Paths.{program}
 use Rattle.path_model.specs.CheckerPrograms.Texts.{functions_in, tokens_of as tokens_in, with_close}
 use Rattle.path_theory.specs.Actions.{Actions, Did, State, fold}
@@ -28,7 +32,9 @@ use Rattle.type_rules.specs.Options.{◌>?◌}
 use Rattle.typed_unit.specs.Texts.{Text}
 use Rattle.request_files.specs.Meanings.{HaveTexts}
 use Rattle.event_places.specs.Bodies.{AreOfGrammar, EndsAt}
-use Rattle.event_places.specs.Standing.{StandInFiles, HaveTheirTables}
+use Rattle.event_places.specs.Naming.{IsNamedIn, IsDeclaredIn}
+use Rattle.event_places.specs.Spelling.{AreSpelled}
+use Rattle.event_places.specs.Standing.{StandInFiles, HaveTheirTables, AreTyped}
 
 -- the report that a rule has at the event of a path, at the token that stands there
 pub record IsReportedThere (c : Checker) (ts : List Text) (f : Function) (h : Happening) (o : Option Object) (t : Taken) (pieces : List Piece) : Type 0 where
@@ -74,16 +80,44 @@ TreesAreSpelledByTheirTokens = (w : Source) (file : ℕ) (n : Node) (before ts r
     → StandInFile file w.tokens → w.tokens ≡ before ++ ts → StandsOver n low high ts rest
     → (ts ≡ tree_tokens w n ++ rest) × (symbols_of (tree_tokens w n) ≡ tokens_of (syntax_of n))
 
--- THE TEXTS OF FILES stand in them, are of the grammar, and have the tables of their trees: so all of this holds of them
+-- SO IS EACH TREE THAT A HOLE TAKES at an event of a path, by its own tokens, which stand in the unit of the event
+abbrev pub TakenTreesAreSpelled : Type 0
+TakenTreesAreSpelled = (c : Checker) (ts : List Text) → StandInFiles ts
+    → (f : Function) (k : Bool) (p q : (program c ts).Place) (b : Callers (model c) (program c ts)) (P : Path (model c) (program c ts) f k p b) (h : Happening) → (program c ts).Goes f p h q
+    → (d : Dest) (items : List Item) (binding : Binding) → applied (scene c.machine c.depth h f) h.event d items ≡ Some binding
+    → (hole : ℕ) (x : matching.Taken) → slot hole binding ≡ Some x → AreSpelled (source_of c h) x
+
+-- NO FRAME KNOWS ANOTHER FUNCTION'S LOCAL: where an object has a known state on a path, and its variable is one of a block, the function of the path's
+-- last frame names that variable
+abbrev pub KnownLocalsAreOwn : Type 0
+KnownLocalsAreOwn = (c : Checker) (ts : List Text)
+    → (f : Function) (k : Bool) (p : (program c ts).Place) (b : Callers (model c) (program c ts)) (P : Path (model c) (program c ts) f k p b)
+    → (o : Object) (x : ObjectState) → (after (model c) (program c ts) P).here o ≡ Some x → is_local o.base ≡ true → IsNamedIn ts f o.base
+
+-- SO AT THE END OF A CALLED FUNCTION an object that takes a rule is one of a local that the function names
+abbrev pub EndsAskOwnLocals : Type 0
+EndsAskOwnLocals = (c : Checker) (ts : List Text)
+    → (f : Function) (p q : (program c ts).Place) (b : Callers (model c) (program c ts)) (P : Path (model c) (program c ts) f false p b) (h : Happening) → (program c ts).Goes f p h q
+    → is_exit h.event ≡ true → (o : Object) (t : Taken)
+    → taken c.machine c.depth h f false (after (model c) (program c ts) P).global o (source_at c.depth h o >? (after (model c) (program c ts) P).here) ≡ Some t
+    → (is_local o.base ≡ true) × IsNamedIn ts f o.base
+
+-- THE TEXTS OF FILES stand in them, are of the grammar, have the tables of their trees, and types: so all of this holds of them
 abbrev pub TextsOfFilesStand : Type 0
 TextsOfFilesStand = (before names words contents : List (List ℕ)) (ts : List Text) → HaveTexts 0 before names words contents ts
-    → StandInFiles ts × AreOfGrammar ts × HaveTheirTables ts
+    → StandInFiles ts × AreOfGrammar ts × HaveTheirTables ts × AreTyped ts
 
 -- OF FILES each event of a path stands at a token
 abbrev pub EventsOfFilesStandAtTokens : Type 0
 EventsOfFilesStandAtTokens = (before names words contents : List (List ℕ)) (c : Checker) (ts : List Text) → HaveTexts 0 before names words contents ts
     → (f : Function) (k : Bool) (p q : (program c ts).Place) (b : Callers (model c) (program c ts)) (P : Path (model c) (program c ts) f k p b) (h : Happening) → (program c ts).Goes f p h q
     → (token : Token) × (token_at (event_place h.event) h.tokens ≡ Some token)
+
+-- OF FILES the function declares each such variable in its body
+abbrev pub KnownLocalsOfFilesAreDeclared : Type 0
+KnownLocalsOfFilesAreDeclared = (before names words contents : List (List ℕ)) (c : Checker) (ts : List Text) → HaveTexts 0 before names words contents ts
+    → (f : Function) (k : Bool) (p : (program c ts).Place) (b : Callers (model c) (program c ts)) (P : Path (model c) (program c ts) f k p b)
+    → (o : Object) (x : ObjectState) → (after (model c) (program c ts) P).here o ≡ Some x → is_local o.base ≡ true → IsDeclaredIn ts f o.base
 
 -- the rule that an object, or the global state, takes at an event in this state
 abbrev pub takes : (c : Checker) → Happening → State (model c) → Option Object → Option Taken

@@ -18,4 +18,6 @@ pub mod GraphBodies
 pub mod EngineGraphs
 pub mod ExampleGraphs
 pub mod JoinedBlocks
+pub mod MappedLists
+pub mod ForwardedWalks
 pub mod BuiltTexts

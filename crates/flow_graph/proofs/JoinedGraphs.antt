@@ -27,7 +27,7 @@ set_length [] b s = refl
 set_length (x ∷ g) zero s = refl
 set_length (x ∷ g) (suc b) s = ap suc (set_length g b s)
 
-sound_at : (n : ℕ) (g : List Block) (b : ℕ) (s : Block) → slice_get g b ≡ Some s → AreSound n g → IsSoundEnd n s.events s.ending
+pub sound_at : (n : ℕ) (g : List Block) (b : ℕ) (s : Block) → slice_get g b ≡ Some s → AreSound n g → IsSoundEnd n s.events s.ending
 sound_at n [] b s e h = cc
 sound_at n (x ∷ g) zero s e h = let q : x ≡ s = cc in subst (λ (s : Block). IsSoundEnd n s.events s.ending) q h.0
 sound_at n (x ∷ g) (suc b) s e h = sound_at n g b s e h.1
@@ -52,7 +52,7 @@ either_events i [] fs h = inr h
 either_events i (e ∷ es) fs (inl h) = inl (inl h)
 either_events i (e ∷ es) fs (inr h) = elim (either_events i es fs h) [ inl k ↦ inl (inr k) | inr k ↦ inr k ]
 
-text_at : (g : List Block) (b : ℕ) (s : Block) (i : Item) → slice_get g b ≡ Some s → InEvents i s.events ⊎ InEnding i s.ending → InGraph i g
+pub text_at : (g : List Block) (b : ℕ) (s : Block) (i : Item) → slice_get g b ≡ Some s → InEvents i s.events ⊎ InEnding i s.ending → InGraph i g
 text_at [] b s i e h = cc
 text_at (x ∷ g) zero s i e h = let q : s ≡ x = cc in inl (subst (λ (s : Block). InEvents i s.events ⊎ InEnding i s.ending) q h)
 text_at (x ∷ g) (suc b) s i e h = inr (text_at g b s i e h)

@@ -5,6 +5,8 @@ mod Yielding
 mod Placing
 mod Whole
 mod JoinedGraphs
+mod RedirectedGraphs
+mod FinalWays
 mod LabelLists
 mod BlockLists
 mod Arms

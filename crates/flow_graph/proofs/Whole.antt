@@ -18,7 +18,7 @@ use Rattle.flow_graph.specs.declared.statements.BodyBuilder.{BodyBuilder}
 use Rattle.flow_graph.specs.Values.{drafts_of, made}
 use Rattle.flow_graph.specs.Statements.{IsPlaced}
 use Rattle.flow_graph.specs.Bodies.{HasTraces, StandsInText}
-use Rattle.flow_graph.specs.Joins.{IsJoined}
+use Rattle.flow_graph.specs.Joins.{IsJoined, Replaces}
 
 abbrev pub graph_is : List Block → ℕ → Graph
 graph_is bs entry = record { blocks = bs; entry = entry }
@@ -53,19 +53,32 @@ is_graph_of F f close body first last drafts dead exit entry cases bs at_dead at
     let entry_is : entry ≡ m.block = placed.block ∙ ap (λ (x : Placed). x.block) same in
     ap (λ xs. graph_is xs entry) blocks ∙ ap (λ e. graph_is (map (settled m.labels) m.drafts) e) entry_is
 
--- what is promised of a graph whose blocks were joined
-module _ (F : Facts) (d : Definition) (g : Graph) (bs cs : List Block) (entry : ℕ) (built : graph_is bs entry ≡ graph_of F d) (joined : IsJoined bs cs) (blocks : g.blocks ≡ cs) (begins : g.entry ≡ entry) where
-  same : g ≡ graph_is cs entry
-  same = ap (λ (xs : List Block). graph_is xs g.entry) blocks ∙ ap (λ n. graph_is cs n) begins
+-- what stands in place of joined blocks stands in place of those before
+pub joined_replaced : (bs cs : List Block) (entry : ℕ) (g : Graph) → IsJoined bs cs → Replaces (graph_is cs entry) g → Replaces (graph_is bs entry) g
+joined_replaced bs cs entry g joined r = record {
+  traces = λ l. (λ t. (r.traces l).0 ((joined.traces entry l).0 t), λ t. (joined.traces entry l).1 ((r.traces l).1 t));
+  sound = λ s. r.sound (joined.sound entry s);
+  text = λ i h. joined.text i (r.text i h);
+}
 
+-- what stands in place of that
+pub replaced_then : (x y z : Graph) → Replaces x y → Replaces y z → Replaces x z
+replaced_then x y z h k = record {
+  traces = λ l. (λ t. (k.traces l).0 ((h.traces l).0 t), λ t. (h.traces l).1 ((k.traces l).1 t));
+  sound = λ s. k.sound (h.sound s);
+  text = λ i m. h.text i (k.text i m);
+}
+
+-- what is promised of a graph that stands in place of the one that was built
+module _ (F : Facts) (d : Definition) (g : Graph) (bs : List Block) (entry : ℕ) (built : graph_is bs entry ≡ graph_of F d) (kept : Replaces (graph_is bs entry) g) where
   plain_traces : (l : List Item) → Trace F d l ↔ GraphTrace bs entry l
   plain_traces l = subst (λ (x : Graph). Trace F d l ↔ GraphTrace x.blocks x.entry l) (sym built) (built_traces F d l)
 
   pub has_traces : HasTraces g F d
-  has_traces = subst (λ (x : Graph). HasTraces x F d) (sym same) (λ l. (λ t. (joined.traces entry l).0 ((plain_traces l).0 t), λ t. (plain_traces l).1 ((joined.traces entry l).1 t)))
+  has_traces = λ l. (λ t. (kept.traces l).0 ((plain_traces l).0 t), λ t. (plain_traces l).1 ((kept.traces l).1 t))
 
   pub is_sound : IsSoundGraph g.blocks g.entry
-  is_sound = subst (λ (x : Graph). IsSoundGraph x.blocks x.entry) (sym same) (joined.sound entry (subst (λ (x : Graph). IsSoundGraph x.blocks x.entry) (sym built) (built_graph_sound F d)))
+  is_sound = kept.sound (subst (λ (x : Graph). IsSoundGraph x.blocks x.entry) (sym built) (built_graph_sound F d))
 
   pub stands_in_text : StandsInText g F d
-  stands_in_text = λ i h. built_graph_text F d i (subst (λ (x : Graph). InGraph i x.blocks) built (joined.text i (subst (λ (xs : List Block). InGraph i xs) blocks h)))
+  stands_in_text = λ i h. built_graph_text F d i (subst (λ (x : Graph). InGraph i x.blocks) built (kept.text i h))

@@ -23,3 +23,4 @@ pub mod Exits
 pub mod SoundGraphs
 pub mod Bodies
 pub mod BlockGraphs
+pub mod Forwarders

@@ -6,5 +6,8 @@ pub mod Defaults
 pub mod Statements
 pub mod Bodies
 pub mod Joins
+pub mod Targets
+pub mod Finals
+pub mod KeptBlocks
 pub mod CPaths
 pub mod ReachedBlocks

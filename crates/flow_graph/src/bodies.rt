@@ -4,20 +4,23 @@ ghost use Rattle.std.specs.Prelude.{IfOk};
 ghost use Rattle.c_tree.specs.Views.{node_of};
 ghost use Rattle.flow_graph.specs.CPaths.SoundGraphs.{IsSoundGraph};
 ghost use Rattle.flow_graph.specs.Bodies.{HasTraces, StandsInText};
+ghost use Rattle.flow_graph.specs.ReachedBlocks.Reached.{AllReached};
 ghost use Rattle.flow_graph.specs.Seen.{graph_in};
 
 use crate::draft::DraftEnd;
 use crate::facts::Facts;
+use crate::forwarders::straighten;
 use crate::graph::{End, Graph};
 use crate::joining::join_all;
+use crate::kept_blocks::keep_reached;
 use crate::settling::settle_all;
 use crate::statements::{Ahead, BodyBuilder};
 use c_tree::{Place, Tree};
 use std::alloc::{AllocError, Global};
 
 /// The flow graph of a function whose name is defined at this place, with this body and this closing brace (ISO 9899:1990,
-/// 6.7.1). Its traces are exactly the function's; what stands in it stands in the function's text. A block without a way on
-/// stands for the target of a `break` or a `continue` with nothing round it that it could leave.
+/// 6.7.1). Its traces are exactly the function's; what stands in it stands in the function's text, and control comes to each of its
+/// blocks. A block without a way on stands for the target of a `break` or a `continue` with nothing round it that it could leave.
 pub fn build_body<'a, F: Facts>(
     alloc: Global,
     facts: &F,
@@ -28,6 +31,7 @@ pub fn build_body<'a, F: Facts>(
     ensures traces { IfOk result (λ g. HasTraces (graph_in g) (F.known facts.now) (record { place = function; body = node_of body.now; close = close })) }
     ensures sound { IfOk result (λ g. IsSoundGraph (graph_in g).blocks (graph_in g).entry) }
     ensures text { IfOk result (λ g. StandsInText (graph_in g) (F.known facts.now) (record { place = function; body = node_of body.now; close = close })) }
+    ensures reached { IfOk result (λ g. AllReached (graph_in g)) }
 {
     let mut builder = BodyBuilder::new(alloc);
     let dead = builder
@@ -47,5 +51,7 @@ pub fn build_body<'a, F: Facts>(
     if blocks.len() > u32::MAX as usize {
         return Err(AllocError);
     }
-    Ok(Graph::new(blocks, entry))
+    let straight = straighten(alloc, blocks, entry)?;
+    let graph = keep_reached(alloc, &straight)?;
+    Ok(graph)
 }

@@ -47,7 +47,7 @@ fn count_ways(alloc: Global, blocks: &[Block], entry: u32) -> Result<Vec<u8>, Al
 }
 
 /// The one block that an end leads to.
-fn only_target(end: &End) -> Option<u32>
+pub(crate) fn only_target(end: &End) -> Option<u32>
     ensures { IfSome result (λ target. ending_of end.now ≡ ToAny (target ∷ [])) }
 {
     match end {

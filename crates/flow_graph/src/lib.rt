@@ -28,15 +28,18 @@ mod statements;
 
 // whole graphs
 mod bodies;
+mod forwarders;
 mod joining;
+mod kept_blocks;
 mod reached_blocks;
 mod settling;
+mod targets;
 
 pub use bodies::build_body;
 pub use c_paths::{
     built_graphs_are_sound, built_graphs_have_the_traces, built_graphs_stand_in_the_text,
     finished_lists_are_all, graphs_have_the_traces, joined_blocks_keep_the_traces,
-    listed_are_traces,
+    listed_are_traces, redirected_ends_keep_the_traces,
 };
 pub use event::{Event, Variable};
 pub use facts::Facts;

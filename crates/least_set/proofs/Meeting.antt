@@ -1,7 +1,7 @@
 -- What waiters and ends give together, while the log grows.
 use Rattle.std.proofs.Common.{◌≡◌, ℕ, ◌<◌, List, [], ◌∷◌, ◌++◌, Contains, Some, length, sym, ◌∙◌, subst, slice_get}
 use Rattle.std.proofs.lemmas.Option.{same_Some}
-use Rattle.least_set.specs.Logs.{Adds, SomeGives}
+use Rattle.least_set.specs.Logs.{Adds, IsExactly, SomeGives}
 use Rattle.least_set.specs.Indexes.{Extends}
 use Rattle.least_set.specs.TwoPremises.{Answers, Kept, Met}
 use Rattle.least_set.specs.declared.two_premises.Wait.{Wait}
@@ -10,8 +10,8 @@ use Rattle.least_set.proofs.Keyed.{extends_nothing, extends_more}
 
 module _ {M W : Type 0} (Wakes : W → M → M → Type 0) where
   -- the end that stands at the place
-  pub met_here : (w : W) (j : ℕ) (e : M) {old new : List M} → slice_get old j ≡ Some e → Adds (Wakes w e) old new → Adds (Met Wakes old w j) old new
-  met_here w j e is a = adds_same a (λ c s. (e, is, s)) (λ c s. subst (λ y. Wakes w y c) (same_Some _ _ (sym s.1 ∙ is)) s.2)
+  pub exactly_met : (w : W) (j : ℕ) (e : M) (log found : List M) → slice_get log j ≡ Some e → IsExactly found (Wakes w e) → IsExactly found (Met Wakes log w j)
+  exactly_met w j e log found is x = (λ c m. (e, is, x.0 c m), λ c s. x.1 c (subst (λ y. Wakes w y c) (same_Some _ _ (sym s.1 ∙ is)) s.2))
 
   -- a place says the same of a longer log
   pub met_before : {P : M → Type 0} (w : W) (j : ℕ) {old mid new : List M} → Adds P old mid → j < length old → Adds (Met Wakes mid w j) mid new → Adds (Met Wakes old w j) mid new

@@ -1,11 +1,19 @@
 -- One value is worked off.
-use Rattle.std.proofs.Common.{◌≡◌, ℕ, List, Contains, Some, length, refl, sym, ◌∙◌, subst, slice_get, ◌⊎◌, inl, inr}
+use Rattle.std.proofs.Common.{◌≡◌, ◌↔◌, ℕ, Result, Ok, Err, IfOk, List, Contains, Some, length, refl, sym, ◌∙◌, subst, slice_get, ◌⊎◌, inl, inr}
 use Rattle.std.proofs.lemmas.Option.{same_Some}
 use Rattle.least_set.specs.Logs.{IsExactly, SomeGives, Adds}
 use Rattle.least_set.specs.Indexes.{Extends, AllBelow}
-use Rattle.least_set.specs.TwoPremises.{Answers, Kept, Met, Gives, GivesNext, GivesAnswer, GivesWoken, Processed}
+use Rattle.least_set.specs.TwoPremises.{Answers, Enters, Kept, Met, Gives, GivesNext, GivesAnswer, GivesWoken, Processed}
+use Rattle.least_set.specs.declared.two_premises.Entered.{Entered}
 use Rattle.least_set.specs.declared.two_premises.Wait.{Wait}
 use Rattle.least_set.proofs.Growing.{adds_both, stays}
+
+-- what the value at a place of the log gives by itself
+pub enters : {M K W E : Type 0} (Goes : M → M → Type 0) (Waits : M → K → W → Type 0) (Ends : M → K → Type 0) (r : Result (Entered M K W) E) (log : List M) (place : ℕ) (e : M) → slice_get log place ≡ Some e
+    → IfOk r (λ v. IsExactly v.next.items (Goes e)) → IfOk r (λ v. IsExactly v.waits.items (λ w. Waits e w.on w.waiter)) → IfOk r (λ v. (k : K) → (v.end ≡ Some k) ↔ Ends e k)
+    → IfOk r (λ v. (e : M) × (slice_get log place ≡ Some e) × Enters Goes Waits Ends e v)
+enters Goes Waits Ends (Ok v) log place e is goes waits ends = (e, is, record { next = goes; waits = waits; end = ends })
+enters Goes Waits Ends (Err x) log place e is goes waits ends = tt
 
 module _ {M K W : Type 0} (Goes : M → M → Type 0) (Waits : M → K → W → Type 0) (Ends : M → K → Type 0) (Wakes : W → M → M → Type 0)
     (i : ℕ) (e : M) (next : List M) (waits : List (Wait K W)) (goes : IsExactly next (Goes e)) (all_wait : IsExactly waits (λ w. Waits e w.on w.waiter))

@@ -1,4 +1,5 @@
 pub mod Logs
+pub mod Found
 pub mod Indexes
 pub mod OnePremise
 pub mod TwoPremises

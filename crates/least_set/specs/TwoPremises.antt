@@ -1,8 +1,9 @@
 -- What follows by rules of one and of two premises.
 -- A rule of two premises is split: its first premise leaves a waiter at a context, and its second is an end of that context.
-use Rattle.std.specs.Prelude.{◌≡◌, ℕ, List, Contains, Some, slice_get}
-use Rattle.least_set.specs.Logs.{Adds, SomeGives}
+use Rattle.std.specs.Prelude.{◌≡◌, ◌↔◌, ℕ, List, Contains, Some, slice_get}
+use Rattle.least_set.specs.Logs.{Adds, IsExactly, SomeGives}
 use Rattle.least_set.specs.Indexes.{Extends}
+use Rattle.least_set.specs.declared.two_premises.Entered.{Entered}
 use Rattle.least_set.specs.declared.two_premises.Wait.{Wait}
 
 module _ {M K W : Type 0} (Base : M → Type 0) (Goes : M → M → Type 0) (Waits : M → K → W → Type 0) (Ends : M → K → Type 0) (Wakes : W → M → M → Type 0) where
@@ -17,6 +18,12 @@ module _ {M K W : Type 0} (Base : M → Type 0) (Goes : M → M → Type 0) (Wai
     LeastBase : {c : M} → Base c → Least c
     LeastOne : {a c : M} → Least a → Goes a c → Least c
     LeastTwo : {a b c : M} {k : K} {w : W} → Least a → Waits a k w → Least b → Ends b k → Wakes w b c → Least c
+
+-- Just what the value e gives by itself.
+pub record Enters {M K W : Type 0} (Goes : M → M → Type 0) (Waits : M → K → W → Type 0) (Ends : M → K → Type 0) (e : M) (v : Entered M K W) : Type 0 where
+  pub next : IsExactly v.next.items (Goes e)
+  pub waits : IsExactly v.waits.items (λ w. Waits e w.on w.waiter)
+  pub end : (k : K) → (v.end ≡ Some k) ↔ Ends e k
 
 -- What the value at a place of the log gives a waiter as an end.
 abbrev pub Met : {M W : Type 0} → (W → M → M → Type 0) → List M → W → ℕ → M → Type 0

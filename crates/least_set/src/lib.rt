@@ -23,6 +23,8 @@
 //! Rules that keep what they have computed (a cache of summaries, say) are `CachingRules`, and `least_caching` takes them by
 //! `&mut`: what they are of, their `source`, stays as it is, and what follows is said of that.
 //!
+//! The log is an `IndexSet`, or whatever else keeps members in order, each once (`Log`): `least_in` is given one.
+//!
 //! An instance is proved by saying which members are exactly those that its functions return; `proofs/Enumerating.antt` has
 //! the steps of a loop that makes such a list. Members and contexts are of types at which `==` says that two values are one
 //! (`Key`). They need not be `Copy`, and the driver copies none.
@@ -36,11 +38,10 @@ mod logs;
 // the least set, and small instances
 mod driver;
 mod one_premise;
-#[cfg(test)]
-mod tests;
 mod two_premises;
 
-pub use driver::least_caching;
+pub use driver::{least_caching, least_in};
 pub use keys::Key;
+pub use logs::{Found, Log};
 pub use one_premise::{Steps, closure};
 pub use two_premises::{CachingRules, Entered, Rules, Wait, least};

@@ -41,7 +41,7 @@ pub fn closure<S: Steps>(alloc: Global, steps: &S) -> Result<IndexSet<S::Member>
     ensures first { IfOk result (λ log. BeginsWith (S.base steps.now) log.keys) }
     ensures once { IfOk result (λ log. IsOnce log.keys) }
 {
-    let mut log = IndexSet::new(alloc);
+    let mut log: IndexSet<S::Member> = IndexSet::new(alloc);
     add_all(&mut log, steps.begin(alloc)?)?;
     let mut i = 0;
     while i < log.len() {

@@ -3,11 +3,11 @@ use Rattle.std.proofs.Common.{◌≡◌, inl, inr, ℕ, zero, suc, ◌<◌, List
 use Rattle.std.proofs.lemmas.List.Quantifiers.{position-Some}
 use Rattle.std.specs.Str.{bytes_eq}
 use Rattle.command.proofs.Promised.{called_is, left_alone, promised, rendered_is, run_of}
-use Rattle.command.specs.Bytes.{Bytes, Told, Words}
-use Rattle.command.specs.Commands.{GiveNone, IsPlace}
+use Rattle.mx_io.specs.Bytes.{Bytes, Readable, Told, Words}
+use Rattle.command.specs.Commands.{GiveNone, IsCommand, IsPlace}
 use Rattle.command.specs.Handed.{may_hold}
-use Rattle.command.specs.Ran.{IsEmptied, Leaves, Ran, ReporterStep, reporter_step}
-use Rattle.command.specs.Run.{Promise, RanAsDue, Run, reporter_state, reporters_in}
+use Rattle.command.specs.Ran.{IsEmptied, Leaves, RanHanding, ReporterStep, reporter_step}
+use Rattle.command.specs.Run.{HandsAsDue, Promise, Run, reporter_state, reporters_in}
 use Rattle.command.specs.Tasks.{IsEmptiedAt}
 use Rattle.command.specs.declared.status.Status.{Status}
 use Rattle.command.specs.declared.status.Status.TheVariants.{Clean, Reports, Usage, Refused, ReadFault, WriteFault, NoMemory}
@@ -57,23 +57,26 @@ module _ (run : Run) (are : AreOfBothStyles run.reporters_before) where
   same : reporters_in run ≡ reporter_step style_names styles (reporters_in run).before (reporters_in run).after
   same = λ i. record { called = are.names i; rendered = λ reports. are.styles reports i; before = (reporters_in run).before; after = (reporters_in run).after }
 
-  ran-gone : RanAsDue run → RanAsDue (styled run)
-  ran-gone ran = by (subst (λ (r : ReporterStep). Ran (may_hold run.told) run.words r run.failed_before run.failed_after run.status run.out run.errs) same ran)
+  handed-gone : (Hands : Bytes → Bytes → Type 0) → HandsAsDue Hands run → HandsAsDue Hands (styled run)
+  handed-gone Hands handed = by (subst (λ (r : ReporterStep). RanHanding Hands (may_hold run.told) run.words r run.failed_before run.failed_after run.status run.out run.errs) same handed)
     where
-      by : Ran (may_hold run.told) run.words (reporter_step style_names styles (reporters_in run).before (reporters_in run).after) run.failed_before run.failed_after run.status run.out run.errs → RanAsDue (styled run)
+      by : RanHanding Hands (may_hold run.told) run.words (reporter_step style_names styles (reporters_in run).before (reporters_in run).after) run.failed_before run.failed_after run.status run.out run.errs → HandsAsDue Hands (styled run)
       by (inl s) = inl (record { status = s.status; turn = s.turn; out_same = s.out_same; errs_same = s.errs_same })
-      by (inr c) = inr (record { status = c.status; text = c.text; line = c.line; due = c.due; leaves = leaves run.words c.status; spares = λ count is. refl; written = c.written; fitting = c.fitting })
+      by (inr (c, hands)) = inr (record { status = c.status; text = c.text; line = c.line; due = c.due; leaves = leaves run.words c.status; spares = λ count is. refl; written = c.written; fitting = c.fitting }, hands)
 
-  pub promise_gone : {Files : Type 0} (before after : Files) → Promise before after run → Promise before after (styled run)
-  promise_gone before after p =
-      promised before after (styled run) (ran-gone p.ran) p.untouched (λ none. p.unread (subst (λ (c : Words). GiveNone run.words c) (sym are.names) none)) refl refl (λ k other. refl)
+  pub promise_gone : {Files : Type 0} (before after : Files) (Hands : Bytes → Bytes → Type 0) → Promise before after Hands run → Promise before after Hands (styled run)
+  promise_gone before after Hands p =
+      promised before after Hands (styled run) (handed-gone Hands p.handed) (λ command given are-readable. p.readable command (subst (λ (c : Words). IsCommand run.words c command) (sym are.names) given) are-readable) p.untouched (λ none. p.unread (subst (λ (c : Words). GiveNone run.words c) (sym are.names) none)) refl refl (λ k other. refl)
 
 -- there was no memory for the reporters
-pub stopped : {Files : Type 0} (files : Files) (words : Words) (told : Told) (failed : Words) (out : Option Bytes) (out-faults out-sure : ℕ) (errs : Option Bytes) (errs-faults errs-sure : ℕ)
-    → Promise files files (run_of words told failed failed both_styles both_styles (left_alone out out-faults out-sure) (left_alone errs errs-faults errs-sure) NoMemory)
-stopped files words told failed out out-faults out-sure errs errs-faults errs-sure =
-    promised files files (run_of words told failed failed both_styles both_styles (left_alone out out-faults out-sure) (left_alone errs errs-faults errs-sure) NoMemory)
-    (inl (record { status = refl; turn = inl refl; out_same = (refl, refl); errs_same = (refl, refl) })) (λ count is. refl) (λ none. refl) refl refl (λ k other. refl)
+pub stopped : {Files : Type 0} (files : Files) (Hands : Bytes → Bytes → Type 0) (words : Words) (told : Told) (readable : Readable) (failed : Words) (out : Option Bytes) (out-faults out-sure : ℕ) (errs : Option Bytes) (errs-faults errs-sure : ℕ)
+    → Promise files files Hands (run_of words told readable failed failed both_styles both_styles (left_alone out out-faults out-sure) (left_alone errs errs-faults errs-sure) NoMemory)
+stopped files Hands words told readable failed out out-faults out-sure errs errs-faults errs-sure =
+    promised files files Hands (run_of words told readable failed failed both_styles both_styles (left_alone out out-faults out-sure) (left_alone errs errs-faults errs-sure) NoMemory)
+    (inl (record { status = refl; turn = inl refl; out_same = (refl, refl); errs_same = (refl, refl) })) (λ command given are-readable. (refl, λ e. apart e)) (λ count is. refl) (λ none. refl) refl refl (λ k other. refl)
+  where
+    apart : NoMemory ≡ ReadFault → ⊥
+    apart e = cc
 
 -- a list to which two were put
 pub two_pushed : {B : Type 0} (none one two : List B) (first second : B) → none ≡ [] → one ≡ none ++ first ∷ [] → two ≡ one ++ second ∷ [] → two ≡ first ∷ second ∷ []

@@ -5,7 +5,7 @@ use Rattle.std.proofs.lemmas.Slice.Eq.{bytes_eq-Decides}
 use Rattle.std.specs.List.{position}
 use Rattle.std.specs.Str.{bytes_eq}
 use Rattle.command.proofs.Promised.{left_alone, run_of}
-use Rattle.command.specs.Bytes.{Bytes, Told, Words}
+use Rattle.mx_io.specs.Bytes.{Bytes, Readable, Told, Words}
 use Rattle.command.specs.Commands.{IsPlace}
 use Rattle.command.specs.Handed.{AreAccepted, may_hold}
 use Rattle.command.specs.Rendered.{IsText}
@@ -56,16 +56,16 @@ module _ (run : Run) (request : Request) (is : IsRequest run.words request) wher
   in-format clean some (inr e) = printed-as-asked (λ reports. reports ≢ []) (λ reports there. inr (e, there)) (some e)
 
 -- what every run with two such reporters promises, in their styles
-pub in_styles : {Files : Type 0} (before after : Files) (run : Run) → Promise before after run → AreOfBothStyles run.reporters_before → PromiseInStyles before after (styled run)
-in_styles before after run p are =
-    let q : Promise before after (styled run) = promise_gone run are before after p in
+pub in_styles : {Files : Type 0} (before after : Files) (Hands : Bytes → Bytes → Type 0) (run : Run) → Promise before after Hands run → AreOfBothStyles run.reporters_before → PromiseInStyles before after Hands (styled run)
+in_styles before after Hands run p are =
+    let q : Promise before after Hands (styled run) = promise_gone run are before after Hands p in
     record { promise = q; in_format = λ request is either. in-format run request is q.clean q.reports either }
 
 -- there was no memory for the reporters, and nothing was printed
-pub stopped_in_styles : {Files : Type 0} (files : Files) (words : Words) (told : Told) (failed : Words) (out : Option Bytes) (out-faults out-sure : ℕ) (errs : Option Bytes) (errs-faults errs-sure : ℕ)
-    → PromiseInStyles files files (run_of words told failed failed both_styles both_styles (left_alone out out-faults out-sure) (left_alone errs errs-faults errs-sure) NoMemory)
-stopped_in_styles files words told failed out out-faults out-sure errs errs-faults errs-sure = record {
-  promise = stopped files words told failed out out-faults out-sure errs errs-faults errs-sure;
+pub stopped_in_styles : {Files : Type 0} (files : Files) (Hands : Bytes → Bytes → Type 0) (words : Words) (told : Told) (readable : Readable) (failed : Words) (out : Option Bytes) (out-faults out-sure : ℕ) (errs : Option Bytes) (errs-faults errs-sure : ℕ)
+    → PromiseInStyles files files Hands (run_of words told readable failed failed both_styles both_styles (left_alone out out-faults out-sure) (left_alone errs errs-faults errs-sure) NoMemory)
+stopped_in_styles files Hands words told readable failed out out-faults out-sure errs errs-faults errs-sure = record {
+  promise = stopped files Hands words told readable failed out out-faults out-sure errs errs-faults errs-sure;
   in_format = λ request is either. absurd (neither either);
 }
   where

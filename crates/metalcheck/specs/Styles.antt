@@ -1,7 +1,7 @@
 -- WHAT THE PROGRAM PROMISES: what `run` does (`command`: `Run`) with a reporter of each style that `--format` can choose, and that the text is
 -- in the style that the words name.
 use Rattle.std.specs.Prelude.{◌≡◌, ◌≢◌, ◌⊎◌, List, [], ◌∷◌, filter, map, Option, None, Some, codes}
-use Rattle.command.specs.Bytes.{Bytes}
+use Rattle.mx_io.specs.Bytes.{Bytes}
 use Rattle.command.specs.Handed.{AreAccepted, may_hold}
 use Rattle.command.specs.Run.{Promise, ReporterState, Run, reporter_state}
 use Rattle.command.specs.Written.{Took}
@@ -35,8 +35,8 @@ pub record PrintsAsAsked (run : Run) (request : Request) : Type 0 where
   pub printed : Took run.out text
   pub nothing : Took run.errs []
 
-pub record PromiseInStyles {Files : Type 0} (files_before files_after : Files) (run : Run) : Type 0 where
+pub record PromiseInStyles {Files : Type 0} (files_before files_after : Files) (Hands : Bytes → Bytes → Type 0) (run : Run) : Type 0 where
   -- What every run promises.
-  pub promise : Promise files_before files_after run
+  pub promise : Promise files_before files_after Hands run
   -- And a request that ends in its reports has them in its format.
   pub in_format : (request : Request) → IsRequest run.words request → (run.status ≡ Clean) ⊎ (run.status ≡ Reports) → PrintsAsAsked run request

@@ -2,6 +2,7 @@
 
 ghost use Rattle.std.specs.Prelude.{◌≡◌, codes, map, string_bytes, IfOk};
 ghost use Rattle.command.specs.Run.{reporter_state};
+ghost use Rattle.command.specs.Written.{AreHanded};
 ghost use Rattle.metalcheck.specs.Styles.{AreOfBothStyles, PromiseInStyles, both_styles};
 ghost use Rattle.report_model.specs.OfReporters.Styles.{json_of, table_of};
 
@@ -41,9 +42,10 @@ pub(crate) fn run_in_styles<F: Files, O: Sink, E: Sink>(
     out: &mut O,
     errs: &mut E,
 ) -> Status
-    ensures { PromiseInStyles files.old files.new (record {
+    ensures { PromiseInStyles files.old files.new (AreHanded O.write_gives E.write_gives out.old out.new errs.old errs.new) (record {
       words = map string_bytes words.now;
       told = F.contents files.old;
+      readable = F.readable files.old;
       failed_before = F.failed files.old;
       failed_after = F.failed files.new;
       reporters_before = both_styles;

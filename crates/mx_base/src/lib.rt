@@ -2,7 +2,9 @@
 #![tactic(auto)]
 
 mod names;
+mod steps;
 mod text;
 
 pub use names::Names;
+pub use steps::Steps;
 pub use text::Text;

@@ -75,25 +75,3 @@ impl Text {
         self.bytes.is_empty()
     }
 }
-
-#[cfg(test)]
-mod tests {
-    use super::*;
-    use std::test::Fail;
-
-    #[test]
-    fn a_copy_has_the_bytes_that_were_pushed(rt: HostRuntime) -> Result<(), Fail> {
-        let mut text = Text::new(rt.alloc());
-        assert!(rt; text.is_empty());
-        text.push_all(b"ab")?;
-        let copied = text.copy()?;
-        text.push_all(b"c")?;
-        assert_eq!(rt; copied.as_bytes(), b"ab".as_slice());
-        assert_eq!(rt;
-            text.as_bytes(),
-            Text::from_bytes(rt.alloc(), b"abc")?.as_bytes()
-        );
-        assert_eq!(rt; text.len(), 3);
-        Ok(())
-    }
-}

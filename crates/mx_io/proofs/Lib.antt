@@ -1,1 +1,2 @@
 pub mod KnownReads
+pub mod Readable

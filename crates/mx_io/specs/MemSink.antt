@@ -1,5 +1,6 @@
 -- A sink in memory: when a write fails, how many bytes it takes otherwise, and what it leaves.
 use Rattle.std.specs.Prelude.{ℕ, Bool, ◌||◌, ◌-◌, ◌==◌, min, List, [], ◌∷◌, ◌++◌, length, take, if◌then◌else◌}
+use Rattle.mx_io.specs.Bytes.{Bytes}
 use Rattle.mx_io.specs.Calls.{raised, is_due}
 
 -- the most bytes of one write, the numbers of the writes that are to fail, the bytes that still fit,
@@ -9,7 +10,7 @@ pub record SinkView : Type 0 where
   pub fails : List ℕ
   pub room : ℕ
   pub calls : ℕ
-  pub taken : List ℕ
+  pub taken : Bytes
   pub faults : ℕ
 
 -- a sink that has taken nothing
@@ -29,11 +30,11 @@ abbrev pub sure_room : SinkView → ℕ
 sure_room s = sure_of s.fails s.room
 
 -- how many bytes it takes if it does not
-abbrev pub count_now : SinkView → List ℕ → ℕ
+abbrev pub count_now : SinkView → Bytes → ℕ
 count_now s piece = min (min (length piece) s.most) s.room
 
 -- what a write leaves
-abbrev pub after_write : SinkView → List ℕ → SinkView
+abbrev pub after_write : SinkView → Bytes → SinkView
 after_write s piece = if fails_now s
     then record s { calls = raised s.calls; faults = raised s.faults }
     else record s {

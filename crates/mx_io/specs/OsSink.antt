@@ -1,7 +1,8 @@
 -- A sink of the system.
-use Rattle.std.specs.Prelude.{ℕ, List, Option}
+use Rattle.std.specs.Prelude.{ℕ, Option}
+use Rattle.mx_io.specs.Bytes.{Bytes}
 
 -- the bytes that the writer holds, where they are known, and how many writes failed
 pub record WriterView : Type 0 where
-  pub held : Option (List ℕ)
+  pub held : Option Bytes
   pub faults : ℕ

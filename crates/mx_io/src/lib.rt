@@ -10,11 +10,9 @@ mod sink;
 mod mem_files;
 mod mem_sink;
 
-// those of the system, and tests
+// those of the system
 mod os_files;
 mod os_sink;
-#[cfg(test)]
-mod tests;
 
 pub use files::{FileFault, Files};
 pub use mem_files::MemFiles;

@@ -14,9 +14,10 @@ use crate::edges::{NumberedContext, NumberedEdge, NumberedWaiter};
 use crate::following::led;
 use crate::program::{Block, Call, Ending, FunctionRows, ProgramRows};
 use crate::waiting::{ended, waiting, woken};
-use block_summary::{BlockSummary, Entered, Steps};
+use block_summary::{BlockSummary, Entered};
 use indexmap::IndexSet;
 use least_set::{CachingRules, Entered as Given, least_caching};
+use mx_base::Steps;
 use row_flows::NumberedTuple;
 use std::alloc::{AllocError, Global};
 

@@ -1,4 +1,4 @@
-//! Tests of the rooms round the program that stand on little: trees, words, and styles of reports.
+//! Tests of what no run of the program shows: trees, the system's files and sinks, and instances of what is proved for all.
 #![tactic(auto)]
 
 // what is expected
@@ -9,8 +9,14 @@ mod expected;
 #[cfg(test)]
 mod trees;
 
-// words and styles
+// files and sinks of the system
 #[cfg(test)]
-mod asked;
+mod system;
+
+// least sets, logs, and searches
 #[cfg(test)]
-mod styles;
+mod entry_logs;
+#[cfg(test)]
+mod known_links;
+#[cfg(test)]
+mod least_sets;

@@ -5,7 +5,7 @@ use bumpalo::Bump;
 use bumpalo::collections::into_bump_slice;
 use c_tree::{
     Arena, AssignOp, Initializer, Jump, Kind, Mark, Operation, Place, Primary, Punctuator,
-    Statement, Token, TokenKind, Tree, Trees, UnaryOp, height,
+    Statement, Token, TokenKind, Tree, Trees, height,
 };
 use std::alloc::AllocError;
 use std::process::Abort;
@@ -33,18 +33,6 @@ fn word(name: u32) -> Token {
 
 fn sign(mark: Punctuator) -> Token {
     token(TokenKind::Punct(mark), 0)
-}
-
-fn integer(value: u64, decimal: bool, name: u32) -> Token {
-    token(
-        TokenKind::Int {
-            value,
-            decimal,
-            unsigned: false,
-            longs: 0,
-        },
-        name,
-    )
 }
 
 fn expect_same(rt: &impl Abort, a: &Tree, b: &Tree) {
@@ -127,78 +115,6 @@ fn braces(arena: &Arena, id: u32) -> Result<&Tree, AllocError> {
             comma: false,
         }),
     )
-}
-
-fn paren<'a>(arena: &'a Arena, id: u32, inner: &'a Tree<'a>) -> Result<&'a Tree<'a>, AllocError> {
-    put(arena, id, Kind::Primary(Primary::Paren { inner }))
-}
-
-#[test]
-fn names_are_compared(rt: HostRuntime) -> Result<(), Fail> {
-    let arena = Bump::new(rt.alloc());
-    let x = name(&arena, 1)?;
-    let paren = paren(&arena, 2, x)?;
-    let other = name(&arena, 3)?;
-    expect_same(&rt, x, paren);
-    expect_other(&rt, paren, other);
-    Ok(())
-}
-
-fn constant(arena: &Arena, id: u32, token: Token) -> Result<&Tree, AllocError> {
-    let token = arena.try_alloc(token)?;
-    put(arena, id, Kind::Primary(Primary::Constant { token }))
-}
-
-#[test]
-fn constants_are_compared(rt: HostRuntime) -> Result<(), Fail> {
-    let arena = Bump::new(rt.alloc());
-    let hex = constant(&arena, 1, integer(16, false, 3))?;
-    let decimal = constant(&arena, 2, integer(16, true, 4))?;
-    let more = constant(&arena, 3, integer(17, true, 5))?;
-    expect_same(&rt, hex, decimal);
-    expect_other(&rt, decimal, more);
-    Ok(())
-}
-
-/// `operand->2`
-fn arrow<'a>(arena: &'a Arena, operand: &'a Tree<'a>) -> Result<&'a Tree<'a>, AllocError> {
-    let member = arena.try_alloc(word(2))?;
-    put(
-        arena,
-        7,
-        Kind::Operation(Operation::Arrow { operand, member }),
-    )
-}
-
-/// `operand.2`
-fn dot<'a>(arena: &'a Arena, operand: &'a Tree<'a>) -> Result<&'a Tree<'a>, AllocError> {
-    let member = arena.try_alloc(word(2))?;
-    put(
-        arena,
-        8,
-        Kind::Operation(Operation::Member { operand, member }),
-    )
-}
-
-/// `(*(operand))`
-fn pointed<'a>(arena: &'a Arena, operand: &'a Tree<'a>) -> Result<&'a Tree<'a>, AllocError> {
-    let operand = paren(arena, 9, operand)?;
-    let op = UnaryOp::Deref;
-    let read = put(arena, 10, Kind::Operation(Operation::Unary { op, operand }))?;
-    paren(arena, 11, read)
-}
-
-#[test]
-fn members_are_compared(rt: HostRuntime) -> Result<(), Fail> {
-    let arena = Bump::new(rt.alloc());
-    let x = name(&arena, 1)?;
-    let arrow = arrow(&arena, x)?;
-    let plain = dot(&arena, x)?;
-    let pointed = dot(&arena, pointed(&arena, x)?)?;
-    expect_same(&rt, arrow, pointed);
-    expect_other(&rt, arrow, plain);
-    expect_other(&rt, pointed, plain);
-    Ok(())
 }
 
 #[test]

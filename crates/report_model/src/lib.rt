@@ -5,11 +5,9 @@
 mod order;
 mod report;
 
-// lists, reporters and tests
+// lists and reporters
 mod report_lists;
 mod reporters;
-#[cfg(test)]
-mod tests;
 
 pub use report::Report;
 pub use report_lists::sorted;

@@ -1,3 +1,5 @@
+pub mod AtTokens
+pub mod InText
 pub mod MoreNames
 pub mod NoMachine
 pub mod NoUnit

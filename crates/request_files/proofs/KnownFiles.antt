@@ -1,5 +1,5 @@
 -- Presumed files of faults are names, and what is kept of tokens.
-use Rattle.std.proofs.Common.{◌≡◌, ◌≤◌, ◌+◌, ℕ, zero, suc, inl, inr, Bool, true, false, if◌then◌else◌, ◌==◌, List, [], ◌∷◌, length, Option, None, Some, sym, ap, ◌∙◌, subst, arith}
+use Rattle.std.proofs.Common.{◌≡◌, ◌≤◌, ◌+◌, ℕ, zero, suc, inl, inr, Bool, true, false, if◌then◌else◌, ◌==◌, List, [], ◌∷◌, ◌++◌, length, Option, None, Some, sym, ap, ◌∙◌, subst, arith}
 use Rattle.c_tree.specs.declared.place.Place.{Place}
 use Rattle.c_tree.specs.declared.token.Token.{Token}
 use Rattle.c_lexer.specs.declared.c_reading.mode.Mode.{Mode}
@@ -13,7 +13,7 @@ use Rattle.request_files.specs.declared.fault.Fault.TheVariants.{Syntax}
 use Rattle.request_files.specs.declared.front_end.refusal.Faulty.{Faulty}
 use Rattle.request_files.specs.FrontEnd.Faults.{of_typing, place_of}
 use Rattle.request_files.specs.FrontEnd.Checkers.{HasNoMachine}
-use Rattle.request_files.specs.FrontEnd.Found.{stands_at}
+use Rattle.request_files.specs.FrontEnd.Found.{line_of_first, stands_at}
 use Rattle.request_files.specs.Faults.{without_dropped, HasNoUnitAt}
 use Rattle.request_files.specs.Stages.{IsNamed, AreNamed, AreKnown}
 
@@ -57,8 +57,18 @@ pub no_unit_named : (names : List (List ℕ)) (list : TokenList) (found : Faulty
 no_unit_named names list found k (inl t) = subst (λ f. IsNamed names f.source) (sym t.there) (place_named names list Syntax t.place k)
 no_unit_named names list found k (inr t) = subst (λ f. IsNamed names f.source) (sym t.there) (place_named names list (of_typing t.fault) (place_of t.fault) k)
 
+-- at the first of the tokens behind others
+behind_named : (names : List (List ℕ)) (before behind : List Token) → AreNamed names (before ++ behind) → AreNamed names behind
+behind_named names [] behind a = a
+behind_named names (t ∷ before) behind a = behind_named names before behind a.1
+
+first_named : (names : List (List ℕ)) (ts : List Token) (end : Spot) → AreNamed names ts → IsNamed names end.source → IsNamed names (line_of_first ts end).0
+first_named names [] end a e = e
+first_named names (t ∷ ts) end a e = a.0
+
 pub no_machine_named : (names : List (List ℕ)) (list : TokenList) (found : Faulty) → AreKnown names list → HasNoMachine names list found → IsNamed names found.source
-no_machine_named names list found k h = subst (λ f. IsNamed names f.source) (sym h.there) (position_named names list.all list.end h.position k.all k.end)
+no_machine_named names list found k h =
+    subst (λ f. IsNamed names f.source) (sym h.there) (first_named names h.behind list.end (behind_named names h.before h.behind (subst (AreNamed names) h.parts k.all)) k.end)
 
 -- no more tokens are kept than there are
 kept_few : (n : ℕ) (ts : List Token) → length (stripped_behind n ts) ≤ length ts

@@ -5,6 +5,7 @@ use Rattle.c_lexer.specs.CReading.Strip.{stripped}
 use Rattle.c_lexer.specs.Tokens.{TokenList}
 use Rattle.c_lexer.specs.declared.c_reading.mode.Mode.{Mode}
 use Rattle.c_lexer.specs.declared.c_reading.mode.Mode.TheVariants.{C, Metal}
+use Rattle.mx_io.specs.Bytes.{Bytes}
 use Rattle.request_files.specs.FrontEnd.Checkers.{HasNoMachine}
 use Rattle.request_files.specs.FrontEnd.Found.{HasNoTokens}
 use Rattle.request_files.specs.FrontEnd.Sources.{HasNoTrees, HasNoTypes}
@@ -18,14 +19,14 @@ use Rattle.request_files.specs.declared.front_end.refusal.Faulty.{Faulty}
 -- a fault with its presumed file and line
 pub record Located : Type 0 where
   pub fault : Fault
-  pub file : List ℕ
+  pub file : Bytes
   pub line : ℕ
 
 -- a fault of a whole file stands where the file begins
-abbrev pub at_start : List ℕ → Fault → Located
+abbrev pub at_start : Bytes → Fault → Located
 at_start word fault = record { fault = fault; file = word; line = 1 }
 
-abbrev pub fault_name : Fault → List ℕ
+abbrev pub fault_name : Fault → Bytes
 fault_name faults.TooLarge = codes "TooLarge"
 fault_name faults.BadByte = codes "BadByte"
 fault_name faults.OpenText = codes "OpenText"
@@ -49,7 +50,7 @@ fault_name faults.VariableMissing = codes "VariableMissing"
 fault_name faults.BadFormat = codes "BadFormat"
 fault_name faults.DuplicateFunction = codes "DuplicateFunction"
 
-abbrev pub refused_line : Located → List ℕ
+abbrev pub refused_line : Located → Bytes
 refused_line l = l.file ++ (58 ∷ (decimal l.line ++ (codes ": refused: " ++ (fault_name l.fault ++ 10 ∷ []))))
 
 -- at most so many bytes in one file, and in all files together
@@ -74,13 +75,13 @@ mode_of SourceFile = C
 
 -- the bytes have tokens, behind which these names stand, and this is the first fault of the tokens: those of a checker are no machine, those of
 -- a C file no unit
-abbrev pub HasNoMeaning : Kind → ℕ → List ℕ → List (List ℕ) → List (List ℕ) → List ℕ → Faulty → Type 0
+abbrev pub HasNoMeaning : Kind → ℕ → Bytes → List Bytes → List Bytes → Bytes → Faulty → Type 0
 HasNoMeaning CheckerFile number word before names bytes found = (list : TokenList) × AreCheckerTokens number word before names bytes list × HasNoMachine names list found
 HasNoMeaning SourceFile number word before names bytes found = (list : TokenList) × AreTokensOf C number word before names bytes list × HasNoUnitAt list found
 
 -- the bytes of a file have this fault first, on this line of this presumed file, where these names stand before the file
-pub record HasFaultIn (kind : Kind) (number : ℕ) (word : List ℕ) (before : List (List ℕ)) (bytes : List ℕ) (l : Located) : Type 0 where
-  pub names : List (List ℕ)
+pub record HasFaultIn (kind : Kind) (number : ℕ) (word : Bytes) (before : List Bytes) (bytes : Bytes) (l : Located) : Type 0 where
+  pub names : List Bytes
   pub found : Faulty
   pub faulty : HasNoTokens (mode_of kind) word names bytes found ⊎ HasNoMeaning kind number word before names bytes found
   pub fault_is : found.fault ≡ l.fault
@@ -90,12 +91,12 @@ pub record HasFaultIn (kind : Kind) (number : ℕ) (word : List ℕ) (before : L
 -- what files leave for the next one: how many bytes may still come, and the names so far
 pub record Before : Type 0 where
   pub left : ℕ
-  pub names : List (List ℕ)
+  pub names : List Bytes
 
-abbrev pub before_file : ℕ → List (List ℕ) → Before
+abbrev pub before_file : ℕ → List Bytes → Before
 before_file left names = record { left = left; names = names }
 
 -- THE FAULT OF A FILE: it is too large, or its bytes have the fault
-abbrev pub HasFault : Before → Turn → List ℕ → Located → Type 0
+abbrev pub HasFault : Before → Turn → Bytes → Located → Type 0
 HasFault b t bytes l =
     ((min file_limit b.left < length bytes) × (l ≡ at_start t.word faults.TooLarge)) ⊎ ((length bytes ≤ min file_limit b.left) × HasFaultIn t.kind t.number t.word b.names bytes l)

@@ -1,17 +1,18 @@
 -- What the program keeps of files, as the values that definitions speak of.
-use Rattle.std.specs.Prelude.{ℕ, List, map}
+use Rattle.std.specs.Prelude.{List, map}
 use Rattle.std.specs.Borrow.{Bor}
 use Rattle.typed_unit.specs.Texts.{Text}
 pub use Rattle.typed_unit.specs.Texts.{text_of}
 use Rattle.metal_tree.specs.MetalMachines.Machine as machines
 use Rattle.metal_tree.specs.Whole.{machine_view}
 use Rattle.metal_tree.specs.declared.machine.Machine.{Machine}
+use Rattle.mx_io.specs.Bytes.{Bytes, Words}
 use Rattle.request_files.specs.Faults.{Located}
 use Rattle.request_files.specs.declared.fault.LocatedFault.{LocatedFault}
 use Rattle.typed_unit.specs.declared.typed_unit.TypedUnit.{TypedUnit}
 
 -- the bytes of words
-abbrev pub words_of : List (Bor (List ℕ)) → List (List ℕ)
+abbrev pub words_of : List (Bor Bytes) → Words
 words_of words = map (λ w. w.now) words
 
 abbrev pub located_of : LocatedFault → Located

@@ -5,6 +5,7 @@ ghost use Rattle.mx_base.specs.Names.{AddsAtMost, HasNoRepeats};
 ghost use Rattle.metal_numbers.specs.MetalBuilding.Places.{HasPlaces};
 ghost use Rattle.metal_tree.specs.Whole.{machine_view};
 ghost use Rattle.metal_tree.specs.declared.machine.Machine.{Machine as MachineValue};
+ghost use Rattle.mx_io.specs.Reads.{ReadsReadable};
 ghost use Rattle.request_files.specs.InTurn.{AnswersUnread, AreReadCheckers};
 ghost use Rattle.request_files.specs.Faults.{before_file};
 ghost use Rattle.request_files.specs.Meanings.{IsChecker};
@@ -82,6 +83,8 @@ pub(crate) fn load_checker<'a, F: Files>(
     ensures none_failed { IfOk result (λ l. F.failed files.new ≡ F.failed files.old) }
     ensures failed { IfErr result (λ e. F.failed files.new ≡ failed_after_stop (F.failed files.old) word.now e) }
     ensures same { F.contents files.new ≡ F.contents files.old }
+    ensures readable { ReadsReadable (F.readable files.old) (F.failed files.old) (F.failed files.new) }
+    ensures kept { F.readable files.new ≡ F.readable files.old }
 {
     let bytes = match read_file(files, word, left) {
         Ok(bytes) => bytes,
@@ -125,6 +128,8 @@ pub fn read_checkers<'a, F: Files>(
     ensures unread { IfErr result (λ e. AnswersUnread (may_hold (F.contents files.old)) (before_file left names.old) (numbered CheckerFile 0 (words_of words.now)) (F.failed files.old) (F.failed files.new) e) }
     ensures none_failed { IfOk result (λ r. F.failed files.new ≡ F.failed files.old) }
     ensures same { F.contents files.new ≡ F.contents files.old }
+    ensures readable { ReadsReadable (F.readable files.old) (F.failed files.old) (F.failed files.new) }
+    ensures kept { F.readable files.new ≡ F.readable files.old }
     ensures left { IfOk result (λ r. r.left ≤ left) }
     ensures room { IfOk result (λ r. length names.new + 2 * r.left ≤ length names.old + 2 * left + length words.now) }
     ensures distinct { OnOk result (HasNoRepeats names.new) }

@@ -1,6 +1,7 @@
 //! One file, read whole.
 
 ghost use Rattle.std.specs.Prelude.{◌≡◌, ◌≤◌};
+ghost use Rattle.mx_io.specs.Reads.{ReadsReadable};
 ghost use Rattle.request_files.specs.Stages.{AnswersFile, failed_after_file};
 
 use mx_io::{FileFault, Files};
@@ -28,6 +29,8 @@ pub fn read_file<F: Files>(files: &mut F, name: &str, left: u64) -> Result<Vec<u
     ensures answer { AnswersFile (F.contents files.old name.now) left result }
     ensures failed { F.failed files.new ≡ failed_after_file (F.failed files.old) name.now result }
     ensures same { F.contents files.new ≡ F.contents files.old }
+    ensures readable { ReadsReadable (F.readable files.old) (F.failed files.old) (F.failed files.new) }
+    ensures kept { F.readable files.new ≡ F.readable files.old }
 {
     match files.read(name, FILE_LIMIT.min(left)) {
         Err(FileFault::Failed) => Err(Missing::NotRead),

@@ -4,6 +4,7 @@ ghost use Rattle.std.specs.Prelude.{◌≡◌, ◌≤◌, [], ℕ, Some, length,
 ghost use Rattle.mx_base.specs.Names.{HasNoRepeats};
 ghost use Rattle.metal_numbers.specs.MetalBuilding.Places.{HasPlaces};
 ghost use Rattle.metal_tree.specs.declared.machine.Machine.{Machine as MachineValue};
+ghost use Rattle.mx_io.specs.Reads.{ReadsReadable};
 ghost use Rattle.request_files.specs.InTurn.{AnswersUnread, AreReadFiles};
 ghost use Rattle.request_files.specs.Reading.{at_first};
 ghost use Rattle.request_files.specs.Telling.{may_hold};
@@ -53,6 +54,8 @@ pub fn read_files<'a, F: Files>(
     ensures unread { IfErr result (λ e. AnswersUnread (may_hold (F.contents files.old)) at_first (turns (words_of checkers.now) (words_of sources.now)) (F.failed files.old) (F.failed files.new) e) }
     ensures none_failed { IfOk result (λ r. F.failed files.new ≡ F.failed files.old) }
     ensures same { F.contents files.new ≡ F.contents files.old }
+    ensures readable { ReadsReadable (F.readable files.old) (F.failed files.old) (F.failed files.new) }
+    ensures kept { F.readable files.new ≡ F.readable files.old }
     ensures distinct { OnOk result (HasNoRepeats names.new) }
 {
     let read = match read_checkers(

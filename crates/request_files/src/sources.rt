@@ -5,6 +5,7 @@ ghost use Rattle.mx_base.specs.Names.{AddsAtMost, HasNoRepeats};
 ghost use Rattle.c_lexer.specs.CReading.Strip.{stripped};
 ghost use Rattle.c_tree.specs.Views.{nodes_of};
 ghost use Rattle.type_rules.specs.Unit.{table_by};
+ghost use Rattle.mx_io.specs.Reads.{ReadsReadable};
 ghost use Rattle.request_files.specs.Faults.{before_file};
 ghost use Rattle.request_files.specs.FrontEnd.Sources.{AreTypedTrees};
 ghost use Rattle.request_files.specs.InTurn.{AnswersUnread, AreReadSources};
@@ -110,6 +111,8 @@ pub(crate) fn load_source<'a, F: Files>(
     ensures none_failed { IfOk result (λ l. F.failed files.new ≡ F.failed files.old) }
     ensures failed { IfErr result (λ e. F.failed files.new ≡ failed_after_stop (F.failed files.old) word.now e) }
     ensures same { F.contents files.new ≡ F.contents files.old }
+    ensures readable { ReadsReadable (F.readable files.old) (F.failed files.old) (F.failed files.new) }
+    ensures kept { F.readable files.new ≡ F.readable files.old }
 {
     let bytes = match read_file(files, word, left) {
         Ok(bytes) => bytes,
@@ -153,6 +156,8 @@ pub fn read_sources<'a, F: Files>(
     ensures unread { IfErr result (λ e. AnswersUnread (may_hold (F.contents files.old)) (before_file left names.old) (numbered SourceFile 0 (words_of words.now)) (F.failed files.old) (F.failed files.new) e) }
     ensures none_failed { IfOk result (λ r. F.failed files.new ≡ F.failed files.old) }
     ensures same { F.contents files.new ≡ F.contents files.old }
+    ensures readable { ReadsReadable (F.readable files.old) (F.failed files.old) (F.failed files.new) }
+    ensures kept { F.readable files.new ≡ F.readable files.old }
     ensures distinct { OnOk result (HasNoRepeats names.new) }
 {
     let mut units = Vec::new(alloc);

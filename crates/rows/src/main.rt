@@ -21,7 +21,6 @@ mod alike;
 mod expressions;
 mod found;
 mod phrases;
-mod related;
 mod typed;
 
 // questions of rows

@@ -5,7 +5,6 @@ use crate::bodies::traces_of_text;
 use crate::expressions::said_of;
 use crate::lexed::{Listed, said_of_blanks, said_of_tokens};
 use crate::phrases::{Phrase, is_read};
-use crate::related::{Relation, related};
 use crate::typed::{Question, said_in};
 use c_expr::Form;
 use c_lexer::{LexFault, Mode};
@@ -29,16 +28,6 @@ fn asked_of_expression(asked: &str) -> Option<Question> {
     match asked {
         "type of" => Some(Question::Type),
         "type name in" => Some(Question::TypeName),
-        _ => None,
-    }
-}
-
-/// What a question asks of two objects.
-fn asked_of_objects(asked: &str) -> Option<Relation> {
-    match asked {
-        "begins with" => Some(Relation::Begins),
-        "mentions" => Some(Relation::Mentions),
-        "steps behind" => Some(Relation::Appended),
         _ => None,
     }
 }
@@ -128,9 +117,6 @@ fn answer_behind_tokens(alloc: Global, asked: &str, text: &str) -> Result<String
     }
     if let Some(question) = asked_of_expression(asked) {
         return said_of(alloc, text, question);
-    }
-    if let Some(relation) = asked_of_objects(asked) {
-        return related(alloc, text, relation);
     }
     match limit_of(asked) {
         Some(limit) => say_traces(alloc, text, limit),

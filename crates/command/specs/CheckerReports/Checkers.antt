@@ -2,7 +2,7 @@
 use Rattle.std.specs.Prelude.{ℕ, suc, List, [], ◌∷◌}
 use Rattle.path_model.specs.CheckerModel.Reports.{Checker}
 use Rattle.metal_tree.specs.MetalMachines.Machine.{Machine}
-use Rattle.command.specs.Bytes.{Bytes}
+use Rattle.mx_io.specs.Bytes.{Bytes}
 
 -- those of these machines, with the numbers from this one on
 abbrev pub numbered_from : ℕ → List Machine → ℕ → List Bytes → List Checker

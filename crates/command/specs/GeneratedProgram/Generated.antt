@@ -3,7 +3,7 @@
 use Rattle.std.specs.Prelude.{ℕ, ◌+◌, ◌%◌, ◌==◌, Bool, ◌||◌, if◌then◌else◌, ◌++◌, flat_map, codes}
 use Rattle.std.specs.Fmt.{decimal}
 use Rattle.std.specs.List.{range_with_len}
-use Rattle.command.specs.Bytes.{Bytes}
+use Rattle.mx_io.specs.Bytes.{Bytes}
 
 -- whether a chain ends with the function of this number, of so many: it has eight functions then, or is the last one
 abbrev pub ends_chain : ℕ → ℕ → Bool

@@ -1,7 +1,7 @@
 -- THE FIRST FAULT of a request, and why its files gave no reports.
 use Rattle.std.specs.Prelude.{◌≡◌, ◌⊎◌, ℕ, List}
 use Rattle.typed_unit.specs.Texts.{Text}
-use Rattle.command.specs.Bytes.{Bytes, Words}
+use Rattle.mx_io.specs.Bytes.{Bytes, Words}
 use Rattle.command.specs.JudgedFiles.Judged.{AreAllSound}
 use Rattle.command.specs.JudgedFiles.Linking.{AreUnlinked, HaveLinkFault}
 use Rattle.command.specs.declared.judged_files.unjudged.Unjudged.{Unjudged}

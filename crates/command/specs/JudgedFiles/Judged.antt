@@ -3,7 +3,7 @@
 use Rattle.std.specs.Prelude.{◌≡◌, ℕ, ◌+◌, List, [], ◌++◌, length, None}
 use Rattle.path_model.specs.CheckerPrograms.Texts.{functions_in}
 use Rattle.typed_unit.specs.Texts.{Text}
-use Rattle.command.specs.Bytes.{Bytes, Words}
+use Rattle.mx_io.specs.Bytes.{Bytes, Words}
 use Rattle.command.specs.CheckerReports.Checkers.{checkers_in}
 use Rattle.command.specs.CheckerReports.Errors.{AreErrors}
 use Rattle.metal_tree.specs.MetalMachines.Machine.{Machine}

@@ -6,7 +6,7 @@ use Rattle.path_model.specs.CheckerPrograms.Texts.{functions_in}
 use Rattle.typed_unit.specs.Texts.{Text}
 use Rattle.metal_tree.specs.MetalMachines.Machine.{Machine}
 use Rattle.call_graph.specs.OfPrograms.Repeats.{link_fault}
-use Rattle.command.specs.Bytes.{Bytes, Words}
+use Rattle.mx_io.specs.Bytes.{Bytes, Words}
 use Rattle.command.specs.JudgedFiles.Judged.{HaveMeanings}
 use Rattle.request_files.specs.Faults.{Located}
 use Rattle.request_files.specs.Stages.{AreNamed}

@@ -10,6 +10,7 @@ ghost use Rattle.command.specs.JudgedFiles.Judged.{AreAccepted};
 ghost use Rattle.command.specs.JudgedFiles.Linking.{HaveToken};
 ghost use Rattle.metal_tree.specs.Whole.{machine_view};
 ghost use Rattle.call_graph.specs.OfPrograms.Repeats.{link_fault};
+ghost use Rattle.mx_io.specs.Reads.{ReadsReadable};
 ghost use Rattle.request_files.specs.Telling.{may_hold};
 ghost use Rattle.request_files.specs.Views.{machines_of, texts_of, words_of};
 ghost use Rattle.typed_unit.specs.declared.typed_unit.TypedUnit.{TypedUnit as UnitValue};
@@ -90,6 +91,7 @@ pub fn judge_files<'a, F: Files>(
     ensures accepted { IfOk result (λ reports. AreAccepted (may_hold (F.contents files.old)) (words_of checkers.now) (words_of sources.now) depth reports.items) }
     ensures unjudged { IfErr result (λ e. AnswersUnjudged (may_hold (F.contents files.old)) (words_of checkers.now) (words_of sources.now) (F.failed files.old) (F.failed files.new) e) }
     ensures none_failed { OnOk result (F.failed files.new ≡ F.failed files.old) }
+    ensures readable { ReadsReadable (F.readable files.old) (F.failed files.old) (F.failed files.new) }
 {
     let read = match read_files(
         arena,

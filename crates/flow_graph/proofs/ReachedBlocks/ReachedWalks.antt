@@ -1,5 +1,5 @@
 -- What the traces of a function meet stands in the blocks of its graph that control reaches, and all that stands there is met.
-use Rattle.std.proofs.Common.{◌≡◌, inl, inr, ℕ, List, [], ◌∷◌, map, slice_get, Option, None, Some, refl, sym, ap, subst}
+use Rattle.std.proofs.Common.{◌≡◌, inl, inr, ℕ, List, [], ◌∷◌, slice_get, Option, None, Some, refl, sym, subst}
 use Rattle.flow_graph.specs.CPaths.BlockGraphs.{events_at, LeadsTo, block_graphs}
 use Rattle.flow_graph.specs.CPaths.Building.{Graph}
 use Rattle.flow_graph.specs.CPaths.Events.{Event}
@@ -14,17 +14,7 @@ use Rattle.path_theory.specs.Supergraph.{Supergraph}
 use Rattle.path_theory.specs.Trails.{Start, More}
 use Rattle.path_theory.specs.Walks.{AtEvent, AtCall, Labels, Walk, WalkStart, WalkSkip, WalkGo, WalkCall}
 use Rattle.flow_graph.specs.ReachedBlocks.Reached.{GoesOn, Reaches, Begins, Onward, Happens, Called}
-
--- one of what a function gives for a list
-mapped : {A B : Type 0} (f : A → B) (xs : List A) (y : B) → Among y (map f xs) → (x : A) × Among x xs × (y ≡ f x)
-mapped f [] y h = absurd h
-mapped f (x ∷ xs) y (inl e) = (x, inl refl, e)
-mapped f (x ∷ xs) y (inr h) = let k = mapped f xs y h in (k.0, inr k.1, k.2)
-
-map-among : {A B : Type 0} (f : A → B) (xs : List A) (x : A) → Among x xs → Among (f x) (map f xs)
-map-among f [] x h = absurd h
-map-among f (y ∷ xs) x (inl e) = inl (ap f e)
-map-among f (y ∷ xs) x (inr h) = inr (map-among f xs x h)
+use Rattle.flow_graph.proofs.CPaths.MappedLists.{mapped, map-among}
 
 -- a jump, or a call that isn't followed
 goes-on : (P : Node → Type 0) (end : Ending) (c : ℕ) → LeadsTo P end c → GoesOn end c

@@ -1,5 +1,5 @@
 -- The theorems on traces as statements, which contracts can name.
-use Rattle.std.specs.Prelude.{◌≡◌, ◌↔◌, ◌⊎◌, ℕ, true, List, [], ◌∷◌, ◌++◌, slice_set}
+use Rattle.std.specs.Prelude.{◌≡◌, ◌↔◌, ◌⊎◌, ℕ, true, List, [], ◌∷◌, ◌++◌, map, slice_set}
 use Rattle.flow_graph.specs.CPaths.Events.{Event, Item, exited}
 use Rattle.flow_graph.specs.CPaths.Facts.{Facts}
 use Rattle.flow_graph.specs.CPaths.Flow.{Flow}
@@ -9,6 +9,7 @@ use Rattle.flow_graph.specs.CPaths.Traces.{BodyTrace, Definition, Trace}
 use Rattle.flow_graph.specs.CPaths.Listing.{longest_traces, finishes_within, Begins}
 use Rattle.flow_graph.specs.CPaths.Graphs.{Block, Ending, ToAny, GraphTrace}
 use Rattle.flow_graph.specs.CPaths.Fragments.{Has}
+use Rattle.flow_graph.specs.CPaths.Forwarders.{ComesTo, redirected}
 use Rattle.flow_graph.specs.CPaths.Layout.{IsGraphOf}
 use Rattle.flow_graph.specs.CPaths.SoundGraphs.{IsSoundGraph}
 use Rattle.flow_graph.specs.CPaths.Building.{graph_of}
@@ -45,3 +46,8 @@ BuiltGraphsStandInTheText = (F : Facts) (d : Definition) (i : Item) → InGraph 
 abbrev pub JoinedBlocksKeepTheTraces : Type 0
 JoinedBlocksKeepTheTraces = (g : List Block) (b c : ℕ) (es fs : List Event) (end : Ending) → Has g b es (ToAny (c ∷ [])) → Has g c fs end
     → (entry : ℕ) (l : List Item) → GraphTrace g entry l ↔ GraphTrace (slice_set g b (record { events = es ++ fs; ending = end })) entry l
+
+-- ends, and the way into the function, may lead to where control comes from their targets over blocks that only lead on
+abbrev pub RedirectedEndsKeepTheTraces : Type 0
+RedirectedEndsKeepTheTraces = (g : List Block) (f : ℕ → ℕ) → ((b : ℕ) → ComesTo g b (f b))
+    → (entry : ℕ) (l : List Item) → GraphTrace g entry l ↔ GraphTrace (map (redirected f) g) (f entry) l

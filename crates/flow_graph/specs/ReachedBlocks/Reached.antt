@@ -1,5 +1,5 @@
 -- THE BLOCKS OF A GRAPH to which control may come from its entry, and what happens in them.
-use Rattle.std.specs.Prelude.{◌≡◌, ℕ, List, slice_get}
+use Rattle.std.specs.Prelude.{◌≡◌, ◌<◌, ℕ, List, length, slice_get}
 use Rattle.flow_graph.specs.CPaths.BlockGraphs.{events_at}
 use Rattle.flow_graph.specs.CPaths.Building.{Graph}
 use Rattle.flow_graph.specs.CPaths.Events.{Event}
@@ -46,3 +46,7 @@ module _ (g : Graph) where
   pub record AreReached (blocks : List ℕ) : Type 0 where
     pub exact : IsExactly blocks Reaches
     pub once : IsOnce blocks
+
+  -- no block is there to which control doesn't come
+  abbrev pub AllReached : Type 0
+  AllReached = (b : ℕ) → b < length g.blocks → Reaches b

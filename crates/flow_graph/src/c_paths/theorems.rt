@@ -9,6 +9,7 @@ ghost use Rattle.flow_graph.specs.CPaths.Theorems.{
   GraphsHaveTheTraces,
   JoinedBlocksKeepTheTraces,
   ListedAreTraces,
+  RedirectedEndsKeepTheTraces,
 };
 
 /// Each beginning of a list that is found by making steps is a trace of the function.
@@ -44,4 +45,9 @@ pub fn built_graphs_stand_in_the_text()
 /// A block that leads to one other may have that block's events and end as its own.
 pub fn joined_blocks_keep_the_traces()
     ensures { JoinedBlocksKeepTheTraces }
+{}
+
+/// An end, and the way into the function, may lead to where control comes from its target over blocks that only lead on.
+pub fn redirected_ends_keep_the_traces()
+    ensures { RedirectedEndsKeepTheTraces }
 {}

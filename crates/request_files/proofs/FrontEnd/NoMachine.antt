@@ -1,7 +1,8 @@
--- What the refusal of a text says of its tokens: which fault they have first, and that a rule's first token is there.
-use Rattle.std.proofs.Common.{◌≡◌, ◌⊎◌, inl, inr, ℕ, Bool, true, false, cond, nat_eq, List, [], ◌∷◌, map, Option, None, Some, ap, refl, sym, ◌∙◌, arith}
+-- What the refusal of a text says of its tokens: which fault they have first, at which token, and that a rule's first token is there.
+use Rattle.std.proofs.Common.{◌≡◌, ◌⊎◌, inl, inr, ℕ, ◌≤◌, Bool, true, false, cond, nat_eq, List, [], ◌∷◌, length, take, drop, map, Option, None, Some, ap, refl, sym, ◌∙◌, subst, take-append-drop, arith}
 use Rattle.std.proofs.lemmas.Bool.Decides.{nat_tests}
-use Rattle.c_tree.specs.Symbol.{Symbol, symbols_of}
+use Rattle.std.proofs.lemmas.List.{length-map, length-take-le}
+use Rattle.c_tree.specs.Symbol.{Symbol, symbol_of, symbols_of}
 use Rattle.c_lexer.specs.Tokens.{TokenList}
 use Rattle.metal_grammar.specs.Words.{Spelling}
 use Rattle.metal_grammar.specs.Written.{Clause}
@@ -18,12 +19,13 @@ use Rattle.metal_reader.specs.declared.metal_faults.fault.MetalFault.{MetalFault
 use Rattle.metal_reader.specs.declared.metal_faults.fault.MetalFault.TheVariants as faults
 use Rattle.metal_reader.specs.MetalFaults.Faults.{fault_in}
 use Rattle.metal_reader.specs.Faults.{IsFault, Refuses}
+use Rattle.request_files.specs.declared.fault.Fault as kinds
 use Rattle.request_files.specs.declared.front_end.refusal.Faulty.{Faulty as Found}
 use Rattle.request_files.specs.declared.front_end.refusal.Refusal.TheVariants.{Faulty}
 use Rattle.request_files.specs.FrontEnd.Faults.{of_text}
 use Rattle.request_files.specs.FrontEnd.Checkers.{IsRuleAt, IsPlaceOf, HasNoMachine}
-use Rattle.request_files.specs.FrontEnd.Found.{stands_at}
-use Rattle.request_files.specs.FrontEnd.Refusals.{or_end, rule_token, unmade_as, refused_rule}
+use Rattle.request_files.specs.FrontEnd.Refusals.{stands_behind, behind_or_end, stands_at_rule, unmade_as, refused_rule}
+use Rattle.request_files.proofs.FrontEnd.InText.{place_within}
 
 -- the number of the rule that a fault is of
 abbrev rule_of : Fault → Option ℕ
@@ -96,29 +98,40 @@ rule_at names ts first n (inr (cs, is_text, e)) h =
     (found.0, record { clauses = cs; text = is_text; here = found.1 })
 
 -- where a rule begins is found by counting
-token_of : (names : Spelling) (list : TokenList) (n p : ℕ) → IsRuleAt names (symbols_of list.all) n p → rule_token list n ≡ p
-token_of names list n p w = ap (or_end list) (sym (rules_are_counted names (symbols_of list.all) w.clauses n w.text) ∙ w.here)
+first_of_rule : (names : Spelling) (list : TokenList) (fault : kinds.Fault) (n p : ℕ) → IsRuleAt names (symbols_of list.all) n p → stands_at_rule list fault n ≡ stands_behind list fault p
+first_of_rule names list fault n p w = ap (behind_or_end list fault) (sym (rules_are_counted names (symbols_of list.all) w.clauses n w.text) ∙ w.here)
 
 same : (a b : Found) → Faulty a ≡ Faulty b → b ≡ a
 same a b h = cc
 
-at-rule : (names : Spelling) (list : TokenList) (first : Fault) (n : ℕ) (found : Found) → ((p : ℕ) → IsRuleAt names (symbols_of list.all) n p → IsPlaceOf names (symbols_of list.all) first p)
-    → IsFirstFault names (symbols_of list.all) first → rule_of first ≡ Some n → Faulty (stands_at list (of_text first) (rule_token list n)) ≡ Faulty found → HasNoMachine names list found
-at-rule names list first n found is_place w r h =
-    let place = rule_at names (symbols_of list.all) first n w r in
+-- so many tokens stand before the place of the first fault
+behind_these : (names : Spelling) (list : TokenList) (first : Fault) (p : ℕ) (found : Found) → IsFirstFault names (symbols_of list.all) first → IsPlaceOf names (symbols_of list.all) first p
+    → found ≡ stands_behind list (of_text first) p → HasNoMachine names list found
+behind_these names list first p found w is_place there =
+    let a = place_within names (symbols_of list.all) first p w is_place in
+    let b : length (symbols_of list.all) ≡ length list.all = length-map list.all symbol_of in
+    let within : p ≤ length list.all = omega (arith, a, b) in
     record {
       fault = first;
       first = w;
-      position = place.0;
-      place = is_place place.0 place.1;
-      there = same _ found h ∙ ap (stands_at list (of_text first)) (token_of names list n place.0 place.1);
+      before = take p list.all;
+      behind = drop p list.all;
+      parts = sym (take-append-drop p list.all);
+      place = subst (IsPlaceOf names (symbols_of list.all) first) (sym (length-take-le p list.all within)) is_place;
+      there = there;
     }
 
+at-rule : (names : Spelling) (list : TokenList) (first : Fault) (n : ℕ) (found : Found) → ((p : ℕ) → IsRuleAt names (symbols_of list.all) n p → IsPlaceOf names (symbols_of list.all) first p)
+    → IsFirstFault names (symbols_of list.all) first → rule_of first ≡ Some n → Faulty (stands_at_rule list (of_text first) n) ≡ Faulty found → HasNoMachine names list found
+at-rule names list first n found is_place w r h =
+    let place = rule_at names (symbols_of list.all) first n w r in
+    behind_these names list first place.0 found w (is_place place.0 place.1) (same _ found h ∙ first_of_rule names list (of_text first) n place.0 place.1)
+
 stands : (names : Spelling) (list : TokenList) (file : ℕ) (first : Fault) (found : Found) → IsFirstFault names (symbols_of list.all) first → unmade_as list (fault_in file first) ≡ Faulty found → HasNoMachine names list found
-stands names list file (text.SyntaxAt at) found w h = record { fault = text.SyntaxAt at; first = w; position = at; place = refl; there = same _ found h }
-stands names list file (text.TooMany what at) found w h = record { fault = text.TooMany what at; first = w; position = at; place = refl; there = same _ found h }
-stands names list file (text.Twice name at) found w h = record { fault = text.Twice name at; first = w; position = at; place = refl; there = same _ found h }
-stands names list file (text.UnknownCallout name at) found w h = record { fault = text.UnknownCallout name at; first = w; position = at; place = refl; there = same _ found h }
+stands names list file (text.SyntaxAt at) found w h = behind_these names list (text.SyntaxAt at) at found w refl (same _ found h)
+stands names list file (text.TooMany what at) found w h = behind_these names list (text.TooMany what at) at found w refl (same _ found h)
+stands names list file (text.Twice name at) found w h = behind_these names list (text.Twice name at) at found w refl (same _ found h)
+stands names list file (text.UnknownCallout name at) found w h = behind_these names list (text.UnknownCallout name at) at found w refl (same _ found h)
 stands names list file (text.TwoVariables rule) found w h = at-rule names list (text.TwoVariables rule) rule found (λ p r. r) w refl h
 stands names list file (text.BadSplit rule) found w h = at-rule names list (text.BadSplit rule) rule found (λ p r. r) w refl h
 stands names list file (text.BadSource rule) found w h = at-rule names list (text.BadSource rule) rule found (λ p r. r) w refl h

@@ -1,5 +1,5 @@
 -- A checker has at most one machine, its tokens have at most one fault, and never both.
-use Rattle.std.proofs.Common.{◌≡◌, ℕ, List, Some, sym, ap, ◌∙◌, subst}
+use Rattle.std.proofs.Common.{◌≡◌, ℕ, List, length, Some, sym, ap, ◌∙◌, subst}
 use Rattle.mx_base.specs.Names.{HasNoRepeats}
 use Rattle.c_tree.specs.Symbol.{Symbol, symbols_of}
 use Rattle.c_lexer.specs.declared.c_reading.mode.Mode.TheVariants.{Metal}
@@ -12,7 +12,8 @@ use Rattle.metal_grammar.specs.Definition.{IsMachine}
 use Rattle.metal_grammar.proofs.Machines.{machines_are_unique, first_faults_are_unique, never_both, texts_are_unique}
 use Rattle.request_files.specs.FrontEnd.Checkers.{HasNoMachine, IsRuleAt, IsPlaceOf}
 use Rattle.request_files.specs.FrontEnd.Faults.{of_text}
-use Rattle.request_files.specs.FrontEnd.Found.{stands_at}
+use Rattle.request_files.specs.FrontEnd.Found.{stands_first}
+use Rattle.request_files.proofs.FrontEnd.AtTokens.{one_behind}
 use Rattle.request_files.specs.declared.front_end.refusal.Faulty.{Faulty}
 use Rattle.request_files.specs.Meanings.{AreCheckerTokens, IsChecker}
 use Rattle.request_files.specs.Faults.{HasNoMeaning}
@@ -45,8 +46,9 @@ one_found : (names : Spelling) (list : TokenList) (a b : Faulty) → HasNoMachin
 one_found names list a b x y =
     let ts = symbols_of list.all in
     let f = first_faults_are_unique names ts x.fault y.fault x.first y.first in
-    let p = one_position names ts y.fault x.position y.position (subst (λ z. IsPlaceOf names ts z x.position) f x.place) y.place in
-    x.there ∙ ap (λ z. stands_at list (of_text z) x.position) f ∙ ap (stands_at list (of_text y.fault)) p ∙ sym y.there
+    let p = one_position names ts y.fault (length x.before) (length y.before) (subst (λ z. IsPlaceOf names ts z (length x.before)) f x.place) y.place in
+    let r = one_behind list.all x.before x.behind y.before y.behind x.parts y.parts p in
+    x.there ∙ ap (λ z. stands_first (of_text z) x.behind list.end) f ∙ ap (λ ts. stands_first (of_text y.fault) ts list.end) r ∙ sym y.there
 
 module _ (number : ℕ) (word : List ℕ) (before : Spelling) (bytes : List ℕ) (once : HasNoRepeats before) where
   pub one_tokens : (names grown : Spelling) (list other : TokenList) → AreCheckerTokens number word before names bytes list → AreCheckerTokens number word before grown bytes other → (names ≡ grown) × (list ≡ other)

@@ -1,6 +1,6 @@
 //! A checker's machine, or its first fault at its place.
 
-ghost use Rattle.std.specs.Prelude.{◌≡◌, ◌⊎◌, ◌+◌, ◌<◌, ◌≤◌, ◌^◌, ℕ, List, Some, length, IfOk, IfErr, MatchResult};
+ghost use Rattle.std.specs.Prelude.{◌≡◌, ◌⊎◌, ◌+◌, ◌<◌, ◌≤◌, ◌^◌, ℕ, List, [], Some, length, slice_get, IfOk, IfErr, MatchResult};
 ghost use Rattle.mx_base.specs.Names.{AddsAtMost, HasNoRepeats};
 ghost use Rattle.c_tree.specs.Symbol.{symbols_of};
 ghost use Rattle.c_lexer.specs.CReading.Pieces.{Piece as ReadPiece};
@@ -14,39 +14,60 @@ ghost use Rattle.metal_written.specs.Strings.{with_strings};
 ghost use Rattle.metal_written.specs.Texts.{AreBelow};
 ghost use Rattle.metal_numbers.specs.MetalBuilding.Places.{HasPlaces};
 ghost use Rattle.request_files.specs.FrontEnd.Checkers.{HasNoMachine};
-ghost use Rattle.request_files.specs.FrontEnd.Found.{stands_at};
-ghost use Rattle.request_files.specs.FrontEnd.Refusals.{unmade_as, rule_token, refused_rule};
+ghost use Rattle.request_files.specs.FrontEnd.Found.{stands_first};
+ghost use Rattle.request_files.specs.FrontEnd.Refusals.{unmade_as, stands_behind, stands_at_rule, refused_rule};
 ghost use Rattle.request_files.specs.declared.front_end.refusal.Faulty.{Faulty as Found};
 ghost use Rattle.request_files.specs.declared.front_end.refusal.Refusal.TheVariants.{Faulty as FaultyAt, NoMemory};
 
 use crate::fault::Fault;
-use crate::front_end::refusal::Refusal;
-use crate::front_end::tokens::at_place;
+use crate::front_end::refusal::{Faulty, Refusal};
+use crate::front_end::tokens::at_spot;
 use bumpalo::Bump;
 use c_lexer::Tokens;
-use c_tree::Place;
+use c_tree::Token;
 use metal_reader::{MetalFault, read_machine, rule_place};
 use metal_tree::Machine;
 use mx_base::Names;
 use std::alloc::Global;
 
-/// The place of a rule's first token; that of the end where there is no such rule.
-fn place_of(rule: u16, tokens: &Tokens, names: &Names) -> Place
-    requires text { (cs : List Clause) × IsText names.now cs (symbols_of tokens.now.all) }
-    ensures { result.token ≡ rule_token tokens.now rule }
+/// The token behind so many others, if there is one.
+fn token_behind(tokens: &[Token], before: u32) -> Option<Token>
+    ensures { result ≡ slice_get tokens.now before }
 {
-    match rule_place(tokens, rule, names) {
-        Some(place) => place,
-        None => tokens.end().place,
+    tokens.get(before as usize).copied()
+}
+
+/// A fault where the bytes of a file end.
+fn at_end(fault: Fault, tokens: &Tokens) -> Refusal
+    ensures { result ≡ FaultyAt (stands_first fault [] tokens.now.end) }
+{
+    at_spot(fault, tokens.end())
+}
+
+/// A fault at the token behind so many others, or at the end where there is none. All tokens of a checker are kept, so that as many
+/// stand before each as its place says.
+fn at_token(fault: Fault, tokens: &Tokens, before: u32) -> Refusal
+    ensures { result ≡ FaultyAt (stands_behind tokens.now fault before) }
+{
+    match token_behind(tokens.all(), before) {
+        Some(token) => Refusal::Faulty(Faulty {
+            fault,
+            source: token.source,
+            line: token.line,
+        }),
+        None => at_end(fault, tokens),
     }
 }
 
-/// A fault of a rule, at the rule's first token.
+/// A fault of a rule, at the rule's first token, or at the end where there is no such rule.
 fn at_rule(fault: Fault, tokens: &Tokens, rule: u16, names: &Names) -> Refusal
     requires text { (cs : List Clause) × IsText names.now cs (symbols_of tokens.now.all) }
-    ensures { result ≡ FaultyAt (stands_at tokens.now fault (rule_token tokens.now rule)) }
+    ensures { result ≡ FaultyAt (stands_at_rule tokens.now fault rule) }
 {
-    at_place(fault, tokens, place_of(rule, tokens, names))
+    match rule_place(tokens, rule, names) {
+        Some(place) => at_token(fault, tokens, place.token),
+        None => at_end(fault, tokens),
+    }
 }
 
 /// Why tokens are no machine. Where a rule has the fault, they are a text.
@@ -55,10 +76,14 @@ fn unmade(fault: MetalFault, tokens: &Tokens, names: &Names) -> Refusal
     ensures { result ≡ unmade_as tokens.now fault }
 {
     match fault {
-        MetalFault::Syntax(place) => at_place(Fault::Syntax, tokens, place),
-        MetalFault::TooMany(_, place) => at_place(Fault::TooMany, tokens, place),
-        MetalFault::Twice(_, place) => at_place(Fault::Twice, tokens, place),
-        MetalFault::UnknownCallout(_, place) => at_place(Fault::UnknownCallout, tokens, place),
+        MetalFault::Syntax(place) => at_token(Fault::Syntax, tokens, place.token),
+        MetalFault::TooMany(_, place) => at_token(Fault::TooMany, tokens, place.token),
+        MetalFault::Twice(_, place) => at_token(Fault::Twice, tokens, place.token),
+        MetalFault::UnknownCallout(_, place) => at_token(
+            Fault::UnknownCallout,
+            tokens,
+            place.token,
+        ),
         MetalFault::TwoVariables(rule) => at_rule(Fault::TwoVariables, tokens, rule, names),
         MetalFault::BadSplit(rule) => at_rule(Fault::BadSplit, tokens, rule, names),
         MetalFault::BadSource(rule) => at_rule(Fault::BadSource, tokens, rule, names),

@@ -17,7 +17,7 @@ use mx_base::Names;
 use std::alloc::Global;
 
 /// A fault where a reader stopped.
-fn at_spot(fault: Fault, spot: Spot) -> Refusal
+pub(crate) fn at_spot(fault: Fault, spot: Spot) -> Refusal
     ensures { result ≡ FaultyAt (record { fault = fault; source = spot.source; line = spot.line }) }
 {
     Refusal::Faulty(Faulty {

@@ -7,7 +7,7 @@ use Rattle.flow_graph.specs.declared.statements.BodyBuilder.{BodyBuilder}
 use Rattle.flow_graph.specs.Values.{blocks_of, drafts_of}
 use Rattle.flow_graph.specs.Seen.{graph_in}
 use Rattle.flow_graph.specs.Statements.{IsPlaced}
-use Rattle.flow_graph.proofs.Whole.{graph_is, dead_is, is_graph_of, has_traces, is_sound, stands_in_text}
+use Rattle.flow_graph.proofs.Whole.{graph_is, dead_is, is_graph_of, joined_replaced, replaced_then, has_traces, is_sound, stands_in_text}
 use Rattle.flow_graph.proofs.bodies.build_body.Goals as goal
 
 pub returns : goal.returns
@@ -26,9 +26,13 @@ returns g c =
     let built : graph_is bs entry ≡ graph_of F d =
     is_graph_of F c.args.function c.args.close body first c.statement.new.self c.silent.new.self.drafts.items c.in_ok-dead.dead c.in_ok-last.last entry c.statement.new.cases.items bs
     at_dead c.in_ok-last.ensures c.new-builder.ensures.labels placed c.in_ok-blocks.ensures in
-    let joined = c.in_ok-join_all.ensures in
-    let graph = graph_in c.new-2.result in record {
-      traces = has_traces F d graph bs cs entry built joined c.new-2.ensures.blocks c.new-2.ensures.begins;
-      sound = is_sound F d graph bs cs entry built joined c.new-2.ensures.blocks c.new-2.ensures.begins;
-      text = stands_in_text F d graph bs cs entry built joined c.new-2.ensures.blocks c.new-2.ensures.begins;
+    let straight = graph_in c.in_ok-straight.straight in
+    let graph = graph_in c.in_ok-graph.graph in
+    let led = joined_replaced bs cs entry straight c.in_ok-join_all.ensures c.in_ok-straight.ensures in
+    let sound = is_sound F d straight bs entry built led in
+    let kept = replaced_then (graph_is bs entry) straight graph led (c.in_ok-graph.ensures.replaces sound) in record {
+      traces = has_traces F d graph bs entry built kept;
+      sound = is_sound F d graph bs entry built kept;
+      text = stands_in_text F d graph bs entry built kept;
+      reached = c.in_ok-graph.ensures.reached sound;
     }

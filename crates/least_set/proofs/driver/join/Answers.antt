@@ -15,20 +15,20 @@ pub loop-wait-init : goal.loop-wait-init
 loop-wait-init g c = record {
   split = refl;
   len = search rules;
-  adds = answers_nothing (g.R.CachingRules.wakes (g.R.CachingRules.source c.args.rules.now)) c.args.log.now.keys (at g.R.Context.PartialEq.eq c.args.ended.now);
+  adds = answers_nothing (g.R.CachingRules.wakes (g.R.CachingRules.source c.args.rules.now)) (g.L.Log.keys c.args.log.now) (at g.R.Context.PartialEq.eq c.args.ended.now);
   extends = keeps_nothing (at g.R.Context.PartialEq.eq c.args.waiting.now);
 }
 
 pub answer-requires : goal.answer-requires
 answer-requires g c j m =
-    let h : j < length c.args.log.now.keys = c.requires c.in-Some.wait.on j (subst (λ l. Contains l j) c.list_at.ensures m) in
+    let h : j < length (g.L.Log.keys c.args.log.now) = c.requires c.in-Some.wait.on j (subst (λ l. Contains l j) c.list_at.ensures m) in
     omega (arith, h, not_shorter c.loop-wait.invariant.adds)
 
 pub loop-wait-preserved : goal.loop-wait-preserved
 loop-wait-preserved g c =
     let wakes = g.R.CachingRules.wakes (g.R.CachingRules.source c.args.rules.now) in
     let ends = at g.R.Context.PartialEq.eq c.args.ended.now in
-    let old = c.args.log.now.keys in
+    let old = g.L.Log.keys c.args.log.now in
     let at_loop = c.loop-wait in
     let x = c.in-Some.wait in
     let steps : into_iter_items at_loop.wait-iterator ≡ x ∷ into_iter_items c.next.new.self = c.in-Some.ensures.steps.0 in record {
@@ -48,6 +48,6 @@ returns g c =
     let none = c.in-None.ensures.steps in
     let empty : into_iter_items at_loop.wait-iterator ≡ [] = nothing_left _ (sym at_loop.invariant.len ∙ none.0) in
     let all = sym (append-nil at_loop.yielded) ∙ rw empty at at_loop.invariant.split ∙ c.into_iter-wait-iterator.ensures.into_iter_gives.0 in record {
-      log = subst (λ l. Adds (Answers (g.R.CachingRules.wakes (g.R.CachingRules.source c.args.rules.now)) c.args.log.now.keys (at g.R.Context.PartialEq.eq c.args.ended.now) l) c.args.log.now.keys at_loop.log.keys) all at_loop.invariant.adds;
+      log = subst (λ l. Adds (Answers (g.R.CachingRules.wakes (g.R.CachingRules.source c.args.rules.now)) (g.L.Log.keys c.args.log.now) (at g.R.Context.PartialEq.eq c.args.ended.now) l) (g.L.Log.keys c.args.log.now) (g.L.Log.keys at_loop.log)) all at_loop.invariant.adds;
       waiting = subst (λ l. Extends (Kept l) (at g.R.Context.PartialEq.eq c.args.waiting.now) (at g.R.Context.PartialEq.eq at_loop.waiting)) all at_loop.invariant.extends;
     }

@@ -10,6 +10,6 @@ abbrev pub invariant-loop-wait : goal.invariant-loop-wait
 invariant-loop-wait g l = record {
   split : l.yielded ++ into_iter_items l.wait-iterator ≡ into_iter_items l.initial.wait-iterator;
   len : into_iter_len l.wait-iterator ≡ length (into_iter_items l.wait-iterator);
-  adds : Adds (Answers (g.R.CachingRules.wakes (g.R.CachingRules.source l.rules)) l.fn.log.keys (at g.R.Context.PartialEq.eq l.ended) l.yielded) l.fn.log.keys l.log.keys;
+  adds : Adds (Answers (g.R.CachingRules.wakes (g.R.CachingRules.source l.rules)) (g.L.Log.keys l.fn.log) (at g.R.Context.PartialEq.eq l.ended) l.yielded) (g.L.Log.keys l.fn.log) (g.L.Log.keys l.log);
   extends : Extends (Kept l.yielded) (at g.R.Context.PartialEq.eq l.fn.waiting) (at g.R.Context.PartialEq.eq l.waiting);
 }

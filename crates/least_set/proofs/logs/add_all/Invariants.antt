@@ -7,6 +7,6 @@ use Rattle.least_set.proofs.logs.add_all.Given as goal
 abbrev pub invariant-loop-member : goal.invariant-loop-member
 invariant-loop-member g l = record {
   split : l.yielded ++ into_iter_items l.member-iterator ≡ into_iter_items l.initial.member-iterator;
-  adds : Adds (Contains l.yielded) l.fn.log.keys l.log.keys;
+  adds : Adds (Contains l.yielded) (g.L.Log.keys l.fn.log) (g.L.Log.keys l.log);
   len : into_iter_len l.member-iterator ≡ length (into_iter_items l.member-iterator);
 }

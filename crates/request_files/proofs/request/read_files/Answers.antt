@@ -1,4 +1,5 @@
 use Rattle.std.proofs.Common.{length, ap, subst, arith}
+use Rattle.mx_io.proofs.Readable.{reads_behind}
 use Rattle.request_files.specs.Faults.{before_file, total_limit}
 use Rattle.request_files.specs.InTurn.{AnswersUnread, AreReadCheckers, AreReadSources}
 use Rattle.request_files.specs.Telling.{may_hold}
@@ -58,3 +59,15 @@ returns-clause-read g c =
     all_read (may_hold told) (words_of c.args.checkers.now) (words_of c.args.sources.now) machines middle
     (at_the_first (λ b. AreReadCheckers (may_hold told) b (words_of c.args.checkers.now) (words_of c.args.checkers.now) machines middle) total_limit c.args.names.now c.requires.fresh c.in-Ok.ensures.read) texts end
     (subst (λ t. AreReadSources (may_hold t) middle (words_of c.args.sources.now) (words_of c.args.sources.now) texts end) c.read_checkers.ensures.same c.in-Ok-read_sources.ensures.read)
+
+pub returns-in-Err-NotRead-clause-readable : goal.returns-in-Err-NotRead-clause-readable
+returns-in-Err-NotRead-clause-readable g c = reads_behind _ _ _ _ _ c.read_checkers.ensures.kept c.in-Ok.ensures.none_failed c.read_sources.ensures.readable
+
+pub returns-in-Err-Faulty-clause-readable : goal.returns-in-Err-Faulty-clause-readable
+returns-in-Err-Faulty-clause-readable g c = reads_behind _ _ _ _ _ c.read_checkers.ensures.kept c.in-Ok.ensures.none_failed c.read_sources.ensures.readable
+
+pub returns-in-Err-NoMemory-clause-readable : goal.returns-in-Err-NoMemory-clause-readable
+returns-in-Err-NoMemory-clause-readable g c = reads_behind _ _ _ _ _ c.read_checkers.ensures.kept c.in-Ok.ensures.none_failed c.read_sources.ensures.readable
+
+pub returns-clause-readable : goal.returns-clause-readable
+returns-clause-readable g c = reads_behind _ _ _ _ _ c.read_checkers.ensures.kept c.in-Ok.ensures.none_failed c.read_sources.ensures.readable

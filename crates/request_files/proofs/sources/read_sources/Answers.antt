@@ -1,4 +1,5 @@
 use Rattle.std.proofs.Common.{◌+◌, ◌*◌, ◌∙◌, [], ◌∷◌, length, length-append, ap, arith}
+use Rattle.mx_io.proofs.Readable.{reads_behind}
 use Rattle.request_files.specs.Faults.{before_file}
 use Rattle.request_files.specs.Turns.{SourceFile}
 use Rattle.request_files.proofs.Looping.{not_read, faulty, sources_more, source_fits, room_left, numbered-push, place_taken}
@@ -22,6 +23,15 @@ returns-in-Err-Faulty-clause-unread g c =
     (omega (arith, here.count, c.loop-word.units.ok.0, c.len-position.ensures, c.requires.few, c.loop-word-test.true))
     )
 
+pub returns-in-Err-NotRead-clause-readable : goal.returns-in-Err-NotRead-clause-readable
+returns-in-Err-NotRead-clause-readable g c = reads_behind _ _ _ _ _ c.loop-word.invariant.kept c.loop-word.invariant.failed c.load_source.ensures.readable
+
+pub returns-in-Err-Faulty-clause-readable : goal.returns-in-Err-Faulty-clause-readable
+returns-in-Err-Faulty-clause-readable g c = reads_behind _ _ _ _ _ c.loop-word.invariant.kept c.loop-word.invariant.failed c.load_source.ensures.readable
+
+pub returns-in-Err-NoMemory-clause-readable : goal.returns-in-Err-NoMemory-clause-readable
+returns-in-Err-NoMemory-clause-readable g c = reads_behind _ _ _ _ _ c.loop-word.invariant.kept c.loop-word.invariant.failed c.load_source.ensures.readable
+
 pub loop-word-preserved : goal.loop-word-preserved
 loop-word-preserved g c =
     let here = c.loop-word.invariant in
@@ -40,4 +50,5 @@ loop-word-preserved g c =
           (adds_few c.loop-word.names c.load_source.new.names (size + 1) c.in-Ok.ensures.adds) (omega arith) fits here.room;
       failed = c.in-Ok.ensures.none_failed ∙ here.failed;
       contents = c.load_source.ensures.same ∙ here.contents;
+      kept = c.load_source.ensures.kept ∙ here.kept;
     }

@@ -20,4 +20,5 @@ invariant-loop-word g l =
       room : length l.names + 2 * l.rest ≤ length l.fn.names + 2 * l.fn.left + l.word-index;
       failed : files.failed l.files ≡ files.failed l.fn.files;
       contents : files.contents l.files ≡ files.contents l.fn.files;
+      kept : files.readable l.files ≡ files.readable l.fn.files;
     }

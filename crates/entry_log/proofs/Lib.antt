@@ -1,0 +1,5 @@
+pub mod Setting
+pub mod Placing
+pub mod Reading
+pub mod Inserting
+pub mod Near

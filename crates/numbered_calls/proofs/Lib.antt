@@ -1,0 +1,9 @@
+pub mod NumberedItems
+pub mod FollowedNumbers
+pub mod GoneThrough
+pub mod PassedTuples
+pub mod CallParts
+pub mod FollowedLists
+pub mod MaskedParts
+pub mod SitesStand
+pub mod Examples

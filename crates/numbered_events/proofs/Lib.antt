@@ -1,0 +1,10 @@
+pub mod PlacesInLists
+pub mod ItemNumbers
+pub mod TakenByNumber
+pub mod TakenPlaces
+pub mod MovedNumbers
+pub mod NamedStates
+pub mod NextNumbers
+pub mod NotedNumbers
+pub mod StandingRows
+pub mod Examples

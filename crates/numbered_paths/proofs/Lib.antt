@@ -1,0 +1,12 @@
+pub mod Lists
+pub mod SmallLists
+pub mod SameNumbers
+pub mod TupleFacts
+pub mod BlockTables
+pub mod DerivedEdges
+pub mod LeastLog
+pub mod LogReports
+pub mod Blocks
+pub mod MovedTuples
+pub mod BareChoices
+pub mod RowsOfParts

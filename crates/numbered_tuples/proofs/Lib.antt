@@ -1,0 +1,4 @@
+pub mod Numbers
+pub mod FewStates
+pub mod TupleNumbers
+pub mod Examples

@@ -1,0 +1,8 @@
+-- THE NUMBER OF AN OBJECT among those that are followed in a function: 0 where it isn't one of them.
+use Rattle.std.specs.Prelude.{ℕ, List}
+use Rattle.c_objects.specs.Objects.{Object}
+use Rattle.objects.specs.Equality.{same_object}
+use Rattle.numbered_tuples.specs.Numbers.{number_by}
+
+abbrev pub number_of : List Object → Object → ℕ
+number_of objects o = number_by same_object objects o

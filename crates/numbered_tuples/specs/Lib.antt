@@ -1,0 +1,4 @@
+pub mod Numbers
+pub mod ObjectStates
+pub mod FollowedObjects
+pub mod Tuples
