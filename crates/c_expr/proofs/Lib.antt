@@ -1,4 +1,3 @@
-pub mod Declarations
 pub mod Items
 pub mod Lists
 pub mod Runs

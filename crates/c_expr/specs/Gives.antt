@@ -6,7 +6,7 @@ use Rattle.c_tree.specs.Syntax.{Syntaxes, no_more, more}
 use Rattle.c_tree.specs.Height.{height_of, height_in}
 use Rattle.c_tree.specs.Forget.{view, list_view}
 use Rattle.c_grammar.specs.Found.{Found}
-use Rattle.c_expr.specs.Scopes.{Scopes}
+use Rattle.c_grammar.specs.Scopes.{Scopes}
 use Rattle.c_expr.specs.declared.fault.ExprFault.{ExprFault}
 use Rattle.c_expr.specs.declared.fault.ExprFault.TheVariants.{NoTree}
 use Rattle.c_expr.specs.declared.nodes.Read.{Read}

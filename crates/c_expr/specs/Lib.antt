@@ -1,5 +1,3 @@
-pub mod Declarations
-pub mod Scopes
 pub mod Runs
 pub mod SpecifierPlaces
 pub mod Gives

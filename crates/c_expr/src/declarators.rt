@@ -27,7 +27,7 @@ use crate::operators::ASSIGNMENT_LEVEL;
 use crate::params::read_param_list;
 use crate::specifier_words::begins_specifiers;
 use crate::symbols::{Run, after_sign, is_sign, place_of, split_run, take_word};
-use crate::type_names::TypeNames;
+use c_grammar::TypeNames;
 use c_tree::{Arena, Declarator, Kind, Part, Place, Punctuator, Token, TokenKind, Trees};
 
 /// Whether a declarator has a name.

@@ -27,8 +27,8 @@ use crate::operators::{
 use crate::postfix::read_postfix;
 use crate::specifier_words::begins_specifiers;
 use crate::symbols::{after_keyword, after_sign, place_of};
-use crate::type_names::TypeNames;
 use crate::types::type_name_in_front;
+use c_grammar::TypeNames;
 use c_tree::{
     Arena, AssignOp, BinaryOp, Keyword, Kind, Operation, Place, Punctuator, Token, UnaryOp,
 };

@@ -1,11 +1,10 @@
 //! Reads C's expressions, type names, specifiers and declarators.
 #![tactic(auto)]
 
-// nodes, symbols, names and faults
+// nodes, symbols and faults
 mod fault;
 mod nodes;
 mod symbols;
-mod type_names;
 
 // operators and words of specifiers
 mod operators;
@@ -39,5 +38,4 @@ pub use specifier_words::{
 };
 pub use specifiers::specifiers_in_front;
 pub use symbols::{after_keyword, after_sign, is_keyword, is_sign, place_of, take_word};
-pub use type_names::TypeNames;
 pub use types::type_name_in_front;

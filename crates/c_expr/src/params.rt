@@ -26,7 +26,7 @@ use crate::nodes::{Read, list_of, node, part};
 use crate::specifier_words::SpecifierPlace;
 use crate::specifiers::specifiers_in_front;
 use crate::symbols::{after_keyword, after_sign};
-use crate::type_names::TypeNames;
+use c_grammar::TypeNames;
 use c_tree::{
     Arena, Declarator, Keyword, Kind, Part, Place, Punctuator, Specifier, Token, TokenKind, Tree,
     Trees,

@@ -23,7 +23,7 @@ use crate::nodes::{Read, ReadList, list_of, node};
 use crate::operators::{ASSIGNMENT_LEVEL, COMMA_LEVEL};
 use crate::primary::read_primary;
 use crate::symbols::{after_sign, place_of, take_word};
-use crate::type_names::TypeNames;
+use c_grammar::TypeNames;
 use c_tree::{Arena, Kind, Operation, Place, Punctuator, Token, TokenKind, UnaryOp};
 
 /// Whether the token in front goes on with a postfix expression.

@@ -22,8 +22,8 @@ use crate::fault::ExprFault;
 use crate::nodes::{Read, ReadList, list_of, node, part};
 use crate::operators::{ASSIGNMENT_LEVEL, COMMA_LEVEL};
 use crate::symbols::{Run, after_sign, place_of, split_run, take_word};
-use crate::type_names::TypeNames;
 use crate::types::type_name_in_front;
+use c_grammar::TypeNames;
 use c_tree::{Arena, Keyword, Kind, Part, Place, Primary, Punctuator, Token, TokenKind};
 
 /// A string literal with those that follow it (6.1.4).

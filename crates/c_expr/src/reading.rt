@@ -20,8 +20,7 @@ use crate::nodes::Read;
 use crate::operators::COMMA_LEVEL;
 use crate::specifier_words::SpecifierPlace;
 use crate::specifiers::specifiers_in_front;
-use crate::type_names::TypeNames;
-use c_grammar::parses_are_read;
+use c_grammar::{TypeNames, parses_are_read};
 use c_tree::{Arena, Token, Tree};
 
 /// The height of the highest tree that is read.

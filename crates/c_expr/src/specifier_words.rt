@@ -7,8 +7,8 @@ ghost use Rattle.c_grammar.specs.Symbols.{begins};
 ghost use Rattle.c_grammar.specs.Specifiers.{is_storage, is_type_word, is_specifier, begins_tag, goes_on, begins_specifiers, types, type_words_of, other_types_of, storages_of, inlines_of, type_words, other_types, storages, inlines, is_one_type, are_allowed, fit};
 ghost use Rattle.c_expr.specs.SpecifierPlaces.{place_of};
 
-use crate::type_names::TypeNames;
 use bumpalo::collections::into_bump_slice;
+use c_grammar::TypeNames;
 use c_tree::{Arena, Keyword, Kind, Part, Token, TokenKind, Tree};
 use std::alloc::AllocError;
 use type_values::is_basic;

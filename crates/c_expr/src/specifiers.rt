@@ -20,7 +20,7 @@ use crate::fault::ExprFault;
 use crate::nodes::{Read, ReadList, list_of, node, part};
 use crate::specifier_words::{SpecifierPlace, begins_tag, fit, goes_on, says_type};
 use crate::symbols::{place_of, take_word};
-use crate::type_names::TypeNames;
+use c_grammar::TypeNames;
 use c_tree::{Arena, Keyword, Kind, Part, Place, Specifier, StructOrUnion, Token, TokenKind};
 
 /// The tag behind `struct` or `union`.

@@ -18,7 +18,7 @@ use crate::fault::ExprFault;
 use crate::nodes::{Read, node};
 use crate::specifier_words::SpecifierPlace;
 use crate::specifiers::specifiers_in_front;
-use crate::type_names::TypeNames;
+use c_grammar::TypeNames;
 use c_tree::{Arena, Kind, Specifier, Token};
 
 /// A type name without a declarator.

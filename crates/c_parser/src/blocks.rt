@@ -15,7 +15,8 @@ use crate::declarations::declaration_in_front;
 use crate::front::begins_declaration;
 use crate::statement_nodes::block_of;
 use crate::statements::statement_in_front;
-use c_expr::{ExprFault, Read, ReadList, TypeNames, after_sign, list_of, place_of};
+use c_expr::{ExprFault, Read, ReadList, after_sign, list_of, place_of};
+use c_grammar::TypeNames;
 use c_tree::{Arena, Place, Punctuator, Token};
 
 /// Declarations and then statements, up to the brace that closes a block. What is declared stays in force.

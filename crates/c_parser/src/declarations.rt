@@ -23,9 +23,9 @@ use crate::declared::makes_types;
 use crate::initialized::read_init_declarators;
 use crate::specifiers::specifiers_in_front;
 use c_expr::{
-    ExprFault, Form, Read, ReadList, SpecifierPlace, TypeNames, after_sign, declarator_in_front,
-    list_of,
+    ExprFault, Form, Read, ReadList, SpecifierPlace, after_sign, declarator_in_front, list_of,
 };
+use c_grammar::TypeNames;
 use c_tree::{Arena, Punctuator, Token};
 
 /// A declaration without declarators, in front of `rest`.

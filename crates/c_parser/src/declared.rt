@@ -8,7 +8,8 @@ ghost use Rattle.c_grammar.specs.Specifiers.{storages_of, storages};
 ghost use Rattle.c_grammar.specs.Names.{with_name, with_params};
 ghost use Rattle.c_grammar.specs.UnitGrammar.Names.{has_typedef, makes_types, declared_name};
 
-use c_expr::{TypeNames, declare_param, name_of};
+use c_expr::{declare_param, name_of};
+use c_grammar::TypeNames;
 use c_tree::{Initializer, Keyword, Kind, Part, Specifier, Token, TokenKind, Tree};
 use std::alloc::AllocError;
 

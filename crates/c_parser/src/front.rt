@@ -5,7 +5,8 @@ ghost use Rattle.c_tree.specs.Symbol.{symbols_of};
 ghost use Rattle.c_grammar.specs.Symbols.{is_sign, begins};
 ghost use Rattle.c_grammar.specs.UnitGrammar.StatementSteps.{begins_label, begins_declaration};
 
-use c_expr::{TypeNames, begins_specifiers, is_sign};
+use c_expr::{begins_specifiers, is_sign};
+use c_grammar::TypeNames;
 use c_tree::{Punctuator, Token, TokenKind};
 
 /// Whether this punctuator stands in front.

@@ -24,9 +24,9 @@ use crate::definitions::{may_define, params_of};
 use crate::front::begins_sign;
 use crate::specifiers::specifiers_in_front;
 use c_expr::{
-    ExprFault, Form, Read, SpecifierPlace, TypeNames, after_sign, declarator_in_front, name_of,
-    place_of,
+    ExprFault, Form, Read, SpecifierPlace, after_sign, declarator_in_front, name_of, place_of,
 };
+use c_grammar::TypeNames;
 use c_tree::{Arena, Punctuator, Token, Tree};
 use std::alloc::Global;
 

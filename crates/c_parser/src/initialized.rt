@@ -22,9 +22,8 @@ ghost use Rattle.c_parser.specs.Parts.{OverListUpTo};
 use crate::declaration_nodes::init_of;
 use crate::declared::{declare, declared_name};
 use crate::initials::read_initial;
-use c_expr::{
-    ExprFault, Form, Read, ReadList, TypeNames, after_sign, declarator_in_front, list_of, part,
-};
+use c_expr::{ExprFault, Form, Read, ReadList, after_sign, declarator_in_front, list_of, part};
+use c_grammar::TypeNames;
 use c_tree::{Arena, Declarator, Kind, Primary, Punctuator, Token, TokenKind, Tree};
 
 /// The token that a declarator declares, if it is a word.

@@ -14,9 +14,9 @@ use crate::declaration_nodes::braces_of;
 use crate::front::begins_sign;
 use crate::parts::ReadCommaList;
 use c_expr::{
-    ASSIGNMENT_LEVEL, ExprFault, Read, TypeNames, after_sign, expression_in_front, list_of,
-    place_of,
+    ASSIGNMENT_LEVEL, ExprFault, Read, after_sign, expression_in_front, list_of, place_of,
 };
+use c_grammar::TypeNames;
 use c_tree::{Arena, Punctuator, Token};
 
 /// An expression, or initial values in braces.

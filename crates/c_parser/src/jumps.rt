@@ -11,7 +11,8 @@ ghost use Rattle.c_expr.specs.Gives.{Gives, AsBefore, left, Spends};
 
 use crate::statement_nodes::return_of;
 use crate::statements::read_maybe_expression;
-use c_expr::{ExprFault, Read, TypeNames, after_sign, node, take_word};
+use c_expr::{ExprFault, Read, after_sign, node, take_word};
+use c_grammar::TypeNames;
 use c_tree::{Arena, Jump, Kind, Place, Punctuator, Token};
 
 /// What follows `goto` (6.6.6.1).

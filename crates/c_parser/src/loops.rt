@@ -12,7 +12,8 @@ ghost use Rattle.c_expr.specs.Gives.{Gives, AsBefore, left, Spends};
 
 use crate::statement_nodes::{do_of, for_of, while_of};
 use crate::statements::{read_condition, read_maybe_expression, statement_in_front};
-use c_expr::{ExprFault, Read, TypeNames, after_keyword, after_sign};
+use c_expr::{ExprFault, Read, after_keyword, after_sign};
+use c_grammar::TypeNames;
 use c_tree::{Arena, Keyword, Place, Punctuator, Token};
 
 /// What follows `while` (6.6.5.1).

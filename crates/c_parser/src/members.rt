@@ -20,9 +20,10 @@ ghost use Rattle.c_parser.specs.Parts.{OverListUpTo};
 use crate::specifiers::specifiers_in_front;
 use crate::tagged_nodes::{bare_field_of, field_of, members_of};
 use c_expr::{
-    CONDITIONAL_LEVEL, ExprFault, Form, Read, ReadList, SpecifierPlace, TypeNames, after_sign,
+    CONDITIONAL_LEVEL, ExprFault, Form, Read, ReadList, SpecifierPlace, after_sign,
     declarator_in_front, expression_in_front, list_of, node, place_of,
 };
+use c_grammar::TypeNames;
 use c_tree::{Arena, Kind, Outer, Punctuator, Specifier, Token, Tree};
 
 /// Whether the specifier is a structure or union with its body.

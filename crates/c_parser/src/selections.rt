@@ -13,9 +13,8 @@ ghost use Rattle.c_expr.specs.Gives.{Gives, AsBefore, left, Spends};
 
 use crate::statement_nodes::{case_of, default_of, if_else_of, if_of, label_of, switch_of};
 use crate::statements::{read_condition, statement_in_front};
-use c_expr::{
-    CONDITIONAL_LEVEL, ExprFault, Read, TypeNames, after_keyword, after_sign, expression_in_front,
-};
+use c_expr::{CONDITIONAL_LEVEL, ExprFault, Read, after_keyword, after_sign, expression_in_front};
+use c_grammar::TypeNames;
 use c_tree::{Arena, Keyword, Place, Punctuator, Token};
 
 /// What follows a label and its colon (6.6.1).

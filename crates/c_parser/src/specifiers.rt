@@ -17,9 +17,10 @@ ghost use Rattle.c_parser.specs.TypedOnce.{read_typed_once};
 
 use crate::tagged::tagged_in_front;
 use c_expr::{
-    ExprFault, Read, ReadList, SpecifierPlace, TypeNames, begins_tag, fit, goes_on, list_of, node,
-    part, place_of, says_type,
+    ExprFault, Read, ReadList, SpecifierPlace, begins_tag, fit, goes_on, list_of, node, part,
+    place_of, says_type,
 };
+use c_grammar::TypeNames;
 use c_tree::{Arena, Kind, Part, Specifier, Token};
 
 /// The token in front that goes on with specifiers, and what follows it.

@@ -17,7 +17,8 @@ use crate::loops::{read_do, read_for, read_while};
 use crate::parts::MaybeRead;
 use crate::selections::{read_case, read_default, read_if, read_label, read_switch};
 use crate::statement_nodes::expression_statement_of;
-use c_expr::{COMMA_LEVEL, ExprFault, Read, TypeNames, after_sign, expression_in_front, place_of};
+use c_expr::{COMMA_LEVEL, ExprFault, Read, after_sign, expression_in_front, place_of};
+use c_grammar::TypeNames;
 use c_tree::{Arena, Keyword, Punctuator, Token, TokenKind};
 
 /// An expression and this punctuator behind it, or the punctuator alone.

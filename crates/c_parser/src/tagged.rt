@@ -25,9 +25,10 @@ use crate::members::member_in_front;
 use crate::parts::ReadCommaList;
 use crate::tagged_nodes::{enum_body_of, enum_tag_of, struct_body_of, struct_tag_of};
 use c_expr::{
-    CONDITIONAL_LEVEL, ExprFault, Read, ReadList, TypeNames, after_keyword, after_sign,
-    expression_in_front, list_of, part, place_of, take_word,
+    CONDITIONAL_LEVEL, ExprFault, Read, ReadList, after_keyword, after_sign, expression_in_front,
+    list_of, part, place_of, take_word,
 };
+use c_grammar::TypeNames;
 use c_tree::{Arena, Keyword, Kind, Part, Place, Punctuator, StructOrUnion, Token, TokenKind};
 use std::alloc::AllocError;
 

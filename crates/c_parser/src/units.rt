@@ -19,9 +19,9 @@ ghost use Rattle.c_parser.specs.Units.{IsParseIn, AreTheTrees, IsFirstBadAt};
 
 use crate::fault::ParseFault;
 use crate::functions::read_chunk;
-use c_expr::{ExprFault, Read, TypeNames, list_of, place_of};
-use c_grammar::chunks_are_read;
+use c_expr::{ExprFault, Read, list_of, place_of};
 use c_grammar::unit_grammar::parses_are_unique;
+use c_grammar::{TypeNames, chunks_are_read};
 use c_lexer::{Tokens, chunks, is_cut};
 use c_tree::{Arena, Token, Tree};
 use std::alloc::Global;

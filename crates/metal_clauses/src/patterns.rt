@@ -10,7 +10,8 @@ ghost use Rattle.metal_clauses.specs.MetalParts.Steps.{special_item};
 
 use crate::metal_parts::{behind_sign, has_sign, read_callout, take_word};
 use bumpalo::collections::into_bump_slice;
-use c_expr::{COMMA_LEVEL, ExprFault, TypeNames, after_sign, expression_in_front};
+use c_expr::{COMMA_LEVEL, ExprFault, after_sign, expression_in_front};
+use c_grammar::TypeNames;
 use c_tree::{Arena, Punctuator, Token};
 use metal_written::{WrittenAlternative, WrittenItem};
 use std::alloc::Global;

@@ -3,7 +3,7 @@
 use crate::phrases::{Phrase, tree_of};
 use crate::texts::tokens_of;
 use bumpalo::Bump;
-use c_expr::TypeNames;
+use c_grammar::TypeNames;
 use c_lexer::{LexFault, Tokens};
 use c_tree::Arena;
 use mx_base::Names;

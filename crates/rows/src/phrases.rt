@@ -2,7 +2,8 @@
 
 use crate::texts::tokens_of;
 use bumpalo::Bump;
-use c_expr::{ExprFault, Form, TypeNames, read_declarator, read_expr, read_specs};
+use c_expr::{ExprFault, Form, read_declarator, read_expr, read_specs};
+use c_grammar::TypeNames;
 use c_lexer::{LexFault, Tokens};
 use c_tree::{Arena, Tree};
 use mx_base::Names;

@@ -3,9 +3,9 @@ use Rattle.std.proofs.Common.{◌≡◌, ℕ, Bool, true, false, cond, nat_eq, L
 use Rattle.std.specs.Option.{unwrap_or}
 use Rattle.std.proofs.lemmas.Bool.Decides.{nat_tests}
 use Rattle.c_grammar.specs.Names.{Names, is_type}
-use Rattle.c_expr.specs.declared.type_names.Change.{Change}
-use Rattle.c_expr.specs.declared.type_names.Change.TheVariants.{Name}
-use Rattle.c_expr.specs.Declarations.{onto, now_of, in_force, IsKept}
+use Rattle.c_grammar.specs.declared.type_names.Change.{Change}
+use Rattle.c_grammar.specs.declared.type_names.Change.TheVariants.{Name}
+use Rattle.c_grammar.specs.NameChanges.{onto, now_of, in_force, IsKept}
 
 pub onto-push : (es : List Change) (e : Change) (acc : List Change) → onto (es ++ (e ∷ [])) acc ≡ e ∷ onto es acc
 unfolding onto

@@ -1,7 +1,7 @@
 use Rattle.std.proofs.Common.{◌∙◌, ap}
 use Rattle.c_grammar.specs.Names.{is_type}
-use Rattle.c_expr.proofs.Declarations.{table_tells}
-use Rattle.c_expr.proofs.type_names.TypeNames.is_type.Goals as goal
+use Rattle.c_grammar.proofs.NameChanges.{table_tells}
+use Rattle.c_grammar.proofs.type_names.TypeNames.is_type.Goals as goal
 
 pub returns : goal.returns
 returns c =

@@ -1,8 +1,8 @@
 use Rattle.std.proofs.Common.{nat_eq, []}
 use Rattle.indexmap.specs.IndexMap.{get}
-use Rattle.c_expr.specs.Declarations.{onto}
-use Rattle.c_expr.proofs.Declarations.{kept_declared, onto-push}
-use Rattle.c_expr.proofs.type_names.TypeNames.declare.Goals as goal
+use Rattle.c_grammar.specs.NameChanges.{onto}
+use Rattle.c_grammar.proofs.NameChanges.{kept_declared, onto-push}
+use Rattle.c_grammar.proofs.type_names.TypeNames.declare.Goals as goal
 
 pub invariant_of-self-2 : goal.invariant_of-self-2
 invariant_of-self-2 c =

@@ -2,9 +2,9 @@
 use Rattle.std.specs.Prelude.{◌≡◌, ℕ, Bool, nat_eq, List, [], ◌∷◌, Option}
 use Rattle.std.specs.Map.{lookup}
 use Rattle.c_grammar.specs.Names.{Names}
-use Rattle.c_expr.specs.Scopes.{Scopes}
-use Rattle.c_expr.specs.declared.type_names.Change.{Change}
-use Rattle.c_expr.specs.declared.type_names.Change.TheVariants.{Open, Name}
+use Rattle.c_grammar.specs.Scopes.{Scopes}
+use Rattle.c_grammar.specs.declared.type_names.Change.{Change}
+use Rattle.c_grammar.specs.declared.type_names.Change.TheVariants.{Open, Name}
 
 -- the first of these comes last, and those behind them follow
 unfoldable pub onto : List Change → List Change → List Change

@@ -1,7 +1,7 @@
 use Rattle.std.proofs.Common.{◌≡◌, length, [], nat_eq}
 use Rattle.indexmap.specs.IndexMap.{get}
-use Rattle.c_expr.specs.Declarations.{saved_of, onto, IsKept}
-use Rattle.c_expr.proofs.type_names.TypeNames.close.Given as goal
+use Rattle.c_grammar.specs.NameChanges.{saved_of, onto, IsKept}
+use Rattle.c_grammar.proofs.type_names.TypeNames.close.Given as goal
 
 abbrev pub invariant-loop-change : goal.invariant-loop-change
 invariant-loop-change l = record {

@@ -36,11 +36,11 @@ pub struct TypeNames {
 impl Model for TypeNames {
     ghost use Rattle.std.specs.Prelude.{nat_eq, []};
     ghost use Rattle.indexmap.specs.IndexMap.{get};
-    ghost use Rattle.c_expr.specs.Scopes.{Scopes};
+    ghost use Rattle.c_grammar.specs.Scopes.{Scopes};
 
     ghost Value = { Scopes };
 
-    ghost use Rattle.c_expr.specs.Declarations.{onto, scopes_of, IsKept};
+    ghost use Rattle.c_grammar.specs.NameChanges.{onto, scopes_of, IsKept};
 
     ghost view = { λ s. scopes_of (onto s.log.items []) };
 
@@ -66,7 +66,7 @@ fn put_back(current: &mut IndexMap<u32, bool>, name: u32, before: Option<bool>)
 
 impl TypeNames {
     /// No names, and no scope but the outermost. No memory is taken yet.
-    #[tactic(auto, using(crate::proofs::Declarations::declarations))]
+    #[tactic(auto, using(crate::proofs::NameChanges::declarations))]
     pub fn new(alloc: Global) -> Self
         ensures now { result.now ≡ [] }
         ensures saved { result.saved ≡ [] }
@@ -78,7 +78,7 @@ impl TypeNames {
     }
 
     /// Begins a scope: the names in force stay, and are those to which it goes back.
-    #[tactic(auto, using(crate::proofs::Declarations::declarations))]
+    #[tactic(auto, using(crate::proofs::NameChanges::declarations))]
     pub fn open(&mut self) -> Result<(), AllocError>
         ensures now { self.new.now ≡ self.old.now }
         ensures saved { MatchResult result (λ _. self.new.saved ≡ self.old.now ∷ self.old.saved) (λ _. self.new.saved ≡ self.old.saved) }
@@ -88,7 +88,7 @@ impl TypeNames {
     }
 
     /// Ends the innermost scope: what it declared is no longer in force, and what that hid is again.
-    #[tactic(auto, using(crate::proofs::Declarations::declarations))]
+    #[tactic(auto, using(crate::proofs::NameChanges::declarations))]
     pub fn close(&mut self)
         requires { 0 < length self.old.saved }
         ensures { self.old.saved ≡ self.new.now ∷ self.new.saved }
@@ -102,7 +102,7 @@ impl TypeNames {
     }
 
     /// Declares a name in the innermost scope. It hides what was called so before.
-    #[tactic(auto, using(crate::proofs::Declarations::declarations))]
+    #[tactic(auto, using(crate::proofs::NameChanges::declarations))]
     pub fn declare(&mut self, name: u32, is_type: bool) -> Result<(), AllocError>
         ensures now { MatchResult result (λ _. self.new.now ≡ (name, is_type) ∷ self.old.now) (λ _. self.new.now ≡ self.old.now) }
         ensures saved { self.new.saved ≡ self.old.saved }
