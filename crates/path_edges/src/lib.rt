@@ -9,6 +9,8 @@ mod edges;
 // what least edges report
 mod theorems;
 
-pub use edge_steps::{copy_context, copy_tuple, entered, first_edges, onward, waits_for, woken};
+pub use edge_steps::{
+    copy_context, copy_tuple, entered, first_edges, onward, put_back_edge, waits_for, woken,
+};
 pub use edges::{Context, Edge, Waiter};
 pub use theorems::{empty_edges_meet, least_edges_report};

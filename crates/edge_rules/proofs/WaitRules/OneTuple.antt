@@ -9,7 +9,7 @@ use Rattle.path_model.specs.CheckerModel.Calls.{reached}
 use Rattle.path_model.specs.CheckerModel.Choices.{State}
 use Rattle.path_model.specs.CheckerModel.Happenings.{Function, Site}
 use Rattle.path_model.specs.CheckerModel.Reports.{Checker}
-use Rattle.path_edges.specs.EdgeSteps.Steps.{wait_for, woken_edge}
+use Rattle.path_edges.specs.EdgeSteps.Steps.{put_back, wait_for, woken_edge}
 use Rattle.path_edges.proofs.EdgeSteps.Lists.{contains-map, map-contains}
 use Rattle.least_set.specs.declared.two_premises.Wait.{Wait}
 use Rattle.least_set.specs.Logs.{IsExactly, SomeGives}
@@ -22,7 +22,7 @@ use Rattle.state_tuples.specs.declared.tuple.Tuple.{Tuple}
 use Rattle.block_flows.specs.TupleFlows.Facts.{is_in}
 use Rattle.block_flows.specs.TupleFlows.Passed.{IsSite, IsEntered, IsReturned}
 use Rattle.edge_rules.specs.WaitRules.Handing.{HandBackAlike}
-use Rattle.edge_rules.specs.WaitRules.Waiters.{IsSaved, IsWaiting, ForEntered, WithSaved, GoesOn, WithHanded, WithPutBack, put_back, wait_with}
+use Rattle.edge_rules.specs.WaitRules.Waiters.{IsSaved, IsWaiting, ForEntered, WithSaved, GoesOn, WithHanded, WithPutBack, wait_with}
 
 -- what is made of each value of a list
 pub exactly-mapped : {A B : Type 0} (f : A → B) (P : A → Type 0) (xs : List A) → IsExactly xs P → IsExactly (map f xs) (λ b. (a : A) × P a × (f a ≡ b))

@@ -11,7 +11,7 @@ use Rattle.path_model.specs.CheckerModel.Reports.{Checker}
 use Rattle.path_model.specs.CheckerPrograms.Texts.{functions_in}
 use Rattle.type_rules.specs.Options.{if_there, ◌>?◌}
 use Rattle.typed_unit.specs.Texts.{Text}
-use Rattle.path_edges.specs.EdgeSteps.Steps.{StandsBehind, woken_edge}
+use Rattle.path_edges.specs.EdgeSteps.Steps.{StandsBehind, put_back, woken_edge}
 use Rattle.block_flows.specs.FollowedLists.{is_followed, mask_in}
 use Rattle.masked_paths.specs.Masked.{SiteIn}
 use Rattle.masked_paths.specs.StrictFlows.Among.{if_followed, of_followed}
@@ -30,7 +30,7 @@ use Rattle.path_theory.specs.Flows.{ReturnFlow, ReturnNone, ReturnObject}
 use Rattle.state_tuples.specs.declared.tuple.Tuple.{Tuple}
 use Rattle.path_theory.specs.TabulationRules.Rules as rules
 use Rattle.block_flows.specs.TupleFlows.Facts.{fact_in, fact_of, is_in, listed, origins_in}
-use Rattle.edge_rules.specs.WaitRules.Waiters.{GoesOn, WithHanded, WithPutBack, put_back}
+use Rattle.edge_rules.specs.WaitRules.Waiters.{GoesOn, WithHanded, WithPutBack}
 use Rattle.edge_rules.proofs.WaitRules.Callers.{nowhere, one-function, stands}
 
 -- a return hands back by which object of the callee each of the caller has its state from

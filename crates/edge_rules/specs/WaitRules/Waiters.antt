@@ -1,11 +1,10 @@
 -- WHO WAITS AT A CALL, and how an end of the callee wakes him, tuple by tuple.
 use Rattle.std.specs.Prelude.{◌≡◌, ℕ, List, Option, None, Some}
-use Rattle.std.proofs.Common.{refl}
 use Rattle.c_objects.specs.Objects.{Object}
 use Rattle.path_model.specs.CheckerModel.Choices.{State}
 use Rattle.path_model.specs.CheckerModel.Happenings.{Function, Site}
 use Rattle.path_model.specs.CheckerModel.Reports.{Checker}
-use Rattle.path_edges.specs.EdgeSteps.Steps.{wait_for, woken_edge}
+use Rattle.path_edges.specs.EdgeSteps.Steps.{put_back, wait_for, woken_edge}
 use Rattle.least_set.specs.declared.two_premises.Wait.{Wait}
 use Rattle.path_edges.specs.declared.edges.Context.{Context}
 use Rattle.path_edges.specs.declared.edges.Edge.{Edge}
@@ -26,10 +25,6 @@ wait_with e callee behind t o = record {
 pub record IsSaved (depth : ℕ) (s : Site) (here there : List Object) (t : Tuple) (o : Object) : Type 0 where
   pub has : t.object ≡ Some o
   pub kept : out_in depth s here there o ≡ None
-
--- a saved object with its state, in the global state of a tuple
-abbrev pub put_back : Tuple → Object → Option State → Tuple
-put_back t o x = record { global = t.global; object = Some o; state = x; bare = refl }
 
 -- the objects are those that are followed here, in the caller, and there, in the callee
 module _ (c : Checker) (s : Site) where

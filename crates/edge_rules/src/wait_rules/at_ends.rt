@@ -3,21 +3,20 @@
 ghost use Rattle.std.specs.Prelude.{◌≡◌, ◌≤◌, IfOk, None};
 ghost use Rattle.path_model.specs.CheckerModel.Happenings.{Function, Site as Call};
 ghost use Rattle.path_model.specs.CheckerModel.Reports.{Checker};
-ghost use Rattle.path_edges.specs.EdgeSteps.Steps.{StandsBehind, woken_edge};
+ghost use Rattle.path_edges.specs.EdgeSteps.Steps.{StandsBehind, put_back, woken_edge};
 ghost use Rattle.function_tables.specs.EngineTables.Known.{AreKnown, IsFrame, checker_in, texts_in, graphs_in, objects_in};
 ghost use Rattle.least_set.specs.Logs.{IsExactly, SomeGives};
 ghost use Rattle.path_edges.specs.declared.edges.Edge.{Edge as End};
 ghost use Rattle.path_edges.specs.Relations.{IsWoken};
 ghost use Rattle.state_tuples.specs.declared.tuple.Tuple.{Tuple as Ended};
 ghost use Rattle.block_flows.specs.TupleFlows.Passed.{IsReturned, IsSite};
-ghost use Rattle.edge_rules.specs.WaitRules.Waiters.{put_back};
 
 use crate::wait_rules::waiting_sites::{called_objects, waiting_site};
 use block_flows::out_of_call;
 use function_tables::{Frame, Tables};
 use indexmap::IndexSet;
-use objects::{Object, copy};
-use path_edges::{Edge, Waiter, copy_context, woken};
+use objects::Object;
+use path_edges::{Edge, Waiter, put_back_edge, woken};
 use refine_restore::Site;
 use state_tuples::Tuple;
 use std::alloc::{AllocError, Global};
@@ -68,30 +67,7 @@ fn with_all_handed(
     Ok(edges)
 }
 
-// A saved object with its state, in the global state of a tuple.
-fn put_back(tuple: &Tuple, object: &Object, state: Option<(u8, u16)>) -> Tuple
-    ensures { result ≡ put_back tuple.now object.now state }
-{
-    Tuple {
-        global: tuple.global,
-        object: Some(copy(object)),
-        state,
-    }
-}
-
-// Where a waiter goes on with the object that was saved, at an end of its callee with a tuple.
-fn put_back_edge(waiter: &Waiter, object: &Object, state: Option<(u8, u16)>, tuple: &Tuple) -> Edge
-    ensures { result ≡ woken_edge waiter.now (put_back tuple.now object.now state) }
-{
-    Edge {
-        context: copy_context(&waiter.context),
-        is_root: waiter.is_root,
-        block: waiter.behind,
-        tuple: put_back(tuple, object, state),
-    }
-}
-
-// The same at each of these ends without an object.
+// Where a waiter goes on with the object that was saved, at each of these ends without an object.
 fn with_put_back(
     alloc: Global,
     waiter: &Waiter,

@@ -1,5 +1,5 @@
 -- WHAT FOLLOWS FROM AN EDGE, step by step: values of an engine, and the rules as far as one step goes.
-use Rattle.std.specs.Prelude.{◌≡◌, ℕ, Bool, true, false, List, ◌∷◌, map, None, Some}
+use Rattle.std.specs.Prelude.{◌≡◌, ℕ, Bool, true, false, List, ◌∷◌, map, Option, None, Some}
 use Rattle.std.proofs.Common.{refl}
 use Rattle.c_objects.specs.Objects.{Object}
 use Rattle.flow_graph.specs.CPaths.BlockGraphs.{LeadsTo}
@@ -49,6 +49,10 @@ wait_for e h behind t = record {
 -- where who waits goes on with a tuple
 abbrev pub woken_edge : Waiter → Tuple → Edge
 woken_edge w t = record { context = w.context; is_root = w.is_root; block = w.behind; tuple = t }
+
+-- an object that was saved over a call with its state, in the global state of a tuple at the callee's end
+abbrev pub put_back : Tuple → Object → Option State → Tuple
+put_back t o x = record { global = t.global; object = Some o; state = x; bare = refl }
 
 -- the tuples with which roots begin
 abbrev pub start_tuple : Tuple

@@ -1,10 +1,9 @@
 use Rattle.std.proofs.Common.{◌≡◌, None}
-use Rattle.path_edges.specs.EdgeSteps.Steps.{woken_edge}
+use Rattle.path_edges.specs.EdgeSteps.Steps.{put_back, woken_edge}
 use Rattle.least_set.specs.Logs.{IsExactly, SomeGives}
 use Rattle.least_set.proofs.Growing.{all_of}
 use Rattle.state_tuples.specs.declared.tuple.Tuple.{Tuple}
 use Rattle.block_flows.proofs.TupleFlows.Lists.{given-next, given-past}
-use Rattle.edge_rules.specs.WaitRules.Waiters.{put_back}
 use Rattle.edge_rules.proofs.WaitRules.OneTuple.{empty, not-empty}
 use Rattle.edge_rules.proofs.wait_rules.at_ends.with_put_back.Goals.{then-is_none+in_ok-push, else-is_none}
 use Rattle.edge_rules.proofs.wait_rules.at_ends.with_put_back.Goals as goal

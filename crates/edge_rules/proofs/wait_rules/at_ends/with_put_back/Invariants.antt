@@ -1,7 +1,6 @@
 use Rattle.std.proofs.Common.{◌≡◌, take, None}
-use Rattle.path_edges.specs.EdgeSteps.Steps.{woken_edge}
+use Rattle.path_edges.specs.EdgeSteps.Steps.{put_back, woken_edge}
 use Rattle.least_set.specs.Logs.{IsExactly, SomeGives}
-use Rattle.edge_rules.specs.WaitRules.Waiters.{put_back}
 use Rattle.edge_rules.proofs.wait_rules.at_ends.with_put_back.Given as goal
 
 -- those of the tuples that were gone through
