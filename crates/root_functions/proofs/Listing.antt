@@ -18,7 +18,8 @@ use Rattle.metal_tree.specs.MetalMachines.Machine.{Machine}
 use Rattle.call_graph.specs.declared.programs.functions.FnId.{FnId}
 use Rattle.call_graph.specs.OfPrograms.Calls.{table_in}
 use Rattle.call_graph.specs.OfPrograms.Definitions.{definitions, trees_in}
-use Rattle.root_functions.specs.Callees.{listed, FollowedBy, Leads, AreBelow, HaveCallees, LeadBelow}
+use Rattle.path_model.specs.CheckerPrograms.Roots.{Leads}
+use Rattle.root_functions.specs.Callees.{listed, FollowedBy, AreBelow, HaveCallees, LeadBelow}
 use Rattle.typed_unit.specs.declared.typed_unit.TypedUnit.{TypedUnit}
 
 -- the list has what each value gives, if it gives something

@@ -3,7 +3,7 @@ use Rattle.std.specs.Prelude.{◌≡◌, ℕ, ◌<◌, List, [], ◌∷◌, Opti
 use Rattle.std.specs.Borrow.{Bor}
 use Rattle.c_tree.specs.Node.{Node}
 use Rattle.call_graph.specs.Followed.{followed}
-pub use Rattle.path_model.specs.CheckerPrograms.Roots.{Leads}
+use Rattle.path_model.specs.CheckerPrograms.Roots.{Leads}
 use Rattle.typed_unit.specs.Texts.{Text}
 use Rattle.root_functions.specs.declared.graph_roots.callees.Callees.{Callees}
 use Rattle.root_functions.specs.GraphRoots.Graphs.{LeadsIn}

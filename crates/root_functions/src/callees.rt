@@ -8,7 +8,8 @@ ghost use Rattle.root_functions.specs.GraphRoots.Graphs.{StaysWithin};
 ghost use Rattle.least_set.specs.Logs.{IsExactly};
 ghost use Rattle.metal_tree.specs.Whole.{machine_view};
 ghost use Rattle.call_graph.specs.OfPrograms.Definitions.{definitions, trees_in};
-ghost use Rattle.root_functions.specs.Callees.{FollowedBy, Leads, AreBelow, HaveCallees, listed};
+ghost use Rattle.path_model.specs.CheckerPrograms.Roots.{Leads};
+ghost use Rattle.root_functions.specs.Callees.{FollowedBy, AreBelow, HaveCallees, listed};
 
 use crate::call_sites::calls_in;
 use crate::graph_roots::Callees;

@@ -4,7 +4,7 @@ use Rattle.c_objects.specs.Objects.{Object}
 use Rattle.flow_graph.specs.CPaths.Building.{Graph}
 use Rattle.flow_graph.specs.CPaths.Graphs.{Ending, ToAny, Calls, Stops}
 use Rattle.path_model.specs.CheckerModel.Reports.{Checker}
-use Rattle.path_model.specs.CheckerPrograms.Roots.{IsRoot}
+use Rattle.path_model.specs.CheckerPrograms.Roots.{IsRoot, Leads}
 use Rattle.path_model.specs.CheckerPrograms.Texts.{functions_in}
 use Rattle.typed_unit.specs.Texts.{Text, texts_of}
 use Rattle.flow_graph.specs.Seen.{graph_in}
@@ -41,7 +41,7 @@ pub record AreKnown (t : Tables) : Type 0 where
   pub tables : AreTables (machine_view t.machine.now) t.depth (texts_in t) t.functions.now
   pub count : length (objects_in t) ≡ length (functions_in (texts_in t))
   pub plain : (n : ℕ) (os : List Object) → slice_get (objects_in t) n ≡ Some os → AreObjects t.depth os
-  pub roots : (n : ℕ) → Contains (map (λ f. f.number) t.roots.now) n ↔ (IsRoot (machine_view t.machine.now) (texts_in t) n × (n < length (functions_in (texts_in t))))
+  pub roots : (n : ℕ) → Contains (map (λ f. f.number) t.roots.now) n ↔ (IsRoot (Leads (machine_view t.machine.now) (texts_in t)) n × (n < length (functions_in (texts_in t))))
 
 -- the function with this number, as far as an engine asks of it
 pub record IsFrame (t : Tables) (n : ℕ) (f : Frame) : Type 0 where

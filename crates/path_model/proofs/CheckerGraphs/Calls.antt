@@ -9,7 +9,7 @@ use Rattle.call_graph.specs.Followed.{machine_calls, followed, body_followed}
 use Rattle.path_model.specs.CheckerGraphs.Graphs.{function_at, AreApartPlaces}
 use Rattle.path_model.proofs.CheckerGraphs.Numbers.{one-number}
 use Rattle.path_model.specs.CheckerModel.Happenings.{Function}
-use Rattle.path_model.specs.CheckerPrograms.Roots.{followed_into, IsRoot, IsRootFunction}
+use Rattle.path_model.specs.CheckerPrograms.Roots.{followed_into, IsRoot, IsRootFunction, Leads}
 use Rattle.path_model.specs.CheckerPrograms.Texts.{functions_in, function_of, table_of, site}
 use Rattle.typed_unit.specs.Texts.{Text}
 use Rattle.metal_tree.specs.MetalMachines.Machine.{Machine}
@@ -89,9 +89,9 @@ module _ (m : Machine) where
   of-number (Some d) f e = let s : function_of d ≡ f = cc in (d, refl, sym s)
 
   -- a function is a root where its number is one
-  pub root-number : (ts : List Text) → AreApartPlaces (functions_in ts) → (n : ℕ) (f : Function) → function_at ts n ≡ Some f → IsRootFunction m ts f ↔ IsRoot m ts n
+  pub root-number : (ts : List Text) → AreApartPlaces (functions_in ts) → (n : ℕ) (f : Function) → function_at ts n ≡ Some f → IsRootFunction m ts f ↔ IsRoot (Leads m ts) n
   root-number ts apart n f e =
       let x = of-number (slice_get (functions_in ts) n) f e in (
-        (λ r. subst (IsRoot m ts) (one-number ts apart r.number n f (ap (option_map function_of) r.is ∙ ap (λ (g : Function). Some g) (sym r.named)) e) r.root),
+        (λ r. subst (IsRoot (Leads m ts)) (one-number ts apart r.number n f (ap (option_map function_of) r.is ∙ ap (λ (g : Function). Some g) (sym r.named)) e) r.root),
         (λ r. record { number = n; defined = x.0; is = x.1; named = x.2; root = r }),
       )

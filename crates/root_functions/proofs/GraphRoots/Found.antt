@@ -7,7 +7,8 @@ use Rattle.std.proofs.lemmas.List.Elements.{Contains-append_left, Contains-push,
 use Rattle.std.proofs.lemmas.Option.{slice_get_within}
 use Rattle.std.proofs.lemmas.Map.Views.{Contains-from_any, list_any-from_Contains}
 use Rattle.root_functions.specs.declared.graph_roots.callees.Callees.{Callees}
-use Rattle.root_functions.specs.GraphRoots.Graphs.{Reaches, Itself, Onward, IsUncalled, IsRootBelow, IsRoot, LeadsIn, Entered}
+use Rattle.path_model.specs.CheckerPrograms.Roots.{Reaches, Itself, Onward, IsUncalled, IsRootBelow, IsRoot}
+use Rattle.root_functions.specs.GraphRoots.Graphs.{LeadsIn, Entered}
 use Rattle.root_functions.specs.GraphRoots.Listed.{AreListed}
 use Rattle.root_functions.specs.GraphRoots.Searches.{unless, AreReached, HasUncalled, HasOthers}
 use Rattle.least_set.specs.Logs.{IsExactly}

@@ -2,7 +2,8 @@
 use Rattle.std.proofs.Common.{◌≡◌, inl, inr, ℕ, ◌<◌, List, [], ◌∷◌, ◌++◌, Contains, length, sym, subst}
 use Rattle.std.proofs.lemmas.List.Elements.{Contains-append_left, Contains-push, Contains-push_cases}
 use Rattle.root_functions.specs.declared.graph_roots.callees.Callees.{Callees}
-use Rattle.root_functions.specs.GraphRoots.Graphs.{Reaches, Itself, Onward, LeadsIn, StaysWithin, AreClosed, AreWithin, IsVisited}
+use Rattle.path_model.specs.CheckerPrograms.Roots.{Reaches, Itself, Onward}
+use Rattle.root_functions.specs.GraphRoots.Graphs.{LeadsIn, StaysWithin, AreClosed, AreWithin, IsVisited}
 use Rattle.root_functions.specs.GraphRoots.Searches.{AreReached}
 use Rattle.least_set.proofs.Growing.{nothing}
 

@@ -4,7 +4,8 @@ use Rattle.std.proofs.lemmas.List.{take_more}
 use Rattle.std.proofs.lemmas.List.Elements.{Contains-append_left, Contains-push, Contains-push_cases}
 use Rattle.std.proofs.lemmas.Option.{same_Some}
 use Rattle.root_functions.specs.declared.graph_roots.callees.Callees.{Callees}
-use Rattle.root_functions.specs.GraphRoots.Graphs.{Reaches, Itself, Onward, LeadsIn, Entered, StaysWithin, AreClosed, AreWithin, IsVisited}
+use Rattle.path_model.specs.CheckerPrograms.Roots.{Reaches, Itself, Onward}
+use Rattle.root_functions.specs.GraphRoots.Graphs.{LeadsIn, Entered, StaysWithin, AreClosed, AreWithin, IsVisited}
 use Rattle.indexmap.specs.IndexSet.{insert_key}
 use Rattle.least_set.specs.Logs.{Adds, IsExactly}
 use Rattle.least_set.proofs.Growing.{nothing, place_of, at_place, stays, kept, either, before_or_at, adds_one, adds_both, adds_next, all_of}

@@ -1,26 +1,9 @@
--- ROOTS of functions that lead to each other, by their numbers: those to which none leads; and as long as functions remain that no root
--- reaches, the first of them.
-use Rattle.std.specs.Prelude.{◌≡◌, ◌⊎◌, ℕ, zero, suc, ◌<◌, List, Contains, Some, length, slice_get}
+-- GRAPHS OF FUNCTIONS: a list of rows, each with the functions to which that of its position leads. Which of them are roots is said by
+-- `IsRoot (LeadsIn rows)` of `path_model`.
+use Rattle.std.specs.Prelude.{◌≡◌, ◌⊎◌, ℕ, ◌<◌, List, Contains, Some, length, slice_get}
+use Rattle.path_model.specs.CheckerPrograms.Roots.{Reaches}
 use Rattle.root_functions.specs.declared.graph_roots.callees.Callees.{Callees}
 use Rattle.least_set.specs.Logs.{IsExactly, SomeGives}
-
-module _ (Leads : ℕ → ℕ → Type 0) where
-  pub data Reaches : ℕ → ℕ → Type 0 where
-    Itself : (f : ℕ) → Reaches f f
-    Onward : {f g h : ℕ} → Reaches f g → Leads g h → Reaches f h
-
-  -- none leads to it
-  abbrev pub IsUncalled : ℕ → Type 0
-  IsUncalled g = (f : ℕ) → Leads f g → ⊥
-
-  -- it is a root among the first n functions
-  abbrev pub IsRootBelow : ℕ → ℕ → Type 0
-  IsRootBelow zero f = ⊥
-  IsRootBelow (suc n) f = IsRootBelow n f ⊎ ((f ≡ n) × (IsUncalled n ⊎ ((g : ℕ) → IsUncalled g ⊎ IsRootBelow n g → Reaches g n → ⊥)))
-
-  -- A ROOT
-  abbrev pub IsRoot : ℕ → Type 0
-  IsRoot f = IsRootBelow (suc f) f
 
 -- The function at this position leads to the other.
 abbrev pub LeadsIn : List Callees → ℕ → ℕ → Type 0

@@ -1,7 +1,8 @@
 -- How far a search for roots has come.
 use Rattle.std.specs.Prelude.{◌≡◌, ◌⊎◌, ℕ, ◌<◌, List, [], ◌∷◌, ◌++◌, Bool, true, false, Contains, AllPairs}
 use Rattle.root_functions.specs.declared.graph_roots.callees.Callees.{Callees}
-use Rattle.root_functions.specs.GraphRoots.Graphs.{LeadsIn, Reaches, IsUncalled, IsRootBelow, AreWithin}
+use Rattle.path_model.specs.CheckerPrograms.Roots.{Reaches, IsUncalled, IsRootBelow}
+use Rattle.root_functions.specs.GraphRoots.Graphs.{LeadsIn, AreWithin}
 use Rattle.least_set.specs.Logs.{IsExactly, SomeGives}
 
 -- one more behind these, unless it is known

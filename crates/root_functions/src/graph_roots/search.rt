@@ -1,7 +1,8 @@
 //! The search for roots.
 
 ghost use Rattle.std.specs.Prelude.{◌≡◌, ◌<◌, ◌^◌, [], false, length, IfOk, OnOk};
-ghost use Rattle.root_functions.specs.GraphRoots.Graphs.{LeadsIn, IsUncalled, IsRoot, StaysWithin, Entered};
+ghost use Rattle.path_model.specs.CheckerPrograms.Roots.{IsUncalled, IsRoot};
+ghost use Rattle.root_functions.specs.GraphRoots.Graphs.{LeadsIn, StaysWithin, Entered};
 ghost use Rattle.root_functions.specs.GraphRoots.Listed.{AreListed};
 ghost use Rattle.root_functions.specs.GraphRoots.Searches.{unless, AreReached, HasUncalled, HasOthers};
 ghost use Rattle.least_set.specs.Logs.{IsExactly};
