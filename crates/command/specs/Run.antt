@@ -191,7 +191,8 @@ pub record Promise {Files : Type 0} (files_before files_after : Files) (Hands : 
   -- 0: no error was found. The exact list of reports is empty.
   pub clean : run.status ≡ Clean → Answers run (λ reports. reports ≡ [])
   -- 1: the exact list of reports isn't empty, and was written. What is in such a list is said by flat lists of events,
-  -- calls and returns (`CheckerReports/Errors`); nested paths report the same (`one_answer::nested_paths_report_the_same`).
+  -- calls and returns (`CheckerReports/Errors`); nested paths report the same (`one_answer::nested_paths_report_the_same`). A return hands
+  -- back what becomes of the callee's objects (`path_model::calls_hand_back_what_becomes`).
   pub reports : run.status ≡ Reports → Answers run (λ reports. reports ≢ [])
   -- 2: the words are none of the command.
   pub usage : run.status ≡ Usage → Misuses run

@@ -4,6 +4,6 @@
 mod theorems;
 
 pub use theorems::{
-    actuals_reach_what_formals_give, ends_are_quiet, one_object_at_a_time,
+    ends_are_quiet, handed_back_objects_become_theirs, one_object_at_a_time,
     other_events_ignore_frames,
 };

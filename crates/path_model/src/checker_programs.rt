@@ -3,6 +3,6 @@
 mod theorems;
 
 pub use theorems::{
-    followed_objects_are_closed, followed_objects_are_relevant, relevant_objects_are_closed,
-    relevant_objects_are_objects,
+    calls_hand_back_what_becomes, followed_objects_are_closed, followed_objects_are_relevant,
+    relevant_objects_are_closed, relevant_objects_are_objects,
 };

@@ -15,10 +15,10 @@ pub use checker_graphs::{
     relevant_objects_are_closed_in_graphs,
 };
 pub use checker_model::{
-    actuals_reach_what_formals_give, ends_are_quiet, one_object_at_a_time,
+    ends_are_quiet, handed_back_objects_become_theirs, one_object_at_a_time,
     other_events_ignore_frames,
 };
 pub use checker_programs::{
-    followed_objects_are_closed, followed_objects_are_relevant, relevant_objects_are_closed,
-    relevant_objects_are_objects,
+    calls_hand_back_what_becomes, followed_objects_are_closed, followed_objects_are_relevant,
+    relevant_objects_are_closed, relevant_objects_are_objects,
 };

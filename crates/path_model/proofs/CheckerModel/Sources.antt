@@ -54,11 +54,11 @@ source-object depth (Some m) o q is h =
     (subst (IsObject depth) (sym k.0) k.1, source_of-object depth m g.0 q (is m refl) k.1 g.2)
 
 -- actuals
-first-object : (depth : ℕ) (actuals : List (Option Object)) (a : Object) → AreObjects depth actuals → first_of actuals ≡ Some a → IsObject depth a
+pub first-object : (depth : ℕ) (actuals : List (Option Object)) (a : Object) → AreObjects depth actuals → first_of actuals ≡ Some a → IsObject depth a
 first-object depth [] a are h = cc
 first-object depth (x ∷ actuals) a are h = are.0 a h
 
-behind-are : (depth : ℕ) (actuals : List (Option Object)) → AreObjects depth actuals → AreObjects depth (behind_first actuals)
+pub behind-are : (depth : ℕ) (actuals : List (Option Object)) → AreObjects depth actuals → AreObjects depth (behind_first actuals)
 behind-are depth [] are = are
 behind-are depth (x ∷ actuals) are = are.1
 
@@ -80,7 +80,7 @@ into-object depth s c q are h =
     (subst (IsObject depth) (sym k.0) k.1, passed-object depth s.formals s.actuals g.0 q are k.1 t)
 
 -- returns
-reaching-object : (depth : ℕ) (x : CVar) (a o c : Object) → IsObject depth a → reaching depth x a o ≡ Some c → IsObject depth o × IsObject depth c
+pub reaching-object : (depth : ℕ) (x : CVar) (a o c : Object) → IsObject depth a → reaching depth x a o ≡ Some c → IsObject depth o × IsObject depth c
 reaching-object depth x a o c ia h =
     let static = given (if_object depth o >? replaced depth (path x []) a) if_static c h in
     let first = given (if_object depth o) (replaced depth (path x []) a) static.0 static.1 in

@@ -1,5 +1,5 @@
 -- CALLS (refine and restore): which states a callee begins with, and which the caller has behind the call.
-use Rattle.std.specs.Prelude.{◌≡◌, ℕ, List, [], ◌∷◌, cond, Option, None, Some}
+use Rattle.std.specs.Prelude.{◌≡◌, ◌⊎◌, ◌≤◌, ℕ, List, [], ◌∷◌, slice_get, true, cond, Option, None, Some}
 use Rattle.c_objects.specs.Facts.{Facts}
 use Rattle.c_objects.specs.ObjectOf.{object_of}
 use Rattle.c_objects.specs.Objects.{Object, IsObject, if_object, path, same_var, is_static_var, are_static, is_static}
@@ -43,8 +43,45 @@ passed depth (Some x ∷ xs) actuals c = cond (same_var c.base x) (first_of actu
 abbrev pub into : ℕ → Site → Object → Option Object
 into depth s c = if_object depth c >? λ o. cond (are_static o.selectors) (passed depth s.formals s.actuals o) None
 
--- AT THE RETURN. The object of the callee through which an actual reaches one of the caller: it becomes that where the actual stands in
--- the place of the formal. Its index variables all have static storage.
+-- AT THE RETURN. An object of the callee becomes this one of the caller where the actual at this position stands in the place of its formal.
+-- Its index variables all have static storage.
+pub record BecomesThrough (depth : ℕ) (formals : List (Option CVar)) (actuals : List (Option Object)) (position : ℕ) (c o : Object) : Type 0 where
+  pub formal : CVar
+  pub actual : Object
+  pub is_formal : slice_get formals position ≡ Some (Some formal)
+  pub is_actual : slice_get actuals position ≡ Some (Some actual)
+  pub object : IsObject depth c
+  pub static : are_static c.selectors ≡ true
+  pub becomes : rebase depth c (path formal []) actual ≡ Some o
+
+-- it does so through the first actual through which any does
+pub record BecomesFirst (depth : ℕ) (formals : List (Option CVar)) (actuals : List (Option Object)) (c o : Object) : Type 0 where
+  pub position : ℕ
+  pub through : BecomesThrough depth formals actuals position c o
+  pub first : (n : ℕ) (d : Object) → BecomesThrough depth formals actuals n d o → position ≤ n
+
+-- none does so through any
+abbrev pub NoneBecomes : ℕ → List (Option CVar) → List (Option Object) → Object → Type 0
+NoneBecomes depth formals actuals o = (n : ℕ) (d : Object) → BecomesThrough depth formals actuals n d o → ⊥
+
+-- a global object that no other becomes is the same in the callee
+pub record IsOwn (depth : ℕ) (formals : List (Option CVar)) (actuals : List (Option Object)) (c o : Object) : Type 0 where
+  pub none : NoneBecomes depth formals actuals o
+  pub static : is_static o ≡ true
+  pub same : c ≡ o
+
+-- WHAT A CALL HANDS BACK: this object of the callee to this one of the caller
+abbrev pub IsHandedBack : ℕ → Site → Object → Object → Type 0
+IsHandedBack depth s c o = BecomesFirst depth s.formals s.actuals c o ⊎ IsOwn depth s.formals s.actuals c o
+
+-- BEHIND THE CALL an object to which one of the callee is handed back has the state of that. Every other object is saved: it has the state that
+-- it had at the call.
+pub record HandsBack {State : Type 0} (depth : ℕ) (s : Site) (callee caller behind : Object → Option State) : Type 0 where
+  pub handed : (c o : Object) → IsHandedBack depth s c o → behind o ≡ callee c
+  pub saved : (o : Object) → ((c : Object) → IsHandedBack depth s c o → ⊥) → behind o ≡ caller o
+
+-- THE SAME BY COMPUTATION, the other way round: from an object of the caller to the one of the callee that becomes it (`handed_back_objects_become_theirs`,
+-- `calls_hand_back_what_becomes`). First through one actual.
 abbrev pub if_static : Object → Option Object
 if_static c = cond (are_static c.selectors) (Some c) None
 
@@ -57,8 +94,7 @@ reached depth [] actuals o = None
 reached depth (None ∷ xs) actuals o = reached depth xs (behind_first actuals) o
 reached depth (Some x ∷ xs) actuals o = or_else (first_of actuals >? λ a. reaching depth x a o) (reached depth xs (behind_first actuals) o)
 
--- The callee's object whose state this one of the caller has: that through which an actual reaches it, and else, of a global
--- object, its own. Every other object is saved: it has the state that it had at the call.
+-- and of a global object that none reaches, its own
 abbrev pub out : ℕ → Site → Object → Option Object
 out depth s o = or_else (reached depth s.formals s.actuals o) (cond (is_static o) (Some o) None)
 

@@ -1,11 +1,15 @@
 -- These theorems as statements, which contracts can name.
-use Rattle.std.specs.Prelude.{List}
+use Rattle.std.specs.Prelude.{List, Option}
 use Rattle.c_objects.specs.Objects.{Object, IsObject}
+use Rattle.c_tree.specs.Node.{Node}
+use Rattle.path_model.specs.CheckerModel.Calls.{HandsBack}
 use Rattle.path_model.specs.CheckerModel.Checkers.{model, origins}
+use Rattle.path_model.specs.CheckerModel.Choices.{State}
 use Rattle.path_model.specs.CheckerModel.Happenings.{Function}
 use Rattle.path_model.specs.CheckerModel.Reports.{Checker}
 use Rattle.path_model.specs.CheckerPrograms.Paths.{program}
 use Rattle.path_model.specs.CheckerPrograms.Relevant.{Relevant, Followed}
+use Rattle.path_model.specs.CheckerPrograms.Texts.{site}
 use Rattle.typed_unit.specs.Texts.{Text}
 use Rattle.path_theory.specs.Relevant.{IsClosed}
 
@@ -22,3 +26,9 @@ FollowedObjectsAreClosed = (c : Checker) (ts : List Text) → IsClosed (model c)
 
 abbrev pub FollowedObjectsAreRelevant : Type 0
 FollowedObjectsAreRelevant = (c : Checker) (ts : List Text) (f : Function) (o : Object) → Followed c ts f o → Relevant c ts f o
+
+-- Behind each call of a program an object to which one of the callee is handed back has the state of that, and every other the state that it had
+-- at the call.
+abbrev pub CallsHandBackWhatBecomes : Type 0
+CallsHandBackWhatBecomes = (c : Checker) (ts : List Text) (f : Function) (call : Node) (callee caller : Object → Option State)
+    → HandsBack c.depth (site c.depth ts f call) callee caller ((model c).returned (site c.depth ts f call) callee caller)

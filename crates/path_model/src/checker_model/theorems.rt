@@ -4,7 +4,7 @@ ghost use Rattle.path_model.specs.CheckerModel.Theorems.{
   OneObjectAtATime,
   OtherEventsIgnoreFrames,
   EndsAreQuiet,
-  ActualsReachWhatFormalsGive,
+  HandedBackObjectsBecomeTheirs,
 };
 
 /// The state of an object behind a move, an entry or a return is that of one object before, or unknown.
@@ -22,7 +22,8 @@ pub fn ends_are_quiet()
     ensures { EndsAreQuiet }
 {}
 
-/// The object of the callee through which an actual reaches one of the caller is the one for which that stands at the entry.
-pub fn actuals_reach_what_formals_give()
-    ensures { ActualsReachWhatFormalsGive }
+/// What is computed of a return is what is handed back: the object of the callee that becomes one of the caller through the first actual through
+/// which any does, and else, of a global object, its own.
+pub fn handed_back_objects_become_theirs()
+    ensures { HandedBackObjectsBecomeTheirs }
 {}
