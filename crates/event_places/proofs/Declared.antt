@@ -16,7 +16,7 @@ use Rattle.hole_matching.specs.Callouts.{is_local}
 use Rattle.path_model.specs.CheckerModel.Happenings as happenings
 use Rattle.path_model.specs.CheckerModel.Moves.{local_of}
 use Rattle.path_model.specs.CheckerPrograms.Texts as texts
-use Rattle.path_model.specs.CheckerPrograms.Texts.{definition_of, empty, objects_in, table_of, with_close}
+use Rattle.path_model.specs.CheckerPrograms.Texts.{definition_of, empty, objects_in, with_close, type_table}
 use Rattle.type_rules.specs.Declarators.{name_of}
 use Rattle.type_rules.specs.Definition.{after, behind_parts, Cell, Table, at, type_of, var_at, first_fault}
 use Rattle.type_rules.specs.Faults.{Fault}
@@ -193,8 +193,8 @@ named-declared ts stand grammar tables fine f w x l n =
     let k = function-at DeclaresIn ts (λ i t e. each-two (IsFunctionOf i t) (DeclaresAll t) (functions_of t.trees) (text-functions i t (stand i t e)) (text-declares i t (stand i t e) (grammar i t e) (fine i t e))) w.number w.defined w.numbered in
     let is = k.is_of in
     let own : f.place.file ≡ k.position = let a = is.0.place_is in let b : w.defined.place.file ≡ f.place.file = ap (λ (g : happenings.Function). g.place.file) w.same in omega (arith, a, b) in
-    let table : table_of ts f.place.file ≡ table_by k.text.trees =
-    ap (table_of ts) own ∙ ap (λ (o : Option Text). if_there o [] (λ t. t.table)) k.here ∙ tables k.position k.text k.here in
+    let table : type_table ts f.place.file ≡ table_by k.text.trees =
+    ap (type_table ts) own ∙ ap (λ (o : Option Text). if_there o [] (λ t. t.table)) k.here ∙ tables k.position k.text k.here in
     let same : (definition_of ts f).body ≡ w.defined.body = ap (λ (o : Option Defined). (if_there o (empty f.place) (with_close ts)).body) w.first in
     subst (λ (b : Node). IsDeclared b x) (sym same)
     (is.1.declares n.name x n.identifier (subst (λ (b : Node). IsNodeOf n.name (flat b)) same n.inside)

@@ -9,7 +9,7 @@ use Rattle.call_graph.specs.OfPrograms.Definitions.{definitions}
 use Rattle.hole_matching.specs.Callouts.{is_local}
 use Rattle.path_model.specs.CheckerModel.Happenings as happenings
 use Rattle.path_model.specs.CheckerPrograms.Texts as texts
-use Rattle.path_model.specs.CheckerPrograms.Texts.{table_of, site}
+use Rattle.path_model.specs.CheckerPrograms.Texts.{site, type_table}
 use Rattle.type_rules.specs.Declarators.{name_of, is_bare}
 use Rattle.type_rules.specs.Definition.{after}
 use Rattle.type_rules.specs.Functions.{Defined, formal_var, name_in, formal_in, formals_in, first_formals, formals_of, formals_of_shape, defined, defined_in, functions_in}
@@ -83,7 +83,7 @@ definitions-other (unit ∷ units) = each-both HasOther (functions_in at_start u
 
 -- THE FORMALS OF A CALL
 pub site-other : (depth : ℕ) (ts : List Text) (f : happenings.Function) (call : Node) → AreOther (site depth ts f call).formals
-site-other depth ts f call = by (body_called (table_of ts f.place.file) f.place.file (texts.functions_in ts) call)
+site-other depth ts f call = by (body_called (type_table ts f.place.file) f.place.file (texts.functions_in ts) call)
   where
     there : (o : Option Defined) (n : ℕ) → slice_get (texts.functions_in ts) n ≡ o → AreOther (if_there o [] (λ d. d.formals))
     there None n e = tt

@@ -11,7 +11,7 @@ use Rattle.c_objects.proofs.Vars.{same_var-true}
 use Rattle.c_tree.specs.Node.{Node}
 use Rattle.hole_matching.specs.Callouts.{is_local}
 use Rattle.hole_matching.proofs.Heads.{and-left}
-use Rattle.path_model.specs.CheckerModel.Calls.{first_of, behind_first, passed, into, if_static, reaching, reached, out}
+use Rattle.path_model.specs.CheckerModel.Calls.{behind_first, passed, into, if_static, reaching, reached, out, first_actual}
 use Rattle.path_model.specs.CheckerModel.Happenings.{Site}
 use Rattle.path_model.proofs.CheckerModel.Sources.{given, tested}
 use Rattle.type_rules.specs.Options.{or_else, ◌>?◌}
@@ -48,7 +48,7 @@ module _ (Q : Node → Type 0) (u : Facts) where
   formal-passes : (x : CVar) (inner outer actual : Object) → is_local x ≡ false → inner.base ≡ x → outer.base ≡ actual.base → IsOfName Q u actual.base → Passes inner outer
   formal-passes x inner outer actual other i o named = record { callee = ap is_local i ∙ other; caller = λ l. subst (IsOfName Q u) (sym o) named }
 
-  first-named : (actuals : List (Option Object)) (a : Object) → AreNamed Q u actuals → first_of actuals ≡ Some a → IsOfName Q u a.base
+  first-named : (actuals : List (Option Object)) (a : Object) → AreNamed Q u actuals → first_actual actuals ≡ Some a → IsOfName Q u a.base
   first-named [] a h e = cc
   first-named (o ∷ os) a h e = its-name Q u o a h.0 e
 
@@ -66,9 +66,9 @@ module _ (Q : Node → Type 0) (u : Facts) where
   passed-named depth (Some x ∷ xs) actuals a o other named h = by (passed-named depth xs (behind_first actuals) a o other.1 (behind-named actuals named)) (same_var a.base x) refl h
     where
       by : (passed depth xs (behind_first actuals) a ≡ Some o → Passes a o) → (b : Bool) → same_var a.base x ≡ b
-          → cond b (first_of actuals >? λ q. rebase depth a (path x []) q) (passed depth xs (behind_first actuals) a) ≡ Some o → Passes a o
+          → cond b (first_actual actuals >? λ q. rebase depth a (path x []) q) (passed depth xs (behind_first actuals) a) ≡ Some o → Passes a o
       by later true e k =
-          let g = given (first_of actuals) (λ q. rebase depth a (path x []) q) o k in
+          let g = given (first_actual actuals) (λ q. rebase depth a (path x []) q) o k in
           let same = rebase-base depth a (path x []) g.0 o g.2 in
           formal-passes x a o g.0 other.0 (same_var-true a.base x e) same.0 (first-named actuals g.0 named g.1)
       by later false e k = later k
@@ -95,12 +95,12 @@ module _ (Q : Node → Type 0) (u : Facts) where
   reached-named depth [] actuals o a other named h = cc
   reached-named depth (None ∷ xs) actuals o a other named h = reached-named depth xs (behind_first actuals) o a other.1 (behind-named actuals named) h
   reached-named depth (Some x ∷ xs) actuals o a other named h =
-      by (reached-named depth xs (behind_first actuals) o a other.1 (behind-named actuals named)) (first_of actuals >? λ q. reaching depth x q o) refl h
+      by (reached-named depth xs (behind_first actuals) o a other.1 (behind-named actuals named)) (first_actual actuals >? λ q. reaching depth x q o) refl h
     where
-      by : (reached depth xs (behind_first actuals) o ≡ Some a → Passes a o) → (k : Option Object) → (first_of actuals >? λ q. reaching depth x q o) ≡ k → or_else k (reached depth xs (behind_first actuals) o) ≡ Some a → Passes a o
+      by : (reached depth xs (behind_first actuals) o ≡ Some a → Passes a o) → (k : Option Object) → (first_actual actuals >? λ q. reaching depth x q o) ≡ k → or_else k (reached depth xs (behind_first actuals) o) ≡ Some a → Passes a o
       by later None e k = later k
       by later (Some c) e k =
-          let g = given (first_of actuals) (λ q. reaching depth x q o) c e in
+          let g = given (first_actual actuals) (λ q. reaching depth x q o) c e in
           let s : c ≡ a = cc in
           let same = reaching-bases depth x g.0 o a (g.2 ∙ ap Some s) in
           formal-passes x a o g.0 other.0 same.0 same.1 (first-named actuals g.0 named g.1)

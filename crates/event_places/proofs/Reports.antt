@@ -31,7 +31,7 @@ use Rattle.path_model.specs.CheckerModel.Choices.{State, Taken, first_some, appl
 use Rattle.path_model.specs.CheckerModel.Happenings.{Function, Happening}
 use Rattle.path_model.specs.CheckerModel.Reports.{Checker, token_at, report_at, report_of}
 use Rattle.path_model.specs.CheckerPrograms.Paths.{program}
-use Rattle.path_model.specs.CheckerPrograms.Texts.{functions_in, definition_of, empty, with_close, flow_facts, table_of, tokens_of}
+use Rattle.path_model.specs.CheckerPrograms.Texts.{functions_in, definition_of, empty, with_close, flow_facts, tokens_of, type_table}
 use Rattle.typed_unit.specs.Texts.{Text}
 use Rattle.typed_unit.specs.TokenSearch.Numbers.{from}
 use Rattle.event_places.specs.Standing.{StandInFiles, HaveTheirTables}
@@ -171,8 +171,8 @@ module _ (c : Checker) (ts : List Text) (stand : StandInFiles ts) where
       let own : f.place.file ≡ k.position = let a = k.is_of.place_is in let b : w.defined.place.file ≡ f.place.file = ap (λ (g : Function). g.place.file) w.same in omega (arith, a, b) in
       let file : w.defined.file ≡ k.position = let a = k.is_of.file_is in omega (arith, a) in
       let at : (i : ℕ) → i ≡ k.position → tokens_of ts i ≡ k.text.tokens = λ i e. ap (tokens_of ts) e ∙ ap (λ (o : Option Text). if_there o [] (λ t. t.tokens)) k.here in
-      let table : table_of ts f.place.file ≡ k.text.table = ap (table_of ts) own ∙ ap (λ (o : Option Text). if_there o [] (λ t. t.table)) k.here in
-      let variables : is_declaration x.event ≡ true → (n : Node) (y : Variable) → declared_variable (table_of ts f.place.file) n ≡ Some y → HaveTokenAt k.text.tokens y.place =
+      let table : type_table ts f.place.file ≡ k.text.table = ap (type_table ts) own ∙ ap (λ (o : Option Text). if_there o [] (λ t. t.table)) k.here in
+      let variables : is_declaration x.event ≡ true → (n : Node) (y : Variable) → declared_variable (type_table ts f.place.file) n ≡ Some y → HaveTokenAt k.text.tokens y.place =
       λ declares n y e. text-variables k.position k.text (stand k.position k.text k.here)
       (tables (ap (λ (z : Happening). is_declaration z.event) x.is ∙ declares) k.position k.text k.here) n y
       (ap (λ (u : Table). declared_variable u n) (sym table) ∙ e) in

@@ -33,7 +33,7 @@ use Rattle.path_model.specs.CheckerModel.Happenings.{Function, Happening, Site}
 use Rattle.path_model.specs.CheckerModel.Reports.{Checker}
 use Rattle.path_model.specs.CheckerPrograms.Paths.{program}
 use Rattle.path_model.specs.CheckerPrograms.Roots.{followed_into, IsRootFunction}
-use Rattle.path_model.specs.CheckerPrograms.Texts.{functions_in, function_of, defines, defined_as, definition_of, flow_facts, table_of, happening, site}
+use Rattle.path_model.specs.CheckerPrograms.Texts.{functions_in, function_of, defines, defined_as, definition_of, flow_facts, happening, site, type_table}
 use Rattle.path_model.proofs.CheckerGraphs.Numbers.{defines-is}
 use Rattle.path_model.proofs.CheckerGraphs.SameTraces.{event_on, call_on}
 use Rattle.typed_unit.specs.Texts.{Text}
@@ -153,7 +153,7 @@ module _ (c : Checker) (ts : List Text) where
 
   callee-defined : (f h : Function) (n : Node) (s : Site) → s ≡ site c.depth ts f n → followed_into c.machine s ≡ Some h → IsDefined (functions_in ts) h
   callee-defined f h n s e k =
-      from-position (body_called (table_of ts f.place.file) f.place.file (functions_in ts) n) h (ap (followed_into c.machine) (sym e) ∙ k)
+      from-position (body_called (type_table ts f.place.file) f.place.file (functions_in ts) n) h (ap (followed_into c.machine) (sym e) ∙ k)
 
   pub defined-frames : {f : Function} {k : Bool} {p : K.Place} {b : Callers (model c) (program c ts)} → Path (model c) (program c ts) f k p b → IsDefined (functions_in ts) f × Below b
   defined-frames (Begin r) = (subst (IsDefined (functions_in ts)) (sym r.named) (is-defined (functions_in ts) r.number r.defined r.is), tt)

@@ -8,10 +8,10 @@ use Rattle.c_objects.proofs.Vars.{same_var-true, same_var-refl}
 use Rattle.c_objects.specs.Objects.{Object, IsObject, is_indexed_by, same_var}
 use Rattle.c_objects.specs.Paths.{behind, has_access, rest}
 use Rattle.event_tables.specs.ObjectIndex.{has_variable}
-use Rattle.event_tables.specs.Touched.{row_of, touched_at, touched_from}
+use Rattle.event_tables.specs.Touched.{touched_at, touched_from}
 use Rattle.masked_paths.specs.StrictFlows.Among.{if_followed, of_followed}
 use Rattle.numbered_tuples.proofs.Numbers.{no_number}
-use Rattle.numbered_tuples.specs.FollowedObjects.{number_of}
+use Rattle.numbered_tuples.specs.FollowedObjects.{number_of, row_of}
 use Rattle.objects.specs.Equality.{same_object, same_object-refl, same_object-true}
 use Rattle.path_model.specs.CheckerModel.Moves.{Move, copied, indexes, is_bare, source, source_of, under}
 use Rattle.row_flows.specs.declared.rows.Touched.{Touched}

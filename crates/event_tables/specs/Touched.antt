@@ -3,7 +3,7 @@ use Rattle.std.specs.Prelude.{ℕ, Bool, false, cond, List, Option, None, Some}
 use Rattle.std.specs.List.{enumerate_from, filter_map}
 use Rattle.block_flows.specs.TupleFlows.Moved.{source_in}
 use Rattle.c_objects.specs.Objects.{Object}
-use Rattle.numbered_tuples.specs.FollowedObjects.{number_of}
+use Rattle.numbered_tuples.specs.FollowedObjects.{number_of, row_of}
 use Rattle.objects.specs.Equality.{same_object}
 use Rattle.path_model.specs.CheckerModel.Moves.{Move}
 use Rattle.row_flows.specs.Numbers.{item_numbered}
@@ -17,9 +17,6 @@ source_number followed z = if_there z 0 (number_of followed)
 -- the object has its own state
 abbrev pub is_kept : Object → Option Object → Bool
 is_kept o z = if_there z false (λ s. same_object s o)
-
-abbrev pub row_of : ℕ → ℕ → Touched
-row_of n k = record { object = n; source = k }
 
 -- the row of the object with this number whose source is this
 abbrev pub touched_from : List Object → ℕ → Object → Option Object → Option Touched

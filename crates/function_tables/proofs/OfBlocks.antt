@@ -10,13 +10,13 @@ use Rattle.type_rules.specs.Options.{◌>?◌}
 use Rattle.call_graph.specs.Followed.{followed}
 use Rattle.path_model.proofs.CheckerGraphs.Units.{functions-are, table-is, happening-is}
 use Rattle.path_model.specs.CheckerModel.Happenings.{Function, Happening}
-use Rattle.path_model.specs.CheckerPrograms.Texts.{functions_in, function_of as named, table_of, happening}
+use Rattle.path_model.specs.CheckerPrograms.Texts.{functions_in, function_of as named, happening, type_table}
 use Rattle.typed_unit.specs.Texts.{Text, texts_of}
 use Rattle.flow_graph.specs.declared.event.Event.{Event}
 use Rattle.flow_graph.specs.declared.graph.Block.{Block}
 use Rattle.flow_graph.specs.Values.{event_of, block_of, ending_of}
 use Rattle.function_tables.specs.declared.table.BlockTable.{BlockTable}
-use Rattle.function_tables.specs.Ends.{call_in}
+use Rattle.path_model.specs.CheckerGraphs.Ends.{call_in}
 use Rattle.function_tables.specs.Rules.{AreOfEvents}
 use Rattle.function_tables.specs.Tables.{IsBlockTable, AreBlockTables}
 use Rattle.function_tables.proofs.OneByOne.{zip-next, zip-all, map-at}
@@ -47,10 +47,10 @@ happenings-are units u f (e ∷ es) at =
     ∙ ap (λ (hs : List Happening). happening (texts_of units) f (event_of e) ∷ hs) (happenings-are units u f es at)
 
 -- the function into which a call is followed, in the program of all units
-followed-is : (m : Machine) (units : List (Bor TypedUnit)) (file : ℕ) (n : Node) → followed m (table_in units file) file (definitions (trees_in units)) n ≡ followed m (table_of (texts_of units) file) file (functions_in (texts_of units)) n
+followed-is : (m : Machine) (units : List (Bor TypedUnit)) (file : ℕ) (n : Node) → followed m (table_in units file) file (definitions (trees_in units)) n ≡ followed m (type_table (texts_of units) file) file (functions_in (texts_of units)) n
 followed-is m units file n =
     ap (λ (t : Table). followed m t file (definitions (trees_in units)) n) (sym (table-is units file))
-    ∙ ap (λ (fs : List Defined). followed m (table_of (texts_of units) file) file fs n) (sym (functions-are units))
+    ∙ ap (λ (fs : List Defined). followed m (type_table (texts_of units) file) file fs n) (sym (functions-are units))
 
 -- the table of a block of a function, which was made in a frame of it
 pub block-table : (m : Machine) (depth : ℕ) (units : List (Bor TypedUnit)) (u : Bor TypedUnit) (f : TypedFunction) (frame : Frame) (b : Block) (es : List Event) (t : BlockTable)

@@ -1,4 +1,3 @@
 pub mod Rules
-pub mod Ends
 pub mod Tables
 pub mod EngineTables

@@ -6,12 +6,12 @@ use Rattle.c_tree.specs.Node.{Node}
 use Rattle.type_rules.specs.Functions.{Defined}
 use Rattle.call_graph.specs.Followed.{followed}
 use Rattle.path_model.specs.CheckerGraphs.Graphs.{AreGraphs, IsFlowGraphIn}
-use Rattle.path_model.specs.CheckerPrograms.Texts.{functions_in, function_of, table_of, happening}
+use Rattle.path_model.specs.CheckerPrograms.Texts.{functions_in, function_of, happening, type_table}
 use Rattle.typed_unit.specs.Texts.{Text}
 use Rattle.flow_graph.specs.Seen.{graph_in}
 use Rattle.function_tables.specs.declared.table.BlockTable.{BlockTable}
 use Rattle.function_tables.specs.declared.table.FunctionTable.{FunctionTable}
-use Rattle.function_tables.specs.Ends.{call_in}
+use Rattle.path_model.specs.CheckerGraphs.Ends.{call_in}
 use Rattle.function_tables.specs.Rules.{AreOfEvents}
 use Rattle.metal_tree.specs.MetalMachines.Machine.{Machine}
 
@@ -19,7 +19,7 @@ use Rattle.metal_tree.specs.MetalMachines.Machine.{Machine}
 -- by its number
 pub record IsBlockTable (m : Machine) (depth : ℕ) (ts : List Text) (d : Defined) (b : Block) (t : BlockTable) : Type 0 where
   pub rules : AreOfEvents m depth (function_of d) (map (happening ts (function_of d)) b.events) t.rules.items
-  pub callee : (n : Node) → call_in b.ending ≡ Some n → t.callee ≡ followed m (table_of ts d.file) d.file (functions_in ts) n
+  pub callee : (n : Node) → call_in b.ending ≡ Some n → t.callee ≡ followed m (type_table ts d.file) d.file (functions_in ts) n
   pub no_callee : call_in b.ending ≡ None → t.callee ≡ None
 
 -- those of blocks, one by one

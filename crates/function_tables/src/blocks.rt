@@ -7,7 +7,7 @@ ghost use Rattle.path_model.specs.CheckerPrograms.Texts.{function_of as named};
 ghost use Rattle.typed_unit.specs.Texts.{texts_of};
 ghost use Rattle.flow_graph.specs.Seen.{graph_in};
 ghost use Rattle.flow_graph.specs.Values.{block_of, ending_of};
-ghost use Rattle.function_tables.specs.Ends.{call_in};
+ghost use Rattle.path_model.specs.CheckerGraphs.Ends.{call_in};
 ghost use Rattle.function_tables.specs.Tables.{IsBlockTable, AreBlockTables};
 ghost use Rattle.metal_tree.specs.Whole.{machine_view};
 ghost use Rattle.call_graph.specs.OfPrograms.Calls.{table_in};

@@ -40,7 +40,8 @@ use Rattle.relevant.proofs.RelevantRows.Linking.{into-same, out-same, row-of}
 use Rattle.relevant.proofs.RelevantSteps.Traced.{own-graph, of-event, of-call}
 use Rattle.relevant.specs.LinkedObjects.Linked.{AreLinkedOver}
 use Rattle.relevant.specs.RelevantRows.Rows.{Passes, AreRows}
-use Rattle.relevant.specs.RelevantSteps.Steps.{Member, IsNumbered}
+use Rattle.relevant.specs.RelevantSteps.Steps.{IsNumbered}
+use Rattle.path_model.specs.CheckerGraphs.Members.{Member}
 use Rattle.relevant.specs.declared.relevant_objects.rows.FollowedCall.{FollowedCall}
 use Rattle.relevant.specs.declared.relevant_objects.rows.FunctionRow.{FunctionRow}
 use Rattle.typed_unit.specs.Texts.{Text}

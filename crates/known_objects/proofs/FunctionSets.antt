@@ -96,10 +96,10 @@ sets-all found i lists l h = subst (λ ys. AreSets ys lists) (take_all i found l
 
 -- ---- each once
 
-abbrev pub AreDistinct : List (List Object) → Type 0
-AreDistinct lists = (n : ℕ) (os : List Object) → slice_get lists n ≡ Some os → IsDistinct same_object os
+abbrev pub AreEachDistinct : List (List Object) → Type 0
+AreEachDistinct lists = (n : ℕ) (os : List Object) → slice_get lists n ≡ Some os → IsDistinct same_object os
 
-pub none-distinct : (n : ℕ) → AreDistinct (replicate n [])
+pub none-distinct : (n : ℕ) → AreEachDistinct (replicate n [])
 unfolding IsDistinct
 none-distinct n m os e = subst (IsDistinct same_object) (sym (none-at n m os e)) tt
 
@@ -110,13 +110,13 @@ insert-distinct os o h = by (list_any (same_object o) os) refl
     by true e = h
     by false e = IsDistinct-push objects_equiv os o h e
 
-pub distinct-next : (n : ℕ) (o : Object) (old new : List (List Object)) → new ≡ with_known n o old → AreDistinct old → AreDistinct new
+pub distinct-next : (n : ℕ) (o : Object) (old new : List (List Object)) → new ≡ with_known n o old → AreEachDistinct old → AreEachDistinct new
 distinct-next n o old new k h m os e = elim (known-at n o old m os (subst (λ ls. slice_get ls m ≡ Some os) k e)) [
   | inl g ↦ subst (IsDistinct same_object) (sym g.grew) (insert-distinct g.old o (h m g.old g.was))
   | inr s ↦ h m os s.was
 ]
 
-pub each-once : (lists : List (List Object)) → AreDistinct lists → AreOnce lists
+pub each-once : (lists : List (List Object)) → AreEachDistinct lists → AreOnce lists
 each-once lists h n os e = once same_object same_object-refl os (h n os e)
 
 -- ---- the sets in which the lists stand

@@ -3,7 +3,8 @@ use Rattle.std.proofs.Common.{◌≡◌, ◌∙◌, ℕ, List, [], map, None, So
 use Rattle.std.proofs.lemmas.Option.{none-some, same_Some}
 use Rattle.c_objects.specs.Objects.{Object}
 use Rattle.flow_graph.specs.Values.{event_of}
-use Rattle.known_objects.specs.Linked.{entry_at, pair_with, moved_by, entered_by, handed_by, handed_out_by, HandsIn}
+use Rattle.known_objects.specs.Linked.{entry_at, moved_by, entered_by, handed_by, handed_out_by, HandsIn}
+use Rattle.path_model.specs.CheckerGraphs.Members.{member}
 use Rattle.known_objects.specs.declared.changes.Move.{Move}
 use Rattle.known_objects.specs.declared.changes.Numbered.{Numbered}
 use Rattle.known_search.proofs.Lists.{image, alike, none}
@@ -36,9 +37,9 @@ module _ (depth : ℕ) (x : Numbered) where
   pub handed-given : (m : ℕ) (d : Object) (n : ℕ) (os : List Object) → AreHanded depth (site_of depth x.call.site) d os → x.call.callee ≡ m → x.call.caller ≡ n → IsExactly os (handed_by depth x m d n)
   handed-given m d n os are f g = alike _ _ os (handed-exactly d os are) (λ o h. (f, g, h)) (λ o h. h.2)
 
-  pub handed-out-given : (thing : ℕ × Object) (os : List Object) (ys : List (ℕ × Object)) → ys ≡ map (pair_with x.call.caller) os → AreHanded depth (site_of depth x.call.site) thing.1 os → x.call.callee ≡ thing.0 → IsExactly ys (handed_out_by depth x thing)
+  pub handed-out-given : (thing : ℕ × Object) (os : List Object) (ys : List (ℕ × Object)) → ys ≡ map (member x.call.caller) os → AreHanded depth (site_of depth x.call.site) thing.1 os → x.call.callee ≡ thing.0 → IsExactly ys (handed_out_by depth x thing)
   handed-out-given thing os ys same are at =
-      alike _ _ ys (image (pair_with x.call.caller) os ys same (handed-exactly thing.1 os are))
+      alike _ _ ys (image (member x.call.caller) os ys same (handed-exactly thing.1 os are))
       (λ y v. (at, ap (λ (z : ℕ × Object). z.0) v.2, subst (λ (z : ℕ × Object). out depth (site_of depth x.call.site) z.1 ≡ Some thing.1) v.2 v.1))
       (λ y h. (y.1, h.2, λ i. (h.1 i, y.1)))
 

@@ -18,7 +18,7 @@ use Rattle.path_model.specs.CheckerGraphs.Graphs.{AreGraphs, AreApartPlaces}
 use Rattle.path_model.specs.CheckerModel.Reports.{Checker}
 use Rattle.path_model.specs.CheckerPrograms.Texts.{functions_in}
 use Rattle.relevant.specs.RelevantRows.Rows.{AreRows}
-use Rattle.relevant.specs.RelevantSteps.Steps.{Member}
+use Rattle.path_model.specs.CheckerGraphs.Members.{Member}
 use Rattle.relevant.specs.declared.relevant_objects.rows.FunctionRow.{FunctionRow}
 use Rattle.typed_unit.specs.Texts.{Text}
 

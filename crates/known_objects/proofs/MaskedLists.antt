@@ -32,7 +32,7 @@ use Rattle.path_theory.specs.Model.{Model}
 use Rattle.path_theory.specs.Origins.{Origins}
 use Rattle.path_theory.specs.Supergraph.{Supergraph}
 use Rattle.path_theory.specs.Walks.{HasTraces}
-use Rattle.relevant.specs.RelevantSteps.Steps.{Member}
+use Rattle.path_model.specs.CheckerGraphs.Members.{Member}
 use Rattle.type_rules.specs.Functions.{Defined}
 use Rattle.typed_unit.specs.Texts.{Text}
 

@@ -15,7 +15,7 @@ use Rattle.path_model.specs.CheckerModel.Reports.{Checker}
 use Rattle.path_model.specs.CheckerPrograms.Paths.{program}
 use Rattle.path_model.specs.CheckerPrograms.Texts.{functions_in}
 use Rattle.path_theory.specs.Relevant.{EventOf, CallOf}
-use Rattle.relevant.specs.RelevantSteps.Steps.{Member}
+use Rattle.path_model.specs.CheckerGraphs.Members.{Member}
 use Rattle.report_model.specs.declared.report.Report.{Report}
 use Rattle.typed_unit.specs.Texts.{Text}
 

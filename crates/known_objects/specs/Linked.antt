@@ -18,9 +18,6 @@ use Rattle.relevant.specs.LinkedObjects.Linked.{AreLinkedOver}
 abbrev pub entry_at : Numbered → Object → Entry Object
 entry_at x o = record { call = x.number; callee = x.call.callee; object = o }
 
-abbrev pub pair_with : ℕ → Object → ℕ × Object
-pair_with n o = (n, o)
-
 -- it has its state from the object of the function, behind the move
 abbrev pub moved_by : ℕ → Move → ℕ × Object → Object → Type 0
 moved_by depth x thing o = (x.function ≡ thing.0) × (source depth (move_of (facts_in x.unit.now) depth (event_of x.event)) o ≡ Some thing.1)

@@ -10,7 +10,7 @@ use Rattle.path_model.specs.CheckerModel.Checkers.{model, origins}
 use Rattle.path_model.specs.CheckerModel.Happenings.{Function}
 use Rattle.path_model.specs.CheckerModel.Reports.{Checker}
 use Rattle.path_theory.specs.FlowGraphs.{supergraph}
-use Rattle.relevant.specs.RelevantSteps.Steps.{Member}
+use Rattle.path_model.specs.CheckerGraphs.Members.{Member}
 use Rattle.typed_unit.specs.Texts.{Text}
 
 -- IT IS ENOUGH TO FOLLOW the objects of the lists, by any test that says which these are, where at each event of a path over the flow graphs rules

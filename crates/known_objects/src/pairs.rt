@@ -1,7 +1,8 @@
 //! Objects with what a search wants beside them.
 
 ghost use Rattle.std.specs.Prelude.{◌≡◌, map, IfOk};
-ghost use Rattle.known_objects.specs.Linked.{entry_at, pair_with};
+ghost use Rattle.known_objects.specs.Linked.{entry_at};
+ghost use Rattle.path_model.specs.CheckerGraphs.Members.{member};
 
 use crate::changes::Numbered;
 use known_search::Entry;
@@ -33,7 +34,7 @@ pub(crate) fn pairs(
     function: u32,
     objects: &[Object],
 ) -> Result<Vec<(u32, Object)>, AllocError>
-    ensures { IfOk result (λ list. list.items ≡ map (pair_with function) objects.now) }
+    ensures { IfOk result (λ list. list.items ≡ map (member function) objects.now) }
 {
     let mut list = Vec::new(alloc);
     for object in objects {

@@ -12,7 +12,7 @@ use Rattle.command.specs.Tasks.{IsEmptiedAt}
 use Rattle.command.specs.declared.status.Status.{Status}
 use Rattle.command.specs.declared.status.Status.TheVariants.{Clean, Reports, Usage, Refused, ReadFault, WriteFault, NoMemory}
 use Rattle.report_model.specs.declared.report.Report.{Report}
-use Rattle.report_model.specs.OfReporters.Styles.{json_of, table_of}
+use Rattle.report_model.specs.OfReporters.Styles.{json_of, report_table}
 use Rattle.metalcheck.specs.Styles.{AreOfBothStyles, both_styles}
 
 -- their names, and what each renders
@@ -20,7 +20,7 @@ abbrev pub style_names : Words
 style_names = codes "table" ∷ codes "json" ∷ []
 
 abbrev pub styles : List Report → List Bytes
-styles reports = table_of reports ∷ json_of reports ∷ []
+styles reports = report_table reports ∷ json_of reports ∷ []
 
 -- both of two are empty
 empty-at : (k : ℕ) → k < 2 → slice_get {X = List Report} ([] ∷ [] ∷ []) k ≡ Some []
@@ -89,12 +89,12 @@ module _ {B : Type 0} (called : B → Bytes) (style : B → List Report → Byte
       let both : map called (first ∷ second ∷ []) ≡ style_names = λ i. a i ∷ b i ∷ [] in
       ap (map called) two ∙ both
 
-  styles-of : style first ≡ table_of → style second ≡ json_of → (reports : List Report) → map (λ b. style b reports) items ≡ styles reports
+  styles-of : style first ≡ report_table → style second ≡ json_of → (reports : List Report) → map (λ b. style b reports) items ≡ styles reports
   styles-of a b reports =
       let both : map (λ (x : B). style x reports) (first ∷ second ∷ []) ≡ styles reports = λ i. a i reports ∷ b i reports ∷ [] in
       ap (map (λ (x : B). style x reports)) two ∙ both
 
-  pub are_of_both : (called first ≡ codes "table") × (called second ≡ codes "json") → (style first ≡ table_of) × (style second ≡ json_of) → AreOfBothStyles (map (λ b. reporter_state (called b) (style b) (taken b)) items)
+  pub are_of_both : (called first ≡ codes "table") × (called second ≡ codes "json") → (style first ≡ report_table) × (style second ≡ json_of) → AreOfBothStyles (map (λ b. reporter_state (called b) (style b) (taken b)) items)
   are_of_both names renders = record {
     names = called_is called style taken items ∙ names-of names.0 names.1;
     styles = λ reports. rendered_is called style taken reports items ∙ styles-of renders.0 renders.1 reports;

@@ -9,11 +9,11 @@ use Rattle.command.specs.declared.status.Status.TheVariants.{Clean, Reports}
 use Rattle.command_words.specs.Words.{IsRequest, Request, is_checker_word, is_source_word}
 use Rattle.report_model.specs.Lines.{text_of}
 use Rattle.report_model.specs.declared.report.Report.{Report}
-use Rattle.report_model.specs.OfReporters.Styles.{json_of, table_of}
+use Rattle.report_model.specs.OfReporters.Styles.{json_of, report_table}
 
 -- A REPORTER OF EACH STYLE, which holds nothing. They are made for the run and gone behind it
 abbrev pub both_styles : List ReporterState
-both_styles = reporter_state (codes "table") table_of [] ∷ reporter_state (codes "json") json_of [] ∷ []
+both_styles = reporter_state (codes "table") report_table [] ∷ reporter_state (codes "json") json_of [] ∷ []
 
 -- reporters of these names and styles, in this order, whatever they hold
 pub record AreOfBothStyles (reporters : List ReporterState) : Type 0 where
@@ -23,7 +23,7 @@ pub record AreOfBothStyles (reporters : List ReporterState) : Type 0 where
 -- THE TEXT OF REPORTS by the format that is named: a line for each where none is, a table, or lines of JSON
 abbrev pub IsTextIn : Option Bytes → List Report → Bytes → Type 0
 IsTextIn None reports text = text ≡ text_of reports
-IsTextIn (Some name) reports text = ((name ≡ codes "table") × (text ≡ table_of reports)) ⊎ ((name ≡ codes "json") × (text ≡ json_of reports))
+IsTextIn (Some name) reports text = ((name ≡ codes "table") × (text ≡ report_table reports)) ⊎ ((name ≡ codes "json") × (text ≡ json_of reports))
 
 -- the reports of the files of a request were printed in its format, and nothing else, and the status says whether there are any
 pub record PrintsAsAsked (run : Run) (request : Request) : Type 0 where

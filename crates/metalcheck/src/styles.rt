@@ -4,7 +4,7 @@ ghost use Rattle.std.specs.Prelude.{◌≡◌, codes, map, string_bytes, IfOk};
 ghost use Rattle.command.specs.Run.{reporter_state};
 ghost use Rattle.command.specs.Written.{AreHanded};
 ghost use Rattle.metalcheck.specs.Styles.{AreOfBothStyles, PromiseInStyles, both_styles};
-ghost use Rattle.report_model.specs.OfReporters.Styles.{json_of, table_of};
+ghost use Rattle.report_model.specs.OfReporters.Styles.{json_of, report_table};
 
 use command::{Status, run};
 use mx_io::{Files, Sink};
@@ -25,7 +25,7 @@ fn list_of(
     json: Box<dyn Reporter>,
 ) -> Result<Vec<Box<dyn Reporter>>, AllocError>
     requires names { (called table ≡ codes "table") × (called json ≡ codes "json") }
-    requires styles { (rendered table ≡ table_of) × (rendered json ≡ json_of) }
+    requires styles { (rendered table ≡ report_table) × (rendered json ≡ json_of) }
     ensures { IfOk result (λ all. AreOfBothStyles (map (λ b. reporter_state (called b) (rendered b) (taken b)) all.items)) }
 {
     let mut all = Vec::new(alloc);

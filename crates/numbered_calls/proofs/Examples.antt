@@ -2,7 +2,8 @@
 -- a variable of both.
 use Rattle.std.proofs.Common.{◌≡◌, List, [], ◌∷◌, true, false, None, Some, refl}
 use Rattle.c_objects.specs.Objects.{Object, Deref, path}
-use Rattle.numbered_calls.specs.Rows.{entered_rows, handed_rows, row_of, saved_flags}
+use Rattle.numbered_calls.specs.Rows.{entered_rows, handed_rows, saved_flags}
+use Rattle.numbered_tuples.specs.FollowedObjects.{row_of}
 use Rattle.path_model.specs.CheckerModel.Happenings.{Site}
 use Rattle.type_rules.specs.Vars.{CVar, Extern, Local, Param}
 

@@ -10,8 +10,8 @@ use Rattle.c_objects.specs.Objects.{Object}
 use Rattle.masked_paths.specs.StrictFlows.Among.{if_followed, of_followed}
 use Rattle.numbered_calls.proofs.FollowedNumbers.{source_followed}
 use Rattle.numbered_calls.proofs.NumberedItems.{given_more, given_past, item_there, place_within}
-use Rattle.numbered_calls.specs.Rows.{entered_row, handed_row, handing_number, is_saved, row_of}
-use Rattle.numbered_tuples.specs.FollowedObjects.{number_of}
+use Rattle.numbered_calls.specs.Rows.{entered_row, handed_row, handing_number, is_saved}
+use Rattle.numbered_tuples.specs.FollowedObjects.{number_of, row_of}
 use Rattle.path_model.specs.CheckerModel.Calls.{into, out}
 use Rattle.path_model.specs.CheckerModel.Happenings.{Site}
 use Rattle.row_flows.specs.declared.rows.Touched.{Touched}

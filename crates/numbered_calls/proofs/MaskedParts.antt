@@ -17,12 +17,12 @@ use Rattle.numbered_calls.proofs.CallParts.{AreEntered, AreHanded, AreSaved, IsH
 use Rattle.numbered_calls.proofs.FollowedLists.{follows, once}
 use Rattle.numbered_calls.proofs.FollowedNumbers.{number_there}
 use Rattle.numbered_calls.proofs.NumberedItems.{enumerated, numbered, placed}
-use Rattle.numbered_calls.specs.Rows.{entered_row, entered_rows, handed_row, handed_rows, is_saved, row_of, saved_flags, source_number}
+use Rattle.numbered_calls.specs.Rows.{entered_row, entered_rows, handed_row, handed_rows, is_saved, saved_flags, source_number}
 use Rattle.numbered_calls.specs.Stands.{IsNumberedBy}
 use Rattle.numbered_paths.specs.RowParts.{IsNumberOf}
 use Rattle.numbered_paths.specs.Views.{AreNumbers, Views}
 use Rattle.numbered_tuples.proofs.Numbers.{item_at}
-use Rattle.numbered_tuples.specs.FollowedObjects.{number_of}
+use Rattle.numbered_tuples.specs.FollowedObjects.{number_of, row_of}
 use Rattle.path_edges.proofs.MaskedCalls.{between}
 use Rattle.path_edges.specs.Masks.{graphs_under, model_under, objects_under, origins_under}
 use Rattle.path_model.specs.CheckerModel.Calls.{into, out}

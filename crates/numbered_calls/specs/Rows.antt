@@ -4,14 +4,10 @@ use Rattle.std.specs.List.{enumerate_from, filter_map}
 use Rattle.std.specs.Option.{option_map}
 use Rattle.block_flows.specs.TupleFlows.Passed.{into_in, out_in}
 use Rattle.c_objects.specs.Objects.{Object}
-use Rattle.numbered_tuples.specs.FollowedObjects.{number_of}
+use Rattle.numbered_tuples.specs.FollowedObjects.{number_of, row_of}
 use Rattle.path_model.specs.CheckerModel.Happenings.{Site}
 use Rattle.row_flows.specs.declared.rows.Touched.{Touched}
 use Rattle.type_rules.specs.Options.{if_there}
-
--- the object with a number has its state from that with this one
-abbrev pub row_of : ℕ → ℕ → Touched
-row_of n k = record { object = n; source = k }
 
 -- the number of the caller's object whose state one of the callee begins with; 0 where it begins unknown
 abbrev pub source_number : ℕ → Site → List Object → List Object → Object → ℕ

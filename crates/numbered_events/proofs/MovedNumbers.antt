@@ -9,13 +9,13 @@ use Rattle.block_flows.specs.FollowedLists.{is_followed, mask_in}
 use Rattle.block_flows.specs.TupleFlows.Facts.{is_in}
 use Rattle.block_flows.specs.TupleFlows.Moved.{source_in}
 use Rattle.c_objects.specs.Objects.{Object}
-use Rattle.event_tables.specs.Touched.{is_kept, row_of, source_number, touched_at, touched_from, touched_rows}
+use Rattle.event_tables.specs.Touched.{is_kept, source_number, touched_at, touched_from, touched_rows}
 use Rattle.masked_paths.proofs.StrictFlows.Among.{origins_are}
 use Rattle.masked_paths.specs.Masked.{EventIn}
 use Rattle.numbered_events.proofs.ItemNumbers.{object_again}
 use Rattle.least_set.specs.Logs.{IsOnce}
 use Rattle.numbered_tuples.proofs.Numbers.{item_at}
-use Rattle.numbered_tuples.specs.FollowedObjects.{number_of}
+use Rattle.numbered_tuples.specs.FollowedObjects.{number_of, row_of}
 use Rattle.objects.specs.Equality.{same_object, same_object-true}
 use Rattle.path_edges.specs.Masks.{origins_under}
 use Rattle.path_model.proofs.CheckerModel.Sources.{untested}

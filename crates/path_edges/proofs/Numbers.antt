@@ -11,7 +11,7 @@ use Rattle.path_model.specs.CheckerModel.Happenings.{Function, Site}
 use Rattle.path_model.specs.CheckerModel.Reports.{Checker}
 use Rattle.path_model.proofs.CheckerModel.Sources.{given, untested}
 use Rattle.path_model.specs.CheckerPrograms.Roots.{followed_into}
-use Rattle.path_model.specs.CheckerPrograms.Texts.{functions_in, function_of, callee_of, table_of, site}
+use Rattle.path_model.specs.CheckerPrograms.Texts.{functions_in, function_of, callee_of, site, type_table}
 use Rattle.typed_unit.specs.Texts.{Text}
 use Rattle.metal_tree.specs.MetalMachines.Machine.{Machine}
 use Rattle.call_graph.specs.OfPrograms.Calls.{body_called}
@@ -31,7 +31,7 @@ mapped f (Some a) b e = (a, refl, cc)
 pub callee-number : (depth : ℕ) (ts : List Text) (f h : Function) (n : Node) → (site depth ts f n).callee ≡ Some h → (k : ℕ) × (function_at ts k ≡ Some h)
 callee-number depth ts f h n e =
     let d = mapped function_of (callee_of ts f.place.file n) h e in
-    let k = given (body_called (table_of ts f.place.file) f.place.file (functions_in ts) n) (slice_get (functions_in ts)) d.0 d.1 in
+    let k = given (body_called (type_table ts f.place.file) f.place.file (functions_in ts) n) (slice_get (functions_in ts)) d.0 d.1 in
     (k.0, ap (option_map function_of) k.2 ∙ ap Some d.2)
 
 pub have-numbers : (c : Checker) (ts : List Text) (gs : List Graph) → HasNumbers (model c) (flow_graphs c ts gs) (function_at ts)

@@ -2,11 +2,11 @@
 use Rattle.std.specs.Prelude.{ℕ, List, [], Option, None, Some}
 use Rattle.c_objects.specs.Objects.{Object}
 use Rattle.flow_graph.specs.CPaths.Building.{Graph}
-use Rattle.flow_graph.specs.CPaths.Graphs.{Ending, ToAny, Calls, Stops}
 use Rattle.c_tree.specs.Node.{Node}
 use Rattle.type_rules.specs.Options.{if_there, ◌>?◌}
 use Rattle.std.specs.Prelude.{slice_get}
 use Rattle.masked_paths.specs.Masked.{SiteIn}
+use Rattle.path_model.specs.CheckerGraphs.Ends.{call_at}
 use Rattle.path_model.specs.CheckerGraphs.Graphs.{function_at, graph_at}
 use Rattle.path_model.specs.CheckerModel.Choices.{State}
 use Rattle.path_model.specs.CheckerModel.Happenings.{Function, Site}
@@ -29,15 +29,6 @@ context_in k = record { function = k.function; entry = tuple_in k.entry }
 
 abbrev pub edge_in : Edge → rules.PathEdge ℕ Object State ℕ
 edge_in e = record { context = context_in e.context; is_root = e.is_root; block = e.block; tuple = tuple_in e.tuple }
-
--- the call in which a block ends, if it does in one
-abbrev pub call_in : Ending → Option Node
-call_in (Calls n next) = Some n
-call_in (ToAny bs) = None
-call_in Stops = None
-
-abbrev pub call_at : Graph → ℕ → Option Node
-call_at g b = slice_get g.blocks b >? λ s. call_in s.ending
 
 -- a site at which nothing is passed, where there is none
 abbrev pub no_site : Site

@@ -1,2 +1,4 @@
 pub mod Graphs
+pub mod Ends
+pub mod Members
 pub mod Theorems

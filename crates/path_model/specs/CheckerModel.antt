@@ -4,4 +4,5 @@ pub mod Calls
 pub mod Choices
 pub mod Reports
 pub mod Checkers
+pub mod Distinct
 pub mod Theorems

@@ -7,7 +7,7 @@ ghost use Rattle.c_objects.specs.Paths.{rebase};
 ghost use Rattle.c_tree.specs.Views.{nodes_in};
 ghost use Rattle.type_rules.specs.Options.{◌>?◌};
 ghost use Rattle.type_values.specs.Vars.{cvar_of};
-ghost use Rattle.path_model.specs.CheckerModel.Calls.{objects_of, first_of, behind_first, passed, into};
+ghost use Rattle.path_model.specs.CheckerModel.Calls.{objects_of, behind_first, passed, into, first_actual};
 ghost use Rattle.objects.specs.Origins.{origin_of};
 ghost use Rattle.objects.specs.Units.{facts_in};
 ghost use Rattle.refine_restore.specs.Sites.{formals_of, site_of};
@@ -29,7 +29,7 @@ fn from_actual(
     depth: u8,
 ) -> Origin
     requires { depth ≤ 8 }
-    ensures { origin_of object.now result ≡ (first_of (objects_of (facts_in unit.now) depth (nodes_in actuals.now)) >? λ a. rebase depth object.now (path (cvar_of formal) []) a) }
+    ensures { origin_of object.now result ≡ (first_actual (objects_of (facts_in unit.now) depth (nodes_in actuals.now)) >? λ a. rebase depth object.now (path (cvar_of formal) []) a) }
 {
     let [actual, ..] = actuals else {
         return Origin::Nothing;

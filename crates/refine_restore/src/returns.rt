@@ -4,7 +4,7 @@ ghost use Rattle.std.specs.Prelude.{◌≡◌, ◌≤◌, is_none};
 ghost use Rattle.c_tree.specs.Views.{nodes_in};
 ghost use Rattle.type_rules.specs.Options.{◌>?◌};
 ghost use Rattle.type_values.specs.Vars.{cvar_of};
-ghost use Rattle.path_model.specs.CheckerModel.Calls.{objects_of, first_of, reaching, reached, out};
+ghost use Rattle.path_model.specs.CheckerModel.Calls.{objects_of, reaching, reached, out, first_actual};
 ghost use Rattle.objects.specs.Units.{facts_in};
 ghost use Rattle.refine_restore.specs.Sites.{formals_of, site_of};
 
@@ -24,7 +24,7 @@ fn reaching(
     depth: u8,
 ) -> Option<Object>
     requires { depth ≤ 8 }
-    ensures { result ≡ (first_of (objects_of (facts_in unit.now) depth (nodes_in actuals.now)) >? λ a. reaching depth (cvar_of formal) a object.now) }
+    ensures { result ≡ (first_actual (objects_of (facts_in unit.now) depth (nodes_in actuals.now)) >? λ a. reaching depth (cvar_of formal) a object.now) }
 {
     if !is_object(object, depth) {
         return None;

@@ -13,7 +13,7 @@ use Rattle.type_rules.specs.Functions.{Defined}
 use Rattle.type_rules.specs.Options.{◌>?◌}
 use Rattle.call_graph.specs.Followed.{machine_calls, body_followed, followed}
 use Rattle.path_model.specs.CheckerPrograms.Roots.{Leads}
-use Rattle.path_model.specs.CheckerPrograms.Texts.{functions_in, table_of, flow_facts, function_of}
+use Rattle.path_model.specs.CheckerPrograms.Texts.{functions_in, flow_facts, function_of, type_table}
 use Rattle.typed_unit.specs.Texts.{texts_of}
 use Rattle.call_graph.specs.FunctionGraphs.Known.{facts_in}
 use Rattle.root_functions.specs.declared.graph_roots.callees.Callees.{Callees}
@@ -49,7 +49,7 @@ leads_exactly m units f d calls callees at inside exact = (to, back)
     facts : flow_facts (texts_of units) (function_of d) ≡ facts_in units d.file
     facts = same_facts units f d at
 
-    same_follow : (call : Node) → followed m (table_of (texts_of units) d.file) d.file (functions_in (texts_of units)) call ≡ followed m (table_in units d.file) d.file (definitions (trees_in units)) call
+    same_follow : (call : Node) → followed m (type_table (texts_of units) d.file) d.file (functions_in (texts_of units)) call ≡ followed m (table_in units d.file) d.file (definitions (trees_in units)) call
     same_follow call = ap (λ table. followed m table d.file (functions_in (texts_of units)) call) (same_table units d.file) ∙ ap (λ fs. followed m (table_in units d.file) d.file fs call) (same_functions units)
 
     to : (g : ℕ) → Contains callees g → Leads m (texts_of units) f g
@@ -64,10 +64,10 @@ leads_exactly m units f d calls callees at inside exact = (to, back)
           follows = same_follow s.0 ∙ s.2;
         }
 
-    by : (g : ℕ) (e : Defined) → e ≡ d → (call : Node) → InFlow (called call) (flow_of (flow_facts (texts_of units) (function_of e)) e.place e.body) → followed m (table_of (texts_of units) e.file) e.file (functions_in (texts_of units)) call ≡ Some g → Contains callees g
+    by : (g : ℕ) (e : Defined) → e ≡ d → (call : Node) → InFlow (called call) (flow_of (flow_facts (texts_of units) (function_of e)) e.place e.body) → followed m (type_table (texts_of units) e.file) e.file (functions_in (texts_of units)) call ≡ Some g → Contains callees g
     by g e q call stands follows =
         let stands_in = subst (λ (x : Defined). InFlow (called call) (flow_of (flow_facts (texts_of units) (function_of x)) x.place x.body)) q stands in
-        let follows_in = sym (same_follow call) ∙ subst (λ (x : Defined). followed m (table_of (texts_of units) x.file) x.file (functions_in (texts_of units)) call ≡ Some g) q follows in
+        let follows_in = sym (same_follow call) ∙ subst (λ (x : Defined). followed m (type_table (texts_of units) x.file) x.file (functions_in (texts_of units)) call ≡ Some g) q follows in
         let known = body_if_followed m (table_in units d.file) d.file (definitions (trees_in units)) call g follows_in in
         exact.1 g (call, (inside d.place call known).1 (subst (λ (F : Facts). InFlow (called call) (flow_of F d.place d.body)) facts stands_in), follows_in)
 

@@ -14,7 +14,7 @@ use Rattle.type_rules.specs.Parts.{flat}
 use Rattle.type_rules.specs.Roles.{Plain}
 use Rattle.type_rules.specs.Scopes.{Scopes, at_start}
 use Rattle.flow_graph.specs.CPaths.Facts.{Facts}
-use Rattle.path_model.specs.CheckerPrograms.Texts.{functions_in, table_of, flow_facts, function_of}
+use Rattle.path_model.specs.CheckerPrograms.Texts.{functions_in, flow_facts, function_of, type_table}
 use Rattle.typed_unit.specs.Texts.{texts_of}
 use Rattle.call_graph.specs.FunctionGraphs.Known.{facts_of, facts_in}
 use Rattle.call_graph.specs.OfPrograms.Calls.{table_in}
@@ -28,7 +28,7 @@ same_trees (u ∷ us) = ap (λ (ns : List Nodes). nodes_of u.now.unit.chunks ∷
 pub same_functions : (units : List (Bor TypedUnit)) → functions_in (texts_of units) ≡ definitions (trees_in units)
 same_functions units = ap definitions (same_trees units)
 
-pub same_table : (units : List (Bor TypedUnit)) (file : ℕ) → table_of (texts_of units) file ≡ table_in units file
+pub same_table : (units : List (Bor TypedUnit)) (file : ℕ) → type_table (texts_of units) file ≡ table_in units file
 same_table [] file = refl
 same_table (u ∷ us) zero = refl
 same_table (u ∷ us) (suc file) = same_table us file
@@ -88,4 +88,4 @@ same_facts units k d e =
     ∙ ap (λ fs. facts_of (table_in units d.file) d.file fs) (same_functions units)
   where
     flow_facts_at : ℕ → Facts
-    flow_facts_at file = facts_of (table_of (texts_of units) file) file (functions_in (texts_of units))
+    flow_facts_at file = facts_of (type_table (texts_of units) file) file (functions_in (texts_of units))

@@ -25,7 +25,8 @@ use Rattle.report_model.specs.declared.report.Report.{Report}
 use Rattle.saturation.proofs.FollowedMask.{followed-by-mask}
 use Rattle.saturation.proofs.MetStates.MetEdges.{bound-object}
 use Rattle.saturation.specs.FollowedSets.{AreFollowable, HaveNone}
-use Rattle.saturation.specs.MetStates.{Member, TakesUnknown, met_by, IsBoundWhereMet}
+use Rattle.saturation.specs.MetStates.{TakesUnknown, met_by, IsBoundWhereMet}
+use Rattle.path_model.specs.CheckerGraphs.Members.{Member}
 use Rattle.type_rules.specs.Options.{if_there}
 use Rattle.typed_unit.specs.Texts.{Text}
 

@@ -7,18 +7,12 @@ use Rattle.masked_paths.specs.Met.{MetStates, MetInBlocks}
 use Rattle.path_edges.specs.MetStates.{stands_in}
 use Rattle.path_edges.specs.declared.edges.Edge.{Edge}
 use Rattle.path_model.specs.CheckerGraphs.Graphs.{flow_graphs, function_at}
+use Rattle.path_model.specs.CheckerGraphs.Members.{Member, member}
 use Rattle.path_model.specs.CheckerModel.Checkers.{model}
 use Rattle.path_model.specs.CheckerModel.Choices.{next_global, taken}
 use Rattle.path_model.specs.CheckerModel.Happenings.{Function, Happening}
 use Rattle.path_model.specs.CheckerModel.Reports.{Checker}
 use Rattle.typed_unit.specs.Texts.{Text}
-
--- an object, with the number of a function in which rules bind it
-abbrev pub Member : Type 0
-Member = ℕ × Object
-
-abbrev pub member : ℕ → Object → Member
-member n o = (n, o)
 
 module _ (c : Checker) where
   -- THE OBJECT TAKES A RULE while it is unknown, at an event with this global state

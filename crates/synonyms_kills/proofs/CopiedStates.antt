@@ -14,7 +14,8 @@ use Rattle.type_rules.specs.Options.{◌>?◌, if_there}
 use Rattle.path_model.specs.CheckerModel.Moves.{Move, IsMove, move_of, under, indexes, copied, source_of, source}
 use Rattle.path_model.proofs.CheckerModel.MovedObjects.{move-is}
 use Rattle.path_model.proofs.CheckerModel.Sources.{given, some-copied, source-object}
-use Rattle.synonyms_kills.specs.Targets.{AreDistinct, AreTargets, stays, if_copied, copy_of, targets}
+use Rattle.synonyms_kills.specs.Targets.{AreTargets, stays, if_copied, copy_of, targets}
+use Rattle.path_model.specs.CheckerModel.Distinct.{AreDistinct}
 
 module _ (depth : ℕ) (m : Move) (o : Object) (is : IsMove depth m) (io : IsObject depth o) where
   source-is : (q : Object) → IsObject depth q → source depth (Some m) q ≡ source_of depth m q

@@ -5,11 +5,8 @@ use Rattle.c_objects.specs.Objects.{Object, IsObject}
 use Rattle.c_objects.specs.Replaced.{replaced}
 use Rattle.flow_graph.specs.CPaths.Membership.{Among}
 use Rattle.type_rules.specs.Options.{◌>?◌}
+use Rattle.path_model.specs.CheckerModel.Distinct.{AreDistinct}
 use Rattle.path_model.specs.CheckerModel.Moves.{Move, under, indexes, source}
-
-abbrev pub AreDistinct : List Object → Type 0
-AreDistinct [] = Unit {0}
-AreDistinct (q ∷ qs) = (Among q qs → ⊥) × AreDistinct qs
 
 -- THE TARGETS of an object under a move: exactly the objects with it for their source, each once
 pub record AreTargets (depth : ℕ) (m : Option Move) (o : Object) (targets : List Object) : Type 0 where

@@ -19,7 +19,8 @@ use Rattle.typed_unit.specs.Texts.{Text}
 use Rattle.path_edges.specs.EdgeSteps.Steps.{StandsBehind}
 use Rattle.path_edges.proofs.EdgeSteps.Views.{tuple_with, tuple-there}
 use Rattle.path_edges.specs.declared.edges.Edge.{Edge}
-use Rattle.path_edges.specs.Edges.{edge_in, tuple_in, call_in, call_at, no_site, site_at}
+use Rattle.path_edges.specs.Edges.{edge_in, tuple_in, no_site, site_at}
+use Rattle.path_model.specs.CheckerGraphs.Ends.{call_in, call_at}
 use Rattle.state_tuples.specs.declared.tuple.Tuple.{Tuple}
 use Rattle.path_theory.specs.TabulationRules.Rules as rules
 

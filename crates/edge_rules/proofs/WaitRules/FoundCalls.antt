@@ -22,7 +22,7 @@ use Rattle.c_objects.specs.Objects.{Object}
 use Rattle.edge_rules.specs.WaitRules.CalledObjects.{AreOfCallee}
 use Rattle.path_edges.proofs.MaskedCalls.{callee-is, own-callee}
 use Rattle.path_model.specs.CheckerPrograms.Roots.{followed_into}
-use Rattle.path_model.specs.CheckerPrograms.Texts.{functions_in, function_of, site, table_of}
+use Rattle.path_model.specs.CheckerPrograms.Texts.{functions_in, function_of, site, type_table}
 use Rattle.typed_unit.specs.Texts.{Text}
 use Rattle.function_tables.specs.declared.engine_tables.frames.Frame.{Frame}
 use Rattle.function_tables.specs.declared.engine_tables.tables.Tables.{Tables}
@@ -31,7 +31,8 @@ use Rattle.function_tables.proofs.EngineTables.Places.{IsPlace, named, ending-th
 use Rattle.flow_graph.specs.Seen.{graph_in}
 use Rattle.function_tables.specs.Tables.{AreBlockTables}
 use Rattle.metal_tree.specs.MetalMachines.Machine.{Machine}
-use Rattle.path_edges.specs.Edges.{call_in, call_at, no_site, site_at}
+use Rattle.path_edges.specs.Edges.{no_site, site_at}
+use Rattle.path_model.specs.CheckerGraphs.Ends.{call_in, call_at}
 use Rattle.call_graph.specs.OfPrograms.Definitions.{definitions, trees_in}
 use Rattle.block_flows.specs.TupleFlows.Passed.{IsSite}
 use Rattle.edge_rules.specs.WaitRules.CallEnds.{if_call, ending_at}
@@ -118,7 +119,7 @@ module _ (t : Tables) (n b : ℕ) (f : Frame) (p : IsPlace t n f) where
   -- the call at its end, and what the table of the block says of it
   module _ (call : Node) (next : ℕ) (ends : Some (Calls call next) ≡ (ending_at g.blocks b >? if_call)) (callee : Option ℕ)
       (says : (m : Machine) (depth : ℕ) (ts : List Text) (d : Defined) (es : List Event) (n : Node) (k : ℕ) → AreBlockTables m depth ts d g.blocks f.table.now.blocks.items → Has g.blocks b es (Calls n k)
-      → callee ≡ followed m (table_of ts d.file) d.file (functions_in ts) n) where
+      → callee ≡ followed m (type_table ts d.file) d.file (functions_in ts) n) where
     has : (es : List Event) × Has g.blocks b es (Calls call next)
     has = block-there g.blocks b call next ends
 
@@ -129,7 +130,7 @@ module _ (t : Tables) (n b : ℕ) (f : Frame) (p : IsPlace t n f) where
     into : followed_into c.machine (site t.depth ts fn call) ≡ option_map function_of (callee >? slice_get (functions_in ts))
     into =
         followed-number c.machine t.depth ts fn call
-        ∙ ap (λ (k : ℕ). option_map function_of (followed c.machine (table_of ts k) k (functions_in ts) call >? slice_get (functions_in ts))) filed
+        ∙ ap (λ (k : ℕ). option_map function_of (followed c.machine (type_table ts k) k (functions_in ts) call >? slice_get (functions_in ts))) filed
         ∙ ap (λ o. option_map function_of (o >? slice_get (functions_in ts))) (sym (says c.machine t.depth ts p.defined has.0 call next p.blocks has.1))
 
     -- the call isn't followed

@@ -22,12 +22,12 @@ use Rattle.path_model.proofs.CheckerGraphs.Units.{apart-texts, place-filed}
 use Rattle.call_graph.specs.Followed.{followed}
 use Rattle.path_model.specs.CheckerModel.Happenings.{Function, Happening}
 use Rattle.path_model.specs.CheckerPrograms.Roots.{followed_into}
-use Rattle.path_model.specs.CheckerPrograms.Texts.{functions_in, function_of, happening, site, table_of}
+use Rattle.path_model.specs.CheckerPrograms.Texts.{functions_in, function_of, happening, site, type_table}
 use Rattle.typed_unit.specs.Texts.{Text}
 use Rattle.flow_graph.specs.Seen.{graph_in}
 use Rattle.function_tables.specs.declared.table.BlockTable.{BlockTable}
 use Rattle.function_tables.specs.declared.table.FunctionTable.{FunctionTable}
-use Rattle.function_tables.specs.Ends.{call_in}
+use Rattle.path_model.specs.CheckerGraphs.Ends.{call_in}
 use Rattle.function_tables.specs.Rules as tables_rules
 use Rattle.function_tables.specs.Tables.{AreBlockTables}
 use Rattle.metal_tree.specs.MetalMachines.Machine.{Machine}
@@ -103,13 +103,13 @@ no-objects t n k e = ap (option_map function_of) (missing-too (objects_in t) (fu
 
 -- the call at a block's end is followed into the function with the number that was found of it
 pub leads-into : (t : Tables) (n : ℕ) (d : Defined) (call : Node) (o : Option ℕ) → slice_get (functions_in (texts_in t)) n ≡ Some d
-    → o ≡ followed (checker_in t).machine (table_of (texts_in t) d.file) d.file (functions_in (texts_in t)) call
+    → o ≡ followed (checker_in t).machine (type_table (texts_in t) d.file) d.file (functions_in (texts_in t)) call
     → followed_into (checker_in t).machine (site t.depth (texts_in t) (function_of d) call) ≡ option_map function_of (o >? slice_get (functions_in (texts_in t)))
 leads-into t n d call o at e =
     let m = (checker_in t).machine in
     let ts = texts_in t in
     followed-number m t.depth ts (function_of d) call
-    ∙ ap (λ (file : ℕ). option_map function_of (followed m (table_of ts file) file (functions_in ts) call >? slice_get (functions_in ts))) (place-filed (map (λ (x : Text). x.trees) ts) n d at)
+    ∙ ap (λ (file : ℕ). option_map function_of (followed m (type_table ts file) file (functions_in ts) call >? slice_get (functions_in ts))) (place-filed (map (λ (x : Text). x.trees) ts) n d at)
     ∙ ap (λ (k : Option ℕ). option_map function_of (k >? slice_get (functions_in ts))) (sym e)
 
 -- the rules of events, one by one, are those that flows ask for
@@ -148,13 +148,13 @@ ending-there bs n end e = by (slice_get bs n) e
 
 -- the function into which the call at a block's end is followed
 pub callee-there : (m : Machine) (depth : ℕ) (ts : List Text) (d : Defined) (bs : List Block) (tables : List BlockTable) (n : ℕ) (x : BlockTable) (es : List Event) (call : Node) (next : ℕ)
-    → AreBlockTables m depth ts d bs tables → Has bs n es (Calls call next) → slice_get tables n ≡ Some x → x.callee ≡ followed m (table_of ts d.file) d.file (functions_in ts) call
+    → AreBlockTables m depth ts d bs tables → Has bs n es (Calls call next) → slice_get tables n ≡ Some x → x.callee ≡ followed m (type_table ts d.file) d.file (functions_in ts) call
 callee-there m depth ts d [] tables n x es call next h b e = cc
 callee-there m depth ts d (c ∷ bs) [] n x es call next h b e = cc
 callee-there m depth ts d (c ∷ bs) (t ∷ tables) zero x es call next h b e =
     let s : t ≡ x = cc in
     let k : c.ending ≡ Calls call next = cc in
-    subst (λ (z : BlockTable). z.callee ≡ followed m (table_of ts d.file) d.file (functions_in ts) call) s (h.0.callee call (ap call_in k))
+    subst (λ (z : BlockTable). z.callee ≡ followed m (type_table ts d.file) d.file (functions_in ts) call) s (h.0.callee call (ap call_in k))
 callee-there m depth ts d (c ∷ bs) (t ∷ tables) (suc n) x es call next h b e = callee-there m depth ts d bs tables n x es call next h.1 b e
 
 pub callee-missing : (m : Machine) (depth : ℕ) (ts : List Text) (d : Defined) (bs : List Block) (tables : List BlockTable) (n : ℕ) (es : List Event) (end : Ending)

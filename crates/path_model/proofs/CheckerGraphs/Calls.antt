@@ -10,7 +10,7 @@ use Rattle.path_model.specs.CheckerGraphs.Graphs.{function_at, AreApartPlaces}
 use Rattle.path_model.proofs.CheckerGraphs.Numbers.{one-number}
 use Rattle.path_model.specs.CheckerModel.Happenings.{Function}
 use Rattle.path_model.specs.CheckerPrograms.Roots.{followed_into, IsRoot, IsRootFunction, Leads}
-use Rattle.path_model.specs.CheckerPrograms.Texts.{functions_in, function_of, table_of, site}
+use Rattle.path_model.specs.CheckerPrograms.Texts.{functions_in, function_of, site, type_table}
 use Rattle.typed_unit.specs.Texts.{Text}
 use Rattle.metal_tree.specs.MetalMachines.Machine.{Machine}
 use Rattle.call_graph.specs.OfPrograms.Bodies.{is_in_file, is_external, first_position, body_of}
@@ -76,8 +76,8 @@ module _ (m : Machine) where
 
   -- a call is followed into the function with the number to which it is followed
   pub followed-number : (depth : ℕ) (ts : List Text) (f : Function) (call : Node)
-      → followed_into m (site depth ts f call) ≡ option_map function_of (followed m (table_of ts f.place.file) f.place.file (functions_in ts) call >? slice_get (functions_in ts))
-  followed-number depth ts f call = by (called_name (table_of ts f.place.file) call)
+      → followed_into m (site depth ts f call) ≡ option_map function_of (followed m (type_table ts f.place.file) f.place.file (functions_in ts) call >? slice_get (functions_in ts))
+  followed-number depth ts f call = by (called_name (type_table ts f.place.file) call)
     where
       by : (o : Option ℕ) → into (functions_in ts) (o >? λ name. body_of f.place.file name (functions_in ts))
           ≡ option_map function_of (o >? body_followed m f.place.file (functions_in ts) >? slice_get (functions_in ts))

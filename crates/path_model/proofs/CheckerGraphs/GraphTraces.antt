@@ -16,7 +16,7 @@ use Rattle.path_model.specs.CheckerModel.Reports.{Checker}
 use Rattle.path_model.specs.CheckerPrograms.Paths.{program}
 use Rattle.path_model.specs.CheckerPrograms.Relevant.{Relevant, Followed}
 use Rattle.path_model.specs.CheckerPrograms.Roots.{followed_into, IsRootFunction}
-use Rattle.path_model.specs.CheckerPrograms.Texts.{functions_in, function_of, table_of, empty, with_close, definition_of, flow_facts, happening, site}
+use Rattle.path_model.specs.CheckerPrograms.Texts.{functions_in, function_of, empty, with_close, definition_of, flow_facts, happening, site, type_table}
 use Rattle.typed_unit.specs.Texts.{Text}
 use Rattle.path_model.proofs.CheckerPrograms.Closed.{closed, followed-closed}
 use Rattle.call_graph.specs.FunctionGraphs.Known.{facts_of}
@@ -38,7 +38,7 @@ module _ (ts : List Text) (gs : List Graph) (A : AreGraphs ts gs) where
   given f n g e k =
       let x = found-at (functions_in ts) f n e in
       let d = x.found in
-      subst (λ (i : ℕ). IsFlowGraph (facts_of (table_of ts i) i (functions_in ts)) (definition_of ts f) g) (defines-file d f x.same)
+      subst (λ (i : ℕ). IsFlowGraph (facts_of (type_table ts i) i (functions_in ts)) (definition_of ts f) g) (defines-file d f x.same)
       (subst (λ o. IsFlowGraph (flow_facts ts (function_of d)) (if_there o (empty f.place) (with_close ts)) g) (sym x.placed) (A.each n d g x.numbered k))
 
   -- each function, whether it is one of the program or none, has a graph with its traces

@@ -17,7 +17,7 @@ use Rattle.type_rules.specs.Scopes.{Scopes, at_start}
 use Rattle.path_model.specs.CheckerGraphs.Graphs.{AreApartPlaces}
 use Rattle.path_model.proofs.CheckerGraphs.Rising.{apart-places}
 use Rattle.path_model.specs.CheckerModel.Happenings as happenings
-use Rattle.path_model.specs.CheckerPrograms.Texts.{functions_in, function_of, table_of, tokens_of, objects_in, with_close, flow_facts, happening, callee_of}
+use Rattle.path_model.specs.CheckerPrograms.Texts.{functions_in, function_of, tokens_of, objects_in, with_close, flow_facts, happening, callee_of, type_table}
 use Rattle.typed_unit.specs.Texts.{Text, text_of, texts_of}
 use Rattle.call_graph.specs.FunctionGraphs.Bodies.{tokens_in, definition_in}
 use Rattle.call_graph.specs.FunctionGraphs.Closing.{closing_brace}
@@ -31,7 +31,7 @@ use Rattle.typed_unit.specs.declared.typed_unit.TypedUnit.{TypedUnit}
 pub text-at : (units : List (Bor TypedUnit)) (file : ℕ) → slice_get (texts_of units) file ≡ option_map (λ (u : Bor TypedUnit). text_of u.now) (slice_get units file)
 text-at units file = slice_get-map (λ (u : Bor TypedUnit). text_of u.now) units file
 
-pub table-is : (units : List (Bor TypedUnit)) (file : ℕ) → table_of (texts_of units) file ≡ table_in units file
+pub table-is : (units : List (Bor TypedUnit)) (file : ℕ) → type_table (texts_of units) file ≡ table_in units file
 table-is units file = ap (λ o. if_there o [] (λ (t : Text). t.table)) (text-at units file) ∙ by (slice_get units file)
   where
     by : (o : Option (Bor TypedUnit)) → if_there (option_map (λ (u : Bor TypedUnit). text_of u.now) o) [] (λ (t : Text). t.table) ≡ if_there o [] (λ u. (text_of u.now).table)
@@ -110,7 +110,7 @@ place-filed units n d e = filed-at (definitions units) n d (all-filed units) e
 -- what is known of a function of the units, and its definition
 pub facts-are : (units : List (Bor TypedUnit)) (n : ℕ) (d : Defined) → slice_get (definitions (trees_in units)) n ≡ Some d → flow_facts (texts_of units) (function_of d) ≡ facts_in units d.file
 facts-are units n d e =
-    ap (λ (i : ℕ). facts_of (table_of (texts_of units) i) i (functions_in (texts_of units))) (place-filed (trees_in units) n d e)
+    ap (λ (i : ℕ). facts_of (type_table (texts_of units) i) i (functions_in (texts_of units))) (place-filed (trees_in units) n d e)
     ∙ ap (λ (t : Table). facts_of t d.file (functions_in (texts_of units))) (table-is units d.file)
     ∙ ap (λ (fs : List Defined). facts_of (table_in units d.file) d.file fs) (functions-are units)
 

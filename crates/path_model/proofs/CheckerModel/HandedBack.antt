@@ -6,7 +6,7 @@ use Rattle.c_objects.specs.Paths.{rebase}
 use Rattle.c_objects.proofs.Plain.{rebase-object}
 use Rattle.type_rules.specs.Options.{◌>?◌, or_else}
 use Rattle.type_rules.specs.Vars.{CVar}
-use Rattle.path_model.specs.CheckerModel.Calls.{AreObjects, first_of, behind_first, BecomesThrough, BecomesFirst, NoneBecomes, IsOwn, IsHandedBack, HandsBack, reaching, reached, out, returned}
+use Rattle.path_model.specs.CheckerModel.Calls.{AreObjects, behind_first, BecomesThrough, BecomesFirst, NoneBecomes, IsOwn, IsHandedBack, HandsBack, reaching, reached, out, returned, first_actual}
 use Rattle.path_model.specs.CheckerModel.Happenings.{Site}
 use Rattle.path_model.proofs.CheckerModel.Reaching.{reaches}
 use Rattle.path_model.proofs.CheckerModel.Sources.{given, tested, first-object, behind-are, reaching-object}
@@ -19,11 +19,11 @@ reaches-any depth x a o c ia = (
 )
 
 -- the first of some lists, and what stands behind it
-at-first : (actuals : List (Option Object)) (a : Object) → first_of actuals ≡ Some a → slice_get actuals 0 ≡ Some (Some a)
+at-first : (actuals : List (Option Object)) (a : Object) → first_actual actuals ≡ Some a → slice_get actuals 0 ≡ Some (Some a)
 at-first [] a h = cc
 at-first (x ∷ xs) a h = ap (λ (q : Option Object). Some q) h
 
-first-at : (actuals : List (Option Object)) (a : Object) → slice_get actuals 0 ≡ Some (Some a) → first_of actuals ≡ Some a
+first-at : (actuals : List (Option Object)) (a : Object) → slice_get actuals 0 ≡ Some (Some a) → first_actual actuals ≡ Some a
 first-at [] a h = cc
 first-at (x ∷ xs) a h = same_Some x (Some a) h
 
@@ -61,14 +61,14 @@ module _ (depth : ℕ) (o : Object) where
   no-formal xs actuals d b = none-some b.formal (same_Some None (Some b.formal) b.is_formal)
 
   through-first : (x : CVar) (xs : List (Option CVar)) (actuals : List (Option Object)) (c : Object) → AreObjects depth actuals
-      → (first_of actuals >? λ a. reaching depth x a o) ≡ Some c → BecomesThrough depth (Some x ∷ xs) actuals 0 c o
+      → (first_actual actuals >? λ a. reaching depth x a o) ≡ Some c → BecomesThrough depth (Some x ∷ xs) actuals 0 c o
   through-first x xs actuals c are h =
-      let g = given (first_of actuals) (λ a. reaching depth x a o) c h in
+      let g = given (first_actual actuals) (λ a. reaching depth x a o) c h in
       let b = (reaches-any depth x g.0 o c (first-object depth actuals g.0 are g.1)).0 g.2 in
       record { formal = x; actual = g.0; is_formal = refl; is_actual = at-first actuals g.0 g.1; object = b.0; static = b.1; becomes = b.2 }
 
   first-through : (x : CVar) (xs : List (Option CVar)) (actuals : List (Option Object)) (d : Object) → AreObjects depth actuals
-      → BecomesThrough depth (Some x ∷ xs) actuals 0 d o → (first_of actuals >? λ a. reaching depth x a o) ≡ Some d
+      → BecomesThrough depth (Some x ∷ xs) actuals 0 d o → (first_actual actuals >? λ a. reaching depth x a o) ≡ Some d
   first-through x xs actuals d are b =
       let same = same_Some x b.formal (same_Some (Some x) (Some b.formal) b.is_formal) in
       let e = first-at actuals b.actual b.is_actual in
@@ -81,10 +81,10 @@ module _ (depth : ℕ) (o : Object) where
   none-becomes [] actuals are h n d b = none-some (Some b.formal) b.is_formal
   none-becomes (None ∷ xs) actuals are h zero d b = no-formal xs actuals d b
   none-becomes (None ∷ xs) actuals are h (suc n) d b = none-becomes xs (behind_first actuals) (behind-are depth actuals are) h n d (earlier None xs actuals n d b)
-  none-becomes (Some x ∷ xs) actuals are h n d b = by (none-becomes xs (behind_first actuals) (behind-are depth actuals are)) (first_of actuals >? λ a. reaching depth x a o) refl h n d b
+  none-becomes (Some x ∷ xs) actuals are h n d b = by (none-becomes xs (behind_first actuals) (behind-are depth actuals are)) (first_actual actuals >? λ a. reaching depth x a o) refl h n d b
     where
       by : (reached depth xs (behind_first actuals) o ≡ None → NoneBecomes depth xs (behind_first actuals) o)
-          → (q : Option Object) → (first_of actuals >? λ a. reaching depth x a o) ≡ q → or_else q (reached depth xs (behind_first actuals) o) ≡ None
+          → (q : Option Object) → (first_actual actuals >? λ a. reaching depth x a o) ≡ q → or_else q (reached depth xs (behind_first actuals) o) ≡ None
           → (n : ℕ) (d : Object) → BecomesThrough depth (Some x ∷ xs) actuals n d o → ⊥
       by behind (Some c) e k n d b = none-some c (sym k)
       by behind None e k zero d b = none-some d (sym e ∙ first-through x xs actuals d are b)
@@ -111,10 +111,10 @@ module _ (depth : ℕ) (o : Object) where
   found-becomes : (xs : List (Option CVar)) (actuals : List (Option Object)) (c : Object) → AreObjects depth actuals → reached depth xs actuals o ≡ Some c → BecomesFirst depth xs actuals c o
   found-becomes [] actuals c are h = cc
   found-becomes (None ∷ xs) actuals c are h = first-later None xs actuals c (no-formal xs actuals) (found-becomes xs (behind_first actuals) c (behind-are depth actuals are) h)
-  found-becomes (Some x ∷ xs) actuals c are h = by (found-becomes xs (behind_first actuals) c (behind-are depth actuals are)) (first_of actuals >? λ a. reaching depth x a o) refl h
+  found-becomes (Some x ∷ xs) actuals c are h = by (found-becomes xs (behind_first actuals) c (behind-are depth actuals are)) (first_actual actuals >? λ a. reaching depth x a o) refl h
     where
       by : (reached depth xs (behind_first actuals) o ≡ Some c → BecomesFirst depth xs (behind_first actuals) c o)
-          → (q : Option Object) → (first_of actuals >? λ a. reaching depth x a o) ≡ q → or_else q (reached depth xs (behind_first actuals) o) ≡ Some c
+          → (q : Option Object) → (first_actual actuals >? λ a. reaching depth x a o) ≡ q → or_else q (reached depth xs (behind_first actuals) o) ≡ Some c
           → BecomesFirst depth (Some x ∷ xs) actuals c o
       by behind (Some d) e k = record { position = 0; through = through-first x xs actuals c are (e ∙ k); first = λ n d b. omega arith }
       by behind None e k = first-later (Some x) xs actuals c (λ d b. none-some d (sym e ∙ first-through x xs actuals d are b)) (behind k)
@@ -130,14 +130,14 @@ module _ (depth : ℕ) (o : Object) where
       by behind zero t first = absurd (no-formal xs actuals c t)
       by behind (suc n) t first = behind (first-earlier None xs actuals c n t first)
   becomes-found (Some x ∷ xs) actuals c are f =
-      by (becomes-found xs (behind_first actuals) c (behind-are depth actuals are)) (first_of actuals >? λ a. reaching depth x a o) refl f.position f.through f.first
+      by (becomes-found xs (behind_first actuals) c (behind-are depth actuals are)) (first_actual actuals >? λ a. reaching depth x a o) refl f.position f.through f.first
     where
       rest : Option Object
       rest = reached depth xs (behind_first actuals) o
 
-      by : (BecomesFirst depth xs (behind_first actuals) c o → rest ≡ Some c) → (q : Option Object) → (first_of actuals >? λ a. reaching depth x a o) ≡ q
+      by : (BecomesFirst depth xs (behind_first actuals) c o → rest ≡ Some c) → (q : Option Object) → (first_actual actuals >? λ a. reaching depth x a o) ≡ q
           → (n : ℕ) → BecomesThrough depth (Some x ∷ xs) actuals n c o → ((m : ℕ) (d : Object) → BecomesThrough depth (Some x ∷ xs) actuals m d o → n ≤ m)
-          → or_else (first_of actuals >? λ a. reaching depth x a o) rest ≡ Some c
+          → or_else (first_actual actuals >? λ a. reaching depth x a o) rest ≡ Some c
       by behind q e zero t first = ap (λ (z : Option Object). or_else z rest) (first-through x xs actuals c are t)
       by behind None e (suc n) t first = ap (λ (z : Option Object). or_else z rest) e ∙ behind (first-earlier (Some x) xs actuals c n t first)
       by behind (Some d) e (suc n) t first = let h = first 0 d (through-first x xs actuals d are e) in absurd (omega (arith, h))

@@ -7,7 +7,7 @@ use Rattle.c_objects.proofs.Plain.{object-if, rebase-object}
 use Rattle.c_objects.proofs.Replacing.{replaces}
 use Rattle.type_rules.specs.Options.{◌>?◌, if_there, or_else}
 use Rattle.type_rules.specs.Vars.{CVar}
-use Rattle.path_model.specs.CheckerModel.Calls.{AreObjects, first_of, behind_first, passed, into, if_static, reaching, reached, out}
+use Rattle.path_model.specs.CheckerModel.Calls.{AreObjects, behind_first, passed, into, if_static, reaching, reached, out, first_actual}
 use Rattle.path_model.specs.CheckerModel.Happenings.{Site}
 use Rattle.path_model.specs.CheckerModel.Moves.{Move, IsMove, under, indexes, copied, source_of, source}
 
@@ -54,7 +54,7 @@ source-object depth (Some m) o q is h =
     (subst (IsObject depth) (sym k.0) k.1, source_of-object depth m g.0 q (is m refl) k.1 g.2)
 
 -- actuals
-pub first-object : (depth : ℕ) (actuals : List (Option Object)) (a : Object) → AreObjects depth actuals → first_of actuals ≡ Some a → IsObject depth a
+pub first-object : (depth : ℕ) (actuals : List (Option Object)) (a : Object) → AreObjects depth actuals → first_actual actuals ≡ Some a → IsObject depth a
 first-object depth [] a are h = cc
 first-object depth (x ∷ actuals) a are h = are.0 a h
 
@@ -68,8 +68,8 @@ passed-object depth [] actuals c q are ic h = let t = (tested (is_static_var c.b
 passed-object depth (None ∷ xs) actuals c q are ic h = passed-object depth xs (behind_first actuals) c q (behind-are depth actuals are) ic h
 passed-object depth (Some x ∷ xs) actuals c q are ic h = by (passed-object depth xs (behind_first actuals) c q (behind-are depth actuals are) ic) (same_var c.base x) h
   where
-    by : (passed depth xs (behind_first actuals) c ≡ Some q → IsObject depth q) → (b : Bool) → cond b (first_of actuals >? λ a. rebase depth c (path x []) a) (passed depth xs (behind_first actuals) c) ≡ Some q → IsObject depth q
-    by later true k = let g = given (first_of actuals) (λ a. rebase depth c (path x []) a) q k in rebase-object depth c (path x []) g.0 q (first-object depth actuals g.0 are g.1) g.2
+    by : (passed depth xs (behind_first actuals) c ≡ Some q → IsObject depth q) → (b : Bool) → cond b (first_actual actuals >? λ a. rebase depth c (path x []) a) (passed depth xs (behind_first actuals) c) ≡ Some q → IsObject depth q
+    by later true k = let g = given (first_actual actuals) (λ a. rebase depth c (path x []) a) q k in rebase-object depth c (path x []) g.0 q (first-object depth actuals g.0 are g.1) g.2
     by later false k = later k
 
 pub into-object : (depth : ℕ) (s : Site) (c q : Object) → AreObjects depth s.actuals → into depth s c ≡ Some q → IsObject depth c × IsObject depth q
@@ -93,12 +93,12 @@ reaching-object depth x a o c ia h =
 reached-object : (depth : ℕ) (xs : List (Option CVar)) (actuals : List (Option Object)) (o c : Object) → AreObjects depth actuals → reached depth xs actuals o ≡ Some c → IsObject depth o × IsObject depth c
 reached-object depth [] actuals o c are h = cc
 reached-object depth (None ∷ xs) actuals o c are h = reached-object depth xs (behind_first actuals) o c (behind-are depth actuals are) h
-reached-object depth (Some x ∷ xs) actuals o c are h = by (reached-object depth xs (behind_first actuals) o c (behind-are depth actuals are)) (first_of actuals >? λ a. reaching depth x a o) refl h
+reached-object depth (Some x ∷ xs) actuals o c are h = by (reached-object depth xs (behind_first actuals) o c (behind-are depth actuals are)) (first_actual actuals >? λ a. reaching depth x a o) refl h
   where
-    by : (reached depth xs (behind_first actuals) o ≡ Some c → IsObject depth o × IsObject depth c) → (q : Option Object) → (first_of actuals >? λ a. reaching depth x a o) ≡ q → or_else q (reached depth xs (behind_first actuals) o) ≡ Some c → IsObject depth o × IsObject depth c
+    by : (reached depth xs (behind_first actuals) o ≡ Some c → IsObject depth o × IsObject depth c) → (q : Option Object) → (first_actual actuals >? λ a. reaching depth x a o) ≡ q → or_else q (reached depth xs (behind_first actuals) o) ≡ Some c → IsObject depth o × IsObject depth c
     by later None e k = later k
     by later (Some q) e k =
-        let g = given (first_of actuals) (λ a. reaching depth x a o) q e in
+        let g = given (first_actual actuals) (λ a. reaching depth x a o) q e in
         let same : q ≡ c = cc in
         subst (λ z. IsObject depth o × IsObject depth z) same (reaching-object depth x g.0 o q (first-object depth actuals g.0 are g.1) g.2)
 

@@ -24,9 +24,9 @@ abbrev pub AreObjects : ℕ → List (Option Object) → Type 0
 AreObjects depth [] = Unit {0}
 AreObjects depth (a ∷ actuals) = ((o : Object) → a ≡ Some o → IsObject depth o) × AreObjects depth actuals
 
-abbrev pub first_of : {A : Type 0} → List (Option A) → Option A
-first_of [] = None
-first_of (x ∷ xs) = x
+abbrev pub first_actual : List (Option Object) → Option Object
+first_actual [] = None
+first_actual (x ∷ xs) = x
 
 abbrev pub behind_first : {A : Type 0} → List A → List A
 behind_first [] = []
@@ -37,7 +37,7 @@ behind_first (x ∷ xs) = xs
 abbrev pub passed : ℕ → List (Option CVar) → List (Option Object) → Object → Option Object
 passed depth [] actuals c = cond (is_static_var c.base) (Some c) None
 passed depth (None ∷ xs) actuals c = passed depth xs (behind_first actuals) c
-passed depth (Some x ∷ xs) actuals c = cond (same_var c.base x) (first_of actuals >? λ a. rebase depth c (path x []) a) (passed depth xs (behind_first actuals) c)
+passed depth (Some x ∷ xs) actuals c = cond (same_var c.base x) (first_actual actuals >? λ a. rebase depth c (path x []) a) (passed depth xs (behind_first actuals) c)
 
 -- Index variables of the caller mean nothing in the callee, so all of them have static storage.
 abbrev pub into : ℕ → Site → Object → Option Object
@@ -92,7 +92,7 @@ reaching depth x a o = if_object depth o >? replaced depth (path x []) a >? if_s
 abbrev pub reached : ℕ → List (Option CVar) → List (Option Object) → Object → Option Object
 reached depth [] actuals o = None
 reached depth (None ∷ xs) actuals o = reached depth xs (behind_first actuals) o
-reached depth (Some x ∷ xs) actuals o = or_else (first_of actuals >? λ a. reaching depth x a o) (reached depth xs (behind_first actuals) o)
+reached depth (Some x ∷ xs) actuals o = or_else (first_actual actuals >? λ a. reaching depth x a o) (reached depth xs (behind_first actuals) o)
 
 -- and of a global object that none reaches, its own
 abbrev pub out : ℕ → Site → Object → Option Object

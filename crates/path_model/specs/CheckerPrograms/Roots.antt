@@ -9,7 +9,7 @@ use Rattle.type_rules.specs.Functions.{Defined}
 use Rattle.type_rules.specs.Options.{◌>?◌}
 use Rattle.call_graph.specs.Followed.{machine_calls, followed}
 use Rattle.path_model.specs.CheckerModel.Happenings.{Function, Site}
-use Rattle.path_model.specs.CheckerPrograms.Texts.{functions_in, function_of, flow_facts, table_of}
+use Rattle.path_model.specs.CheckerPrograms.Texts.{functions_in, function_of, flow_facts, type_table}
 use Rattle.typed_unit.specs.Texts.{Text}
 use Rattle.metal_tree.specs.MetalMachines.Machine.{Machine}
 
@@ -50,7 +50,7 @@ module _ (m : Machine) (ts : List Text) where
     pub is : slice_get (functions_in ts) f ≡ Some defined
     pub call : Node
     pub stands : InFlow (called call) (flow_of (flow_facts ts (function_of defined)) defined.place defined.body)
-    pub follows : followed m (table_of ts defined.file) defined.file (functions_in ts) call ≡ Some g
+    pub follows : followed m (type_table ts defined.file) defined.file (functions_in ts) call ≡ Some g
 
   -- a root, by its name
   pub record IsRootFunction (f : Function) : Type 0 where

@@ -24,8 +24,9 @@ use Rattle.typed_unit.specs.Texts.{Text}
 abbrev pub functions_in : List Text → List Defined
 functions_in ts = definitions (map (λ t. t.trees) ts)
 
-abbrev pub table_of : List Text → ℕ → Table
-table_of ts file = if_there (slice_get ts file) [] (λ t. t.table)
+-- the types and variables of the trees in a file
+abbrev pub type_table : List Text → ℕ → Table
+type_table ts file = if_there (slice_get ts file) [] (λ t. t.table)
 
 abbrev pub tokens_of : List Text → ℕ → List Token
 tokens_of ts file = if_there (slice_get ts file) [] (λ t. t.tokens)
@@ -35,7 +36,7 @@ trees_of ts file = if_there (slice_get ts file) no_more (λ t. t.trees)
 
 -- what is known of the types and variables in a file
 abbrev pub objects_in : List Text → ℕ → objects.Facts
-objects_in ts file = objects.facts_of (trees_of ts file) (table_of ts file)
+objects_in ts file = objects.facts_of (trees_of ts file) (type_table ts file)
 
 -- a function is known by its name and the place of that
 abbrev pub function_of : Defined → Function
@@ -64,7 +65,7 @@ definition_of ts f = if_there (defined_as (functions_in ts) f) (empty f.place) (
 
 -- what evaluation asks of its file
 abbrev pub flow_facts : List Text → Function → Facts
-flow_facts ts f = facts_of (table_of ts f.place.file) f.place.file (functions_in ts)
+flow_facts ts f = facts_of (type_table ts f.place.file) f.place.file (functions_in ts)
 
 -- an event of the function, with its unit
 abbrev pub happening : List Text → Function → Event → Happening
@@ -72,7 +73,7 @@ happening ts f e = record { facts = objects_in ts f.place.file; tokens = tokens_
 
 -- the function that a call in this file calls, if it has a body in the program
 abbrev pub callee_of : List Text → ℕ → Node → Option Defined
-callee_of ts file call = body_called (table_of ts file) file (functions_in ts) call >? slice_get (functions_in ts)
+callee_of ts file call = body_called (type_table ts file) file (functions_in ts) call >? slice_get (functions_in ts)
 
 -- a call in the function
 abbrev pub site : ℕ → List Text → Function → Node → Site

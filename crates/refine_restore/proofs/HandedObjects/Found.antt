@@ -8,10 +8,10 @@ use Rattle.c_objects.proofs.Replacing.{becomes-replaced}
 use Rattle.flow_graph.specs.CPaths.Membership.{Among}
 use Rattle.type_rules.specs.Options.{◌>?◌, or_else}
 use Rattle.type_rules.specs.Vars.{CVar}
-use Rattle.path_model.specs.CheckerModel.Calls.{AreObjects, first_of, behind_first, passed, into, reaching, reached, out}
+use Rattle.path_model.specs.CheckerModel.Calls.{AreObjects, behind_first, passed, into, reaching, reached, out, first_actual}
 use Rattle.path_model.specs.CheckerModel.Happenings.{Site}
 use Rattle.path_model.proofs.CheckerModel.Reaching.{reaches}
-use Rattle.path_model.proofs.CheckerModel.Sources.{given, tested}
+use Rattle.path_model.proofs.CheckerModel.Sources.{given, tested, first-object, behind-are}
 use Rattle.refine_restore.specs.HandedObjects.Handed.{AreEntered, AreHanded}
 use Rattle.refine_restore.specs.HandedObjects.Takers.{origin, is_this, is_taker, candidate, candidates, takers}
 use Rattle.refine_restore.specs.declared.handed_objects.ends.End.{End}
@@ -27,16 +27,6 @@ this-is o (Some q) h = ap Some (same_object-true q o h)
 
 is-this : (o : Object) (q : Option Object) → q ≡ Some o → is_this o q ≡ true
 is-this o q h = ap (is_this o) h ∙ same_object-refl o
-
--- ---- actuals that are objects
-
-first-object : (depth : ℕ) (actuals : List (Option Object)) (a : Object) → AreObjects depth actuals → first_of actuals ≡ Some a → IsObject depth a
-first-object depth [] a are h = cc
-first-object depth (x ∷ actuals) a are h = are.0 a h
-
-behind-objects : (depth : ℕ) (actuals : List (Option Object)) → AreObjects depth actuals → AreObjects depth (behind_first actuals)
-behind-objects depth [] are = are
-behind-objects depth (a ∷ actuals) are = are.1
 
 -- ---- at the entry
 
@@ -54,9 +44,9 @@ entry-found depth o c is (Some x ∷ xs) actuals h = by (entry-found depth o c i
     later (inr k) = inr (inr k)
 
     by : (passed depth xs (behind_first actuals) c ≡ Some o → Among (Some c) (Some o ∷ candidates end.Entry depth o xs (behind_first actuals)))
-        → (b : Bool) → cond b (first_of actuals >? λ a. rebase depth c (path x []) a) (passed depth xs (behind_first actuals) c) ≡ Some o → Among (Some c) (Some o ∷ candidates end.Entry depth o (Some x ∷ xs) actuals)
+        → (b : Bool) → cond b (first_actual actuals >? λ a. rebase depth c (path x []) a) (passed depth xs (behind_first actuals) c) ≡ Some o → Among (Some c) (Some o ∷ candidates end.Entry depth o (Some x ∷ xs) actuals)
     by before true k =
-        let g = given (first_of actuals) (λ a. rebase depth c (path x []) a) o k in
+        let g = given (first_actual actuals) (λ a. rebase depth c (path x []) a) o k in
         inr (inl (sym (ap (candidate end.Entry depth o (Some x)) g.1 ∙ becomes-replaced depth x [] g.0 o c is g.2)))
     by before false k = later (before k)
 
@@ -80,14 +70,14 @@ reaching-found depth x a c o ia h =
 
 return-found : (depth : ℕ) (c o : Object) (xs : List (Option CVar)) (actuals : List (Option Object)) → AreObjects depth actuals → reached depth xs actuals o ≡ Some c → Among (Some o) (candidates end.Return depth c xs actuals)
 return-found depth c o [] actuals are h = cc
-return-found depth c o (None ∷ xs) actuals are h = inr (return-found depth c o xs (behind_first actuals) (behind-objects depth actuals are) h)
-return-found depth c o (Some x ∷ xs) actuals are h = by (return-found depth c o xs (behind_first actuals) (behind-objects depth actuals are)) (first_of actuals >? λ a. reaching depth x a o) refl h
+return-found depth c o (None ∷ xs) actuals are h = inr (return-found depth c o xs (behind_first actuals) (behind-are depth actuals are) h)
+return-found depth c o (Some x ∷ xs) actuals are h = by (return-found depth c o xs (behind_first actuals) (behind-are depth actuals are)) (first_actual actuals >? λ a. reaching depth x a o) refl h
   where
     by : (reached depth xs (behind_first actuals) o ≡ Some c → Among (Some o) (candidates end.Return depth c xs (behind_first actuals)))
-        → (q : Option Object) → (first_of actuals >? λ a. reaching depth x a o) ≡ q → or_else q (reached depth xs (behind_first actuals) o) ≡ Some c → Among (Some o) (candidates end.Return depth c (Some x ∷ xs) actuals)
+        → (q : Option Object) → (first_actual actuals >? λ a. reaching depth x a o) ≡ q → or_else q (reached depth xs (behind_first actuals) o) ≡ Some c → Among (Some o) (candidates end.Return depth c (Some x ∷ xs) actuals)
     by before None e k = inr (before k)
     by before (Some q) e k =
-        let g = given (first_of actuals) (λ a. reaching depth x a o) c (e ∙ k) in
+        let g = given (first_actual actuals) (λ a. reaching depth x a o) c (e ∙ k) in
         inl (sym (ap (candidate end.Return depth c (Some x)) g.1 ∙ reaching-found depth x g.0 c o (first-object depth actuals g.0 are g.1) g.2))
 
 out-found : (depth : ℕ) (s : Site) (c o : Object) → AreObjects depth s.actuals → out depth s o ≡ Some c → Among (Some o) (Some c ∷ candidates end.Return depth c s.formals s.actuals)

@@ -2,7 +2,7 @@
 use Rattle.std.proofs.Common.{◌≡◌, ◌⊎◌, inl, inr, List, [], ◌∷◌, ◌++◌, Bool, true, false, Option, None, Some, refl, ◌∙◌, sym, ap, subst, cond, not, ◌&&◌, ◌||◌}
 use Rattle.c_objects.specs.Objects.{Object}
 use Rattle.flow_graph.specs.CPaths.Membership.{Among}
-use Rattle.refine_restore.specs.HandedObjects.Handed.{AreDistinct}
+use Rattle.path_model.specs.CheckerModel.Distinct.{AreDistinct}
 use Rattle.refine_restore.specs.HandedObjects.Takers.{is_listed, with_one, gathered}
 use Rattle.objects.specs.Equality.{same_object, same_object-true, same_object-refl}
 

@@ -9,18 +9,18 @@ use Rattle.c_tree.specs.declared.tree.Tree.{Tree}
 use Rattle.c_tree.specs.Views.{node_of, nodes_in}
 use Rattle.type_values.specs.declared.vars.Var.{Var}
 use Rattle.type_values.specs.Vars.{cvar_of}
-use Rattle.path_model.specs.CheckerModel.Calls.{objects_of, first_of, behind_first}
+use Rattle.path_model.specs.CheckerModel.Calls.{objects_of, behind_first, first_actual}
 use Rattle.refine_restore.specs.HandedObjects.Takers.{candidate, candidates, gathered}
 use Rattle.refine_restore.specs.declared.handed_objects.ends.End.{End}
 
 -- ---- actuals
 
-pub actual-at : (u : Facts) (depth : ℕ) (ts : List Tree) (i : ℕ) (d : Tree) → i < length ts → first_of (drop i (objects_of u depth (nodes_in ts))) ≡ object_of u depth (node_of (get_or ts i d))
+pub actual-at : (u : Facts) (depth : ℕ) (ts : List Tree) (i : ℕ) (d : Tree) → i < length ts → first_actual (drop i (objects_of u depth (nodes_in ts))) ≡ object_of u depth (node_of (get_or ts i d))
 actual-at u depth [] i d h = absurd (omega arith)
 actual-at u depth (t ∷ ts) zero d h = refl
 actual-at u depth (t ∷ ts) (suc i) d h = actual-at u depth ts i d (omega arith)
 
-pub actual-past : (u : Facts) (depth : ℕ) (ts : List Tree) (i : ℕ) → length ts ≤ i → first_of (drop i (objects_of u depth (nodes_in ts))) ≡ None
+pub actual-past : (u : Facts) (depth : ℕ) (ts : List Tree) (i : ℕ) → length ts ≤ i → first_actual (drop i (objects_of u depth (nodes_in ts))) ≡ None
 actual-past u depth [] zero h = refl
 actual-past u depth [] (suc i) h = refl
 actual-past u depth (t ∷ ts) zero h = absurd (omega arith)
@@ -28,13 +28,13 @@ actual-past u depth (t ∷ ts) (suc i) h = actual-past u depth ts i (omega arith
 
 -- ---- candidates
 
-behind-next : (actuals : List (Option Object)) (i : ℕ) → first_of (drop i (behind_first actuals)) ≡ first_of (drop (suc i) actuals)
+behind-next : (actuals : List (Option Object)) (i : ℕ) → first_actual (drop i (behind_first actuals)) ≡ first_actual (drop (suc i) actuals)
 behind-next [] zero = refl
 behind-next [] (suc i) = refl
 behind-next (a ∷ actuals) i = refl
 
 formal-at : (e : End) (depth : ℕ) (o : Object) (formals : List (Option Var)) (actuals : List (Option Object)) (i : ℕ) (d : Option Var) → i < length formals
-    → get_or (candidates e depth o (map (option_map cvar_of) formals) actuals) i None ≡ candidate e depth o (option_map cvar_of (get_or formals i d)) (first_of (drop i actuals))
+    → get_or (candidates e depth o (map (option_map cvar_of) formals) actuals) i None ≡ candidate e depth o (option_map cvar_of (get_or formals i d)) (first_actual (drop i actuals))
 formal-at e depth o [] actuals i d h = absurd (omega arith)
 formal-at e depth o (x ∷ xs) [] zero d h = refl
 formal-at e depth o (x ∷ xs) (a ∷ actuals) zero d h = refl
@@ -43,7 +43,7 @@ formal-at e depth o (x ∷ xs) actuals (suc i) d h =
     ∙ ap (candidate e depth o (option_map cvar_of (get_or xs i d))) (behind-next actuals i)
 
 pub candidate-found : (e : End) (depth : ℕ) (o : Object) (formals : List (Option Var)) (actuals : List (Option Object)) (i : ℕ) (d : Option Var) (a r : Option Object) → i < length formals
-    → a ≡ first_of (drop i actuals) → r ≡ candidate e depth o (option_map cvar_of (get_or formals i d)) a → r ≡ get_or (candidates e depth o (map (option_map cvar_of) formals) actuals) i None
+    → a ≡ first_actual (drop i actuals) → r ≡ candidate e depth o (option_map cvar_of (get_or formals i d)) a → r ≡ get_or (candidates e depth o (map (option_map cvar_of) formals) actuals) i None
 candidate-found e depth o formals actuals i d a r h f g = g ∙ ap (candidate e depth o (option_map cvar_of (get_or formals i d))) f ∙ sym (formal-at e depth o formals actuals i d h)
 
 candidates-length : (e : End) (depth : ℕ) (o : Object) (formals : List (Option Var)) (actuals : List (Option Object)) → length (candidates e depth o (map (option_map cvar_of) formals) actuals) ≡ length formals

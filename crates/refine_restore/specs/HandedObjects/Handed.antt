@@ -3,11 +3,8 @@ use Rattle.std.specs.Prelude.{◌≡◌, ℕ, List, [], ◌∷◌, Some}
 use Rattle.c_objects.specs.Objects.{Object}
 use Rattle.flow_graph.specs.CPaths.Membership.{Among}
 use Rattle.path_model.specs.CheckerModel.Calls.{into, out}
+use Rattle.path_model.specs.CheckerModel.Distinct.{AreDistinct}
 use Rattle.path_model.specs.CheckerModel.Happenings.{Site}
-
-abbrev pub AreDistinct : List Object → Type 0
-AreDistinct [] = Unit {0}
-AreDistinct (q ∷ qs) = (Among q qs → ⊥) × AreDistinct qs
 
 -- THE ENTERED of an object of the caller: exactly the objects of the callee that begin with its state, each once
 pub record AreEntered (depth : ℕ) (s : Site) (o : Object) (entered : List Object) : Type 0 where

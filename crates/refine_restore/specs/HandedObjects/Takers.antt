@@ -6,7 +6,7 @@ use Rattle.c_objects.specs.Paths.{rebase}
 use Rattle.c_objects.specs.Replaced.{replaced}
 use Rattle.type_rules.specs.Options.{◌>?◌}
 use Rattle.type_rules.specs.Vars.{CVar}
-use Rattle.path_model.specs.CheckerModel.Calls.{first_of, behind_first, into, out}
+use Rattle.path_model.specs.CheckerModel.Calls.{behind_first, into, out, first_actual}
 use Rattle.path_model.specs.CheckerModel.Happenings.{Site}
 use Rattle.refine_restore.specs.declared.handed_objects.ends.End.{End}
 use Rattle.refine_restore.specs.declared.handed_objects.ends.End.TheVariants as end
@@ -34,7 +34,7 @@ candidate e depth o x a = x >? λ v. a >? behind_formal e depth o v
 
 abbrev pub candidates : End → ℕ → Object → List (Option CVar) → List (Option Object) → List (Option Object)
 candidates e depth o [] actuals = []
-candidates e depth o (x ∷ xs) actuals = candidate e depth o x (first_of actuals) ∷ candidates e depth o xs (behind_first actuals)
+candidates e depth o (x ∷ xs) actuals = candidate e depth o x (first_actual actuals) ∷ candidates e depth o xs (behind_first actuals)
 
 abbrev pub is_listed : List Object → Object → Bool
 is_listed qs q = list_any (λ p. same_object p q) qs

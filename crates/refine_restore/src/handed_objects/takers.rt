@@ -5,7 +5,7 @@ ghost use Rattle.std.specs.Option.{option_map};
 ghost use Rattle.c_objects.specs.Facts.{Facts};
 ghost use Rattle.c_tree.specs.Views.{node_of, nodes_in};
 ghost use Rattle.type_values.specs.Vars.{cvar_of};
-ghost use Rattle.path_model.specs.CheckerModel.Calls.{objects_of, actuals_of, first_of};
+ghost use Rattle.path_model.specs.CheckerModel.Calls.{objects_of, actuals_of, first_actual};
 ghost use Rattle.refine_restore.specs.HandedObjects.Takers.{is_taker, behind_formal, candidate, candidates, with_one, takers};
 ghost use Rattle.refine_restore.specs.Sites.{site_of};
 
@@ -32,7 +32,7 @@ fn actuals<'a>(call: &Tree<'a>) -> &'a [Tree<'a>]
 // The object of the actual at a position, if there is one.
 fn actual_at(site: &Site, position: usize, depth: u8) -> Option<Object>
     requires { depth ≤ 8 }
-    ensures { result ≡ first_of (drop position (site_of depth site.now).actuals) }
+    ensures { result ≡ first_actual (drop position (site_of depth site.now).actuals) }
 {
     let actuals = actuals(site.call);
     if position < actuals.len() {

@@ -32,9 +32,9 @@ use Rattle.least_set.proofs.Growing.{nothing, either, kept, adds_none, adds_same
 use Rattle.relevant.proofs.LinkedObjects.Listed.{among-contains, contains-among}
 use Rattle.metal_tree.specs.MetalMachines.Machine.{Machine}
 use Rattle.flow_graph.specs.ReachedBlocks.Reached.{Happens, AreReached}
-use Rattle.relevant.specs.RelevantObjects.Links.{members}
 use Rattle.relevant.proofs.RelevantObjects.Adding.{members-added}
-use Rattle.relevant.specs.RelevantSteps.Steps.{Member, IsBound, Base}
+use Rattle.relevant.specs.RelevantSteps.Steps.{IsBound, Base}
+use Rattle.path_model.specs.CheckerGraphs.Members.{Member, members}
 
 -- ---- one after the other
 

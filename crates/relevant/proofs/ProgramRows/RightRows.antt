@@ -13,7 +13,7 @@ use Rattle.path_model.specs.CheckerGraphs.Graphs.{function_at}
 use Rattle.path_model.proofs.CheckerGraphs.Units.{functions-are, objects-are, place-filed}
 use Rattle.path_model.specs.CheckerModel.Happenings.{Function, Site}
 use Rattle.path_model.specs.CheckerModel.Reports.{Checker}
-use Rattle.path_model.specs.CheckerPrograms.Texts.{functions_in, function_of, table_of, objects_in, site}
+use Rattle.path_model.specs.CheckerPrograms.Texts.{functions_in, function_of, objects_in, site, type_table}
 use Rattle.typed_unit.specs.Texts.{Text, texts_of}
 use Rattle.flow_graph.specs.Seen.{graph_in}
 use Rattle.function_tables.specs.declared.table.FunctionTable.{FunctionTable}
@@ -72,8 +72,8 @@ module _ (c : Checker) (units : List (Bor TypedUnit)) (tables : List FunctionTab
 
   -- a call is followed by the file in which the function stands
   by-file : (n : ℕ) (d : Defined) (call : Node) → slice_get fs n ≡ Some d
-      → followed c.machine (table_of ts d.place.file) d.place.file (functions_in ts) call ≡ followed c.machine (table_of ts d.file) d.file (functions_in ts) call
-  by-file n d call at = ap (λ (i : ℕ). followed c.machine (table_of ts i) i (functions_in ts) call) (place-filed (trees_in units) n d at)
+      → followed c.machine (type_table ts d.place.file) d.place.file (functions_in ts) call ≡ followed c.machine (type_table ts d.file) d.file (functions_in ts) call
+  by-file n d call at = ap (λ (i : ℕ). followed c.machine (type_table ts i) i (functions_in ts) call) (place-filed (trees_in units) n d at)
 
   -- ---- what happens
 
@@ -108,7 +108,7 @@ module _ (c : Checker) (units : List (Bor TypedUnit)) (tables : List FunctionTab
         let d = there fs k.caller (subst (λ n. n < length fs) e.0 h.1) in
         let is : slice_get tables k.caller ≡ Some has.table = ap (slice_get tables) (sym e.0) ∙ has.is in
         let follows = end-follows c.machine c.depth ts d.0 has.table (A.blocks k.caller d.0 has.table (at-text k.caller d.0 d.1) is) has.block k.callee call e.1 in
-        let within : k.callee < length fs = subst (λ (l : List Defined). k.callee < length l) (functions-are units) (followed-within c.machine (table_of ts (d.0).file) (d.0).file (functions_in ts) call k.callee follows) in
+        let within : k.callee < length fs = subst (λ (l : List Defined). k.callee < length l) (functions-are units) (followed-within c.machine (type_table ts (d.0).file) (d.0).file (functions_in ts) call k.callee follows) in
         let callee = there fs k.callee within in
         let ends = has-call (graph_in (has.table).graph) has.block call e.1.call_is in
         record {
@@ -141,7 +141,7 @@ module _ (c : Checker) (units : List (Bor TypedUnit)) (tables : List FunctionTab
         let d : Defined = k.defined in
         let t : FunctionTable = k.table in
         let file : v.function.place.file ≡ d.file = ap (λ (x : Function). x.place.file) (sym k.named) ∙ place-filed (trees_in units) n d k.at in
-        let follows : followed c.machine (table_of ts d.file) d.file (functions_in ts) v.call ≡ Some m = ap (λ (i : ℕ). followed c.machine (table_of ts i) i (functions_in ts) v.call) (sym file) ∙ v.follows in
+        let follows : followed c.machine (type_table ts d.file) d.file (functions_in ts) v.call ≡ Some m = ap (λ (i : ℕ). followed c.machine (type_table ts i) i (functions_in ts) v.call) (sym file) ∙ v.follows in
         let called : Called (graph_in t.graph) v.call = subst (λ (x : Graph). Called x v.call) (sym k.same) v.called in
         let ends = follows-end c.machine c.depth ts d t (A.blocks n d t (at-text n d k.at) k.is) called.block m called.next _ v.call called.has refl follows in
         let f : Followed = record { caller = n; callee = m; call = v.call } in
@@ -149,14 +149,14 @@ module _ (c : Checker) (units : List (Bor TypedUnit)) (tables : List FunctionTab
         let e = of-map function_of (slice_get (functions_in ts) m) v.callee v.named in
         by d e.0 k.at (sym (ap (λ (l : List Defined). slice_get l m) (functions-are units)) ∙ e.1) follows (v.same ∙ ap (λ (x : Function). site c.depth ts x v.call) (sym k.named)) one.0 one.1 one.2
       where
-        by : (d e : Defined) → slice_get fs n ≡ Some d → slice_get fs m ≡ Some e → followed c.machine (table_of ts d.file) d.file (functions_in ts) v.call ≡ Some m → s ≡ site c.depth ts (function_of d) v.call
+        by : (d e : Defined) → slice_get fs n ≡ Some d → slice_get fs m ≡ Some e → followed c.machine (type_table ts d.file) d.file (functions_in ts) v.call ≡ Some m → s ≡ site c.depth ts (function_of d) v.call
             → (q : FollowedCall) → Contains calls q → followed_in q ≡ record { caller = n; callee = m; call = v.call } → IsListed n m s
         by d e at into follows same q among is =
             let caller : q.caller ≡ n = ap (λ (x : Followed). x.caller) is in
             let callee : q.callee ≡ m = ap (λ (x : Followed). x.callee) is in
             let call : node_of q.site.call.now ≡ v.call = ap (λ (x : Followed). x.call) is in
             let passes = call-passes c units q d e (All-contains (IsSite units) calls q S among) (ap (slice_get fs) caller ∙ at) (ap (slice_get fs) callee ∙ into)
-            (ap (followed c.machine (table_of ts d.file) d.file (functions_in ts)) call ∙ follows ∙ ap Some (sym callee)) in
+            (ap (followed c.machine (type_table ts d.file) d.file (functions_in ts)) call ∙ follows ∙ ap Some (sym callee)) in
             record {
               call = q;
               among = among;

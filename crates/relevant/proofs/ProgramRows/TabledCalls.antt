@@ -14,15 +14,15 @@ use Rattle.call_graph.specs.Followed.{machine_calls, body_followed, followed}
 use Rattle.path_model.proofs.CheckerGraphs.Units.{functions-are, objects-are, place-filed}
 use Rattle.path_model.specs.CheckerModel.Calls.{actuals_of}
 use Rattle.path_model.specs.CheckerModel.Reports.{Checker}
-use Rattle.path_model.specs.CheckerPrograms.Texts.{functions_in, function_of, table_of, callee_of, site}
+use Rattle.path_model.specs.CheckerPrograms.Texts.{functions_in, function_of, callee_of, site, type_table}
 use Rattle.typed_unit.specs.Texts.{Text, texts_of}
 use Rattle.flow_graph.specs.Seen.{graph_in}
 use Rattle.function_tables.specs.declared.table.BlockTable.{BlockTable}
 use Rattle.function_tables.specs.declared.table.FunctionTable.{FunctionTable}
-use Rattle.function_tables.specs.Ends.{call_in}
+use Rattle.path_model.specs.CheckerGraphs.Ends.{call_in, call_at}
 use Rattle.function_tables.specs.Tables.{IsBlockTable, AreBlockTables}
 use Rattle.metal_tree.specs.MetalMachines.Machine.{Machine}
-use Rattle.relevant.specs.ProgramRows.Ends.{call_at, callee_at, Followed, followed_at, IsSite}
+use Rattle.relevant.specs.ProgramRows.Ends.{callee_at, Followed, followed_at, IsSite}
 use Rattle.relevant.proofs.ProgramRows.Lists.{zip-at, zip-there}
 use Rattle.call_graph.specs.OfPrograms.Bodies.{body_of}
 use Rattle.call_graph.specs.OfPrograms.Calls.{called_name, body_called}
@@ -78,10 +78,10 @@ has-call g b n e =
 
 module _ (m : Machine) (depth : ℕ) (ts : List Text) (d : Defined) (t : FunctionTable) (A : AreBlockTables m depth ts d (graph_in t.graph).blocks t.blocks.items) where
   abbrev Follows : Node → ℕ → Type 0
-  Follows call callee = followed m (table_of ts d.file) d.file (functions_in ts) call ≡ Some callee
+  Follows call callee = followed m (type_table ts d.file) d.file (functions_in ts) call ≡ Some callee
 
   -- the call is followed into this function
-  pub end-follows : (b callee : ℕ) (call : Node) → IsEnd t b callee call → followed m (table_of ts d.file) d.file (functions_in ts) call ≡ Some callee
+  pub end-follows : (b callee : ℕ) (call : Node) → IsEnd t b callee call → followed m (type_table ts d.file) d.file (functions_in ts) call ≡ Some callee
   end-follows b callee call e =
       let s = block-ends (graph_in t.graph) b call e.call_is in
       let k = behind (slice_get t.blocks.items b) (λ x. x.callee) callee e.callee_is in
@@ -89,7 +89,7 @@ module _ (m : Machine) (depth : ℕ) (ts : List Text) (d : Defined) (t : Functio
       sym (is.callee call s.2) ∙ k.2
 
   -- and each that is stands so in the table
-  pub follows-end : (b callee next : ℕ) (s : Block) (call : Node) → slice_get (graph_in t.graph).blocks b ≡ Some s → s.ending ≡ Calls call next → followed m (table_of ts d.file) d.file (functions_in ts) call ≡ Some callee → IsEnd t b callee call
+  pub follows-end : (b callee next : ℕ) (s : Block) (call : Node) → slice_get (graph_in t.graph).blocks b ≡ Some s → s.ending ≡ Calls call next → followed m (type_table ts d.file) d.file (functions_in ts) call ≡ Some callee → IsEnd t b callee call
   follows-end b callee next s call at ends f =
       let k = zip-there (IsBlockTable m depth ts d) (graph_in t.graph).blocks t.blocks.items b s A at in
       let is = zip-at (IsBlockTable m depth ts d) (graph_in t.graph).blocks t.blocks.items b s k.0 A at k.1 in
@@ -134,12 +134,12 @@ module _ (c : Checker) (units : List (Bor TypedUnit)) (k : FollowedCall) (d e : 
   call = node_of k.site.call.now
 
   -- it passes what the call of the program does
-  pub call-passes : IsSite units k → slice_get fs k.caller ≡ Some d → slice_get fs k.callee ≡ Some e → followed c.machine (table_of T d.file) d.file (functions_in T) call ≡ Some k.callee → Passes c.depth k (site c.depth T (function_of d) call)
+  pub call-passes : IsSite units k → slice_get fs k.caller ≡ Some d → slice_get fs k.callee ≡ Some e → followed c.machine (type_table T d.file) d.file (functions_in T) call ≡ Some k.callee → Passes c.depth k (site c.depth T (function_of d) call)
   call-passes is at into follows =
       let filed : d.place.file ≡ d.file = place-filed (trees_in units) k.caller d at in
       let called : callee_of T d.place.file call ≡ Some e =
       ap (λ (i : ℕ). callee_of T i call) filed
-      ∙ ap (λ o. o >? slice_get (functions_in T)) (followed-called c.machine (table_of T d.file) d.file (functions_in T) call k.callee follows)
+      ∙ ap (λ o. o >? slice_get (functions_in T)) (followed-called c.machine (type_table T d.file) d.file (functions_in T) call k.callee follows)
       ∙ ap (λ (l : List Defined). slice_get l k.callee) (functions-are units)
       ∙ into in
       record {

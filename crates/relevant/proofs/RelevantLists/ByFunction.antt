@@ -8,7 +8,7 @@ use Rattle.c_objects.specs.Objects.{Object}
 use Rattle.least_set.specs.Logs.{IsExactly}
 use Rattle.least_set.proofs.Growing.{nothing}
 use Rattle.relevant.specs.RelevantLists.Filed.{with_member, AreFiled}
-use Rattle.relevant.specs.RelevantSteps.Steps.{Member}
+use Rattle.path_model.specs.CheckerGraphs.Members.{Member}
 
 -- ---- one list more, and one object more in a list
 

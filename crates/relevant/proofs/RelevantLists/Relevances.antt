@@ -13,7 +13,7 @@ use Rattle.path_model.specs.CheckerPrograms.Texts.{functions_in, function_of}
 use Rattle.typed_unit.specs.Texts.{Text}
 use Rattle.relevant.specs.RelevantLists.Filed.{AreFiled}
 use Rattle.relevant.specs.RelevantLists.Lists.{AreLists}
-use Rattle.relevant.specs.RelevantSteps.Steps.{Member}
+use Rattle.path_model.specs.CheckerGraphs.Members.{Member}
 
 module _ (c : Checker) (ts : List Text) (Family : Function → Object → Type 0) (found : List Member) (lists : List (List Object)) where
   pub are-lists : ((f : Function) (o : Object) → Family f o → IsObject c.depth o)

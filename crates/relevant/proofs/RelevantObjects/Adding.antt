@@ -8,7 +8,8 @@ use Rattle.least_set.proofs.Growing.{adds_none, adds_same, adds_both, adds_next}
 use Rattle.relevant.proofs.LinkedObjects.Listed.{among-contains, contains-among}
 use Rattle.relevant.specs.LinkedObjects.Linked.{AreLinkedOver}
 use Rattle.refine_restore.specs.Sites.{site_of}
-use Rattle.relevant.specs.RelevantObjects.Links.{Member, members, LinksInto, LinksBack, LinksOver}
+use Rattle.relevant.specs.RelevantObjects.Links.{LinksInto, LinksBack, LinksOver}
+use Rattle.path_model.specs.CheckerGraphs.Members.{Member, members}
 use Rattle.relevant.specs.declared.relevant_objects.rows.FollowedCall.{FollowedCall}
 
 members-push : (n : ℕ) (os : List Object) (o : Object) → members n (os ++ (o ∷ [])) ≡ members n os ++ ((n, o) ∷ [])

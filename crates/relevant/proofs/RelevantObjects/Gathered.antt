@@ -3,7 +3,8 @@ use Rattle.std.proofs.Common.{◌≡◌, ◌⊎◌, inl, inr, ℕ, List, [], Con
 use Rattle.least_set.specs.Logs.{IsExactly, Adds}
 use Rattle.least_set.specs.OnePremise.{Follows, FollowsBase, FollowsOne, Least, LeastBase, LeastOne}
 use Rattle.least_set.proofs.Growing.{nothing, either, adds_both}
-use Rattle.relevant.specs.RelevantObjects.Links.{Member, LinksIn, LinksFrom}
+use Rattle.relevant.specs.RelevantObjects.Links.{LinksIn, LinksFrom}
+use Rattle.path_model.specs.CheckerGraphs.Members.{Member}
 use Rattle.relevant.specs.declared.relevant_objects.rows.FunctionRow.{FunctionRow}
 
 -- two after each other, from nothing

@@ -9,7 +9,8 @@ use Rattle.flow_graph.specs.Values.{event_of}
 use Rattle.least_set.specs.Logs.{Adds}
 use Rattle.least_set.proofs.Growing.{adds_same}
 use Rattle.objects.specs.Units.{facts_in}
-use Rattle.relevant.specs.RelevantObjects.Links.{Member, LinksAt, LinksToItself}
+use Rattle.relevant.specs.RelevantObjects.Links.{LinksAt, LinksToItself}
+use Rattle.path_model.specs.CheckerGraphs.Members.{Member}
 use Rattle.typed_unit.specs.declared.typed_unit.TypedUnit.{TypedUnit}
 
 no-move : (m : Option Move) → is_some m ≡ false → m ≡ None

@@ -9,7 +9,8 @@ use Rattle.path_model.specs.CheckerPrograms.Texts.{functions_in}
 use Rattle.typed_unit.specs.Texts.{Text}
 use Rattle.least_set.specs.Logs.{IsExactly}
 use Rattle.least_set.specs.OnePremise.{Least, LeastBase, LeastOne}
-use Rattle.relevant.specs.RelevantObjects.Links.{Member, LinksFrom}
+use Rattle.relevant.specs.RelevantObjects.Links.{LinksFrom}
+use Rattle.path_model.specs.CheckerGraphs.Members.{Member}
 use Rattle.relevant.specs.declared.relevant_objects.rows.FunctionRow.{FunctionRow}
 use Rattle.relevant.specs.RelevantRows.Rows.{AreRows}
 use Rattle.relevant.proofs.RelevantRows.Linking.{links-go, goes-link}

@@ -18,7 +18,8 @@ use Rattle.relevant.specs.LinkedObjects.Linked.{AreLinkedAt, AreLinkedOver}
 use Rattle.relevant.proofs.LinkedObjects.Listed.{among-contains, contains-among}
 use Rattle.flow_graph.specs.ReachedBlocks.Reached.{Happens}
 use Rattle.refine_restore.specs.Sites.{site_of}
-use Rattle.relevant.specs.RelevantObjects.Links.{Member, LinksOver, LinksIn, LinksFrom}
+use Rattle.relevant.specs.RelevantObjects.Links.{LinksOver, LinksIn, LinksFrom}
+use Rattle.path_model.specs.CheckerGraphs.Members.{Member}
 use Rattle.relevant.specs.declared.relevant_objects.rows.FollowedCall.{FollowedCall}
 use Rattle.relevant.specs.declared.relevant_objects.rows.FunctionRow.{FunctionRow}
 use Rattle.relevant.specs.RelevantRows.Rows.{Passes, IsCallOfProgram, IsRow, AreRows}

@@ -20,7 +20,8 @@ use Rattle.relevant.specs.RelevantSteps.Families.{RelevantTo}
 use Rattle.state_tuples.specs.AppliedRules.Bound.{BindsFrom}
 use Rattle.state_tuples.specs.declared.applied_rules.sources.RuleSources.{RuleSources}
 use Rattle.relevant.proofs.RelevantSteps.Sources.{rule-binds}
-use Rattle.relevant.specs.RelevantSteps.Steps.{Member, IsBound, Moves, Takes, AtEvent, AtEntry, AtReturn, Base, Goes}
+use Rattle.relevant.specs.RelevantSteps.Steps.{IsBound, Moves, Takes, AtEvent, AtEntry, AtReturn, Base, Goes}
+use Rattle.path_model.specs.CheckerGraphs.Members.{Member}
 use Rattle.relevant.proofs.RelevantSteps.Empty.{alone, exit, only-exit, numbered, exit-binds}
 use Rattle.relevant.proofs.RelevantSteps.Traced.{one-some, own-graph, event-of, of-event, call-of, of-call}
 

@@ -17,7 +17,7 @@ use Rattle.path_model.specs.CheckerModel.Happenings.{Function, Happening, Site}
 use Rattle.path_model.specs.CheckerModel.Reports.{Checker}
 use Rattle.path_model.specs.CheckerPrograms.Paths.{program}
 use Rattle.path_model.specs.CheckerPrograms.Roots.{followed_into, IsRootFunction}
-use Rattle.path_model.specs.CheckerPrograms.Texts.{functions_in, function_of, table_of, happening, site}
+use Rattle.path_model.specs.CheckerPrograms.Texts.{functions_in, function_of, happening, site, type_table}
 use Rattle.typed_unit.specs.Texts.{Text}
 use Rattle.path_theory.specs.Relevant.{EventOf, CallOf}
 use Rattle.flow_graph.specs.ReachedBlocks.Reached.{Happens, Called}
@@ -100,7 +100,7 @@ module _ (c : Checker) (ts : List Text) (gs : List Graph) (A : AreGraphs ts gs) 
       (call_on (model c) (program c ts) (in_blocks ts gs A c) (graphs_have_traces ts gs A c).0 w) in
       let n = caller-numbered ts gs f r.0 r.1 in
       let follows : followed_into c.machine (site c.depth ts f r.0) ≡ Some g = ap (followed_into c.machine) (sym r.2) ∙ r.3 in
-      let m = by-number function_of (slice_get (functions_in ts)) (followed c.machine (table_of ts f.place.file) f.place.file (functions_in ts) r.0) g (sym (followed-number c.machine c.depth ts f r.0) ∙ follows) in
+      let m = by-number function_of (slice_get (functions_in ts)) (followed c.machine (type_table ts f.place.file) f.place.file (functions_in ts) r.0) g (sym (followed-number c.machine c.depth ts f r.0) ∙ follows) in
       record {
         caller = n.0;
         callee = m.0;

@@ -14,7 +14,8 @@ use Rattle.path_model.specs.CheckerPrograms.Texts.{function_of, happening}
 use Rattle.typed_unit.specs.Texts.{Text}
 use Rattle.metal_tree.specs.MetalMachines.Machine.{Machine}
 use Rattle.flow_graph.specs.ReachedBlocks.Reached.{Happens}
-use Rattle.relevant.specs.RelevantSteps.Steps.{Member, Base}
+use Rattle.relevant.specs.RelevantSteps.Steps.{Base}
+use Rattle.path_model.specs.CheckerGraphs.Members.{Member}
 
 module _ (w : RuleSources) (m : Machine) (depth n : ℕ) where
   -- at an event of this function, whose number is n

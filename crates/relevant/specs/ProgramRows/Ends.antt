@@ -9,16 +9,12 @@ use Rattle.type_rules.specs.Functions.{Defined}
 use Rattle.type_rules.specs.Options.{◌>?◌}
 use Rattle.flow_graph.specs.Seen.{graph_in}
 use Rattle.function_tables.specs.declared.table.FunctionTable.{FunctionTable}
-use Rattle.function_tables.specs.Ends.{call_in}
+use Rattle.path_model.specs.CheckerGraphs.Ends.{call_in}
 use Rattle.call_graph.specs.OfPrograms.Definitions.{definitions, trees_in}
 use Rattle.flow_graph.specs.ReachedBlocks.Reached.{Reaches}
 use Rattle.refine_restore.specs.Sites.{formals_of}
 use Rattle.relevant.specs.declared.relevant_objects.rows.FollowedCall.{FollowedCall}
 use Rattle.typed_unit.specs.declared.typed_unit.TypedUnit.{TypedUnit}
-
--- the call in which a block ends; none where it ends otherwise, or isn't there
-abbrev pub call_at : Graph → ℕ → Option Node
-call_at g b = slice_get g.blocks b >? λ s. call_in s.ending
 
 -- the number of the function into which it is followed
 abbrev pub callee_at : FunctionTable → ℕ → Option ℕ

@@ -2,7 +2,7 @@
 use Rattle.std.specs.Prelude.{◌≡◌, ℕ, zero, suc, List, [], ◌∷◌, ◌++◌, Contains, Some, slice_get}
 use Rattle.c_objects.specs.Objects.{Object}
 use Rattle.least_set.specs.Logs.{IsExactly}
-use Rattle.relevant.specs.RelevantSteps.Steps.{Member}
+use Rattle.path_model.specs.CheckerGraphs.Members.{Member}
 
 -- an object of the function with number n put last in its list, if there is one
 abbrev pub with_member : ℕ → Object → List (List Object) → List (List Object)

@@ -6,20 +6,11 @@ use Rattle.flow_graph.specs.Values.{event_of}
 use Rattle.least_set.specs.Logs.{SomeGives}
 use Rattle.relevant.specs.LinkedObjects.Linked.{AreLinkedAt, AreLinkedOver}
 use Rattle.objects.specs.Units.{facts_in}
+use Rattle.path_model.specs.CheckerGraphs.Members.{Member}
 use Rattle.refine_restore.specs.Sites.{site_of}
 use Rattle.relevant.specs.declared.relevant_objects.rows.FollowedCall.{FollowedCall}
 use Rattle.relevant.specs.declared.relevant_objects.rows.FunctionRow.{FunctionRow}
 use Rattle.typed_unit.specs.declared.typed_unit.TypedUnit.{TypedUnit}
-
--- an object of the function with a number
-abbrev pub Member : Type 0
-Member = ℕ × Object
-
-abbrev pub with_number : ℕ → Object → Member
-with_number n o = (n, o)
-
-abbrev pub members : ℕ → List Object → List Member
-members n os = map (with_number n) os
 
 -- at an event both are of one function
 abbrev pub LinksAt : ℕ → TypedUnit → Member → Event → Member → Type 0

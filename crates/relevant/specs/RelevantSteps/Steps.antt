@@ -7,19 +7,16 @@ use Rattle.flow_graph.specs.CPaths.Events.{Event}
 use Rattle.c_tree.specs.Node.{Node}
 use Rattle.call_graph.specs.Followed.{followed}
 use Rattle.path_model.specs.CheckerGraphs.Graphs.{function_at}
+use Rattle.path_model.specs.CheckerGraphs.Members.{Member}
 use Rattle.path_model.specs.CheckerModel.Calls.{into, out}
 use Rattle.path_model.specs.CheckerModel.Checkers.{source_at}
 use Rattle.state_tuples.specs.AppliedRules.Bound.{BindsFrom}
 use Rattle.state_tuples.specs.declared.applied_rules.sources.RuleSources.{RuleSources}
 use Rattle.path_model.specs.CheckerModel.Happenings.{Function, Site}
 use Rattle.path_model.specs.CheckerModel.Reports.{Checker}
-use Rattle.path_model.specs.CheckerPrograms.Texts.{functions_in, table_of, happening, site}
+use Rattle.path_model.specs.CheckerPrograms.Texts.{functions_in, happening, site, type_table}
 use Rattle.typed_unit.specs.Texts.{Text}
 use Rattle.flow_graph.specs.ReachedBlocks.Reached.{Happens, Called}
-
--- an object of the function with a number
-abbrev pub Member : Type 0
-Member = ℕ × Object
 
 module _ (c : Checker) (ts : List Text) (gs : List Graph) where
   -- the function with this number, and its graph
@@ -53,7 +50,7 @@ module _ (c : Checker) (ts : List Text) (gs : List Graph) where
     pub call : Node
     pub called : Called graph call
     pub same : s ≡ site c.depth ts function call
-    pub follows : followed c.machine (table_of ts function.place.file) function.place.file (functions_in ts) call ≡ Some m
+    pub follows : followed c.machine (type_table ts function.place.file) function.place.file (functions_in ts) call ≡ Some m
     pub callee : Function
     pub named : function_at ts m ≡ Some callee
 

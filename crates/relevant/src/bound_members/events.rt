@@ -7,7 +7,7 @@ ghost use Rattle.path_model.specs.CheckerModel.Happenings.{Function, Happening};
 ghost use Rattle.function_tables.specs.Rules.{AreOfEvents};
 ghost use Rattle.least_set.specs.Logs.{Adds, SomeGives};
 ghost use Rattle.metal_tree.specs.MetalMachines.Machine.{Machine};
-ghost use Rattle.relevant.specs.RelevantObjects.Links.{members};
+ghost use Rattle.path_model.specs.CheckerGraphs.Members.{members};
 
 use objects::Object;
 use state_tuples::{EventRules, RuleSources};

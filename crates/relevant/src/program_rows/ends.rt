@@ -5,8 +5,8 @@ ghost use Rattle.std.specs.Option.{option_map};
 ghost use Rattle.c_tree.specs.Views.{node_of};
 ghost use Rattle.flow_graph.specs.Seen.{graph_in};
 ghost use Rattle.flow_graph.specs.Values.{ending_of};
-ghost use Rattle.function_tables.specs.Ends.{call_in};
-ghost use Rattle.relevant.specs.ProgramRows.Ends.{call_at, callee_at, followed_in, followed_at, IsUnitOf, IsSite};
+ghost use Rattle.path_model.specs.CheckerGraphs.Ends.{call_in, call_at};
+ghost use Rattle.relevant.specs.ProgramRows.Ends.{callee_at, followed_in, followed_at, IsUnitOf, IsSite};
 
 use crate::program_rows::functions::formals_of;
 use crate::relevant_objects::FollowedCall;

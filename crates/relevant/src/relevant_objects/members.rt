@@ -1,7 +1,7 @@
 //! Objects of functions.
 
 ghost use Rattle.std.specs.Prelude.{◌≡◌, ◌++◌, IfOk};
-ghost use Rattle.relevant.specs.RelevantObjects.Links.{members};
+ghost use Rattle.path_model.specs.CheckerGraphs.Members.{members};
 
 use objects::Object;
 use std::alloc::AllocError;

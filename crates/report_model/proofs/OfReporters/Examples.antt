@@ -3,7 +3,7 @@ use Rattle.std.specs.Prelude.{◌≡◌, ℕ, List, [], ◌∷◌, Option, Some,
 use Rattle.std.proofs.Common.{refl}
 use Rattle.std.specs.Fmt.{digits}
 use Rattle.report_model.specs.declared.report.Report.{Report}
-use Rattle.report_model.specs.OfReporters.Styles.{quoted, table_of, json_of}
+use Rattle.report_model.specs.OfReporters.Styles.{quoted, json_of, report_table}
 
 -- `p` is used behind its free, in line 1
 abbrev after_free : Option (List ℕ) → Report
@@ -33,15 +33,15 @@ far_away = record {
   message = codes "left";
 }
 
-table_of_one : table_of (after_free (Some (codes "p")) ∷ []) ≡ codes "       1:28    free_checker         a.c: using p after free!\n1 reports\n"
+table_of_one : report_table (after_free (Some (codes "p")) ∷ []) ≡ codes "       1:28    free_checker         a.c: using p after free!\n1 reports\n"
 unfolding digits
 table_of_one = refl
 
-table_of_none : table_of [] ≡ codes "0 reports\n"
+table_of_none : report_table [] ≡ codes "0 reports\n"
 unfolding digits
 table_of_none = refl
 
-longer_stands_whole : table_of (far_away ∷ after_free None ∷ []) ≡ codes "123456789:654321 checker_of_all_the_locks b.c: left\n       1:28    free_checker         a.c: using p after free!\n2 reports\n"
+longer_stands_whole : report_table (far_away ∷ after_free None ∷ []) ≡ codes "123456789:654321 checker_of_all_the_locks b.c: left\n       1:28    free_checker         a.c: using p after free!\n2 reports\n"
 unfolding digits
 longer_stands_whole = refl
 

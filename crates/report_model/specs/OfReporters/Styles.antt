@@ -18,8 +18,8 @@ abbrev pub table_row : Report → List ℕ
 table_row r = right_in 8 (decimal r.line) ++ codes ":" ++ left_in 5 (decimal r.col) ++ codes " " ++ left_in 20 r.checker_name ++ codes " " ++ r.file ++ codes ": " ++ r.message ++ codes "\n"
 
 -- a row for each report, and how many they are
-abbrev pub table_of : List Report → List ℕ
-table_of reports = flat_map table_row reports ++ decimal (length reports) ++ codes " reports\n"
+abbrev pub report_table : List Report → List ℕ
+report_table reports = flat_map table_row reports ++ decimal (length reports) ++ codes " reports\n"
 
 -- The lines of JSON.
 

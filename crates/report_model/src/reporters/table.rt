@@ -1,7 +1,7 @@
 //! The style `table`: reports in columns, and how many they are.
 
 ghost use Rattle.std.specs.Prelude.{◌≡◌, ◌++◌, ◌≤◌, [], IfOk, OnOk, codes, flat_map};
-ghost use Rattle.report_model.specs.OfReporters.Styles.{right_in, left_in, table_row, table_of};
+ghost use Rattle.report_model.specs.OfReporters.Styles.{right_in, left_in, table_row, report_table};
 
 use crate::report::Report;
 use crate::reporters::pieces::{append_all, blanks};
@@ -61,7 +61,7 @@ fn write_rows(reports: &[Report], into: &mut Text) -> Result<(), AllocError>
 
 // A row for each report, and their count.
 fn table_text(alloc: Global, reports: &[Report]) -> Result<Vec<u8>, AllocError>
-    ensures { IfOk result (λ text. text.items ≡ table_of reports.now) }
+    ensures { IfOk result (λ text. text.items ≡ report_table reports.now) }
 {
     let mut text = Text::new(alloc);
     write_rows(reports, &mut text)?;
@@ -94,7 +94,7 @@ impl Table {
 impl Reporter for Table {
     ghost taken = { λ s. s.reports.items };
 
-    ghost rendered = { λ _. table_of };
+    ghost rendered = { λ _. report_table };
 
     ghost called = { λ _. codes "table" };
 

@@ -17,7 +17,7 @@ use Rattle.hole_matcher.specs.HoleMessages.Sources.{maybe_object}
 use Rattle.metal_tree.specs.MetalMachines.Machine.{Machine}
 use Rattle.report_model.specs.declared.report.Report.{Report}
 use Rattle.state_tuples.specs.RuleChoices.Values.{taken_of}
-use Rattle.state_tuples.specs.TransitionReports.TakenRules.{happening_in}
+use Rattle.state_tuples.specs.Values.{happening_in}
 use Rattle.typed_unit.specs.declared.typed_unit.TypedUnit.{TypedUnit}
 
 -- the events of a function are those of its unit

@@ -17,7 +17,8 @@ use Rattle.path_model.specs.CheckerModel.Choices.{Gives, Taken, next_global, tak
 use Rattle.path_model.specs.CheckerModel.Happenings.{Function, Happening}
 use Rattle.path_model.specs.CheckerModel.Reports.{Checker}
 use Rattle.saturation.proofs.MetStates.AmongEvents.{behind-more, among-more, among-left, among-at, rules-at, as-many, none-among}
-use Rattle.saturation.specs.MetStates.{Member, member, TakesUnknown, TakesAmong, GivesOne, GivesAt, GivesAmong}
+use Rattle.saturation.specs.MetStates.{TakesUnknown, TakesAmong, GivesOne, GivesAt, GivesAmong}
+use Rattle.path_model.specs.CheckerGraphs.Members.{Member, member}
 use Rattle.state_tuples.specs.AppliedRules.Events.{AreOfEvent}
 use Rattle.state_tuples.specs.declared.applied_rules.rules.EventRules.{EventRules}
 

@@ -24,7 +24,8 @@ use Rattle.path_model.specs.CheckerModel.Reports.{Checker}
 use Rattle.path_model.specs.CheckerPrograms.Texts.{functions_in, function_of, happening}
 use Rattle.saturation.proofs.MetStates.AmongEvents.{among-at, split-at}
 use Rattle.saturation.proofs.MetStates.Gifts.{takes-gives}
-use Rattle.saturation.specs.MetStates.{Member, TakesUnknown, TakesAmong, GivesAmong, GivesBound, IsBoundWhereMet}
+use Rattle.saturation.specs.MetStates.{TakesUnknown, TakesAmong, GivesAmong, GivesBound, IsBoundWhereMet}
+use Rattle.path_model.specs.CheckerGraphs.Members.{Member}
 use Rattle.type_rules.specs.Functions.{Defined}
 use Rattle.typed_unit.specs.Texts.{Text}
 

@@ -28,7 +28,8 @@ use Rattle.metal_tree.specs.declared.messages.Action.{Action}
 use Rattle.metal_tree.specs.declared.rules.Rule as code
 use Rattle.objects.specs.Units.{facts_in}
 use Rattle.report_model.specs.declared.report.Report.{Report}
-use Rattle.state_tuples.specs.TransitionReports.TakenRules.{IsTaken, checker_at, happening_in, report_with}
+use Rattle.state_tuples.specs.TransitionReports.TakenRules.{IsTaken, checker_at, report_with}
+use Rattle.state_tuples.specs.Values.{happening_in}
 use Rattle.state_tuples.specs.declared.transition_reports.checker.Checker.{Checker}
 use Rattle.typed_unit.specs.declared.typed_unit.TypedUnit.{TypedUnit}
 

@@ -24,9 +24,6 @@ use Rattle.typed_unit.specs.declared.typed_unit.TypedUnit.{TypedUnit}
 abbrev pub checker_at : Checker → ℕ → reports.Checker
 checker_at c depth = record { number = c.number; machine = machine_view c.machine.now; depth = depth; names = c.names.now }
 
-abbrev pub happening_in : TypedUnit → Event → Happening
-happening_in u e = record { facts = facts_in u; tokens = u.unit.tokens.now; event = event_of e }
-
 -- THE TAKEN RULE is that of this number, with this binding
 pub record IsTaken (m : Machine) (number : ℕ) (b : Binding) (t : Taken) : Type 0 where
   pub rule : rule_numbered number m.rules ≡ Some t.rule

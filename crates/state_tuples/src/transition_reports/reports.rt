@@ -7,7 +7,8 @@ ghost use Rattle.path_model.specs.CheckerModel.Reports.{report_of};
 ghost use Rattle.hole_matcher.specs.HoleBindings.Bindings.{binding_of};
 ghost use Rattle.hole_matcher.specs.HoleMessages.Sources.{maybe_object};
 ghost use Rattle.metal_tree.specs.Whole.{machine_view};
-ghost use Rattle.state_tuples.specs.TransitionReports.TakenRules.{IsTaken, checker_at, happening_in, report_with};
+ghost use Rattle.state_tuples.specs.TransitionReports.TakenRules.{IsTaken, checker_at, report_with};
+ghost use Rattle.state_tuples.specs.Values.{happening_in};
 
 use crate::transition_reports::checker::Checker;
 use crate::transition_reports::places::token_of;

@@ -1,6 +1,5 @@
 use Rattle.std.proofs.Common.{◌∙◌, sym, ap, cond, None, Some}
-use Rattle.event_tables.specs.Touched.{row_of}
-use Rattle.numbered_tuples.specs.FollowedObjects.{number_of}
+use Rattle.numbered_tuples.specs.FollowedObjects.{number_of, row_of}
 use Rattle.event_tables.proofs.touched.touched_from.Goals as goal
 
 pub returns-then-is_same : goal.returns-then-is_same

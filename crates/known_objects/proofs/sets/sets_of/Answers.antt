@@ -1,6 +1,6 @@
 use Rattle.std.proofs.Common.{[], map, length, ◌∙◌, sym, ap, subst}
 use Rattle.std.proofs.lemmas.List.{length-map, length-replicate}
-use Rattle.known_objects.proofs.FunctionSets.{AreDistinct, no-sets, none-distinct, sets-next, distinct-next, sets-all, each-once, same-count}
+use Rattle.known_objects.proofs.FunctionSets.{AreEachDistinct, no-sets, none-distinct, sets-next, distinct-next, sets-all, each-once, same-count}
 use Rattle.known_objects.proofs.sets.sets_of.Goals as goal
 use Rattle.known_objects.specs.ByFunction.{AreSets}
 
@@ -10,7 +10,7 @@ loop-member-init c =
     let empty = c.in_ok-sets.ensures in record {
       count = sym (length-map sets (λ s. s.keys)) ∙ ap length empty ∙ length-replicate c.args.count [];
       sets = subst (AreSets []) (sym empty) (no-sets c.args.count);
-      distinct = subst AreDistinct (sym empty) (none-distinct c.args.count);
+      distinct = subst AreEachDistinct (sym empty) (none-distinct c.args.count);
     }
 
 pub loop-member-preserved : goal.loop-member-preserved

@@ -5,7 +5,8 @@ use Rattle.function_tables.proofs.EngineTables.Places.{if-ok, apart-in}
 use Rattle.function_tables.specs.EngineTables.Known.{checker_in, texts_in, graphs_in, objects_in}
 use Rattle.least_set.specs.Logs.{IsExactly}
 use Rattle.saturation.proofs.KnownSets.{bound-objects, followable}
-use Rattle.saturation.specs.MetStates.{Member, IsBoundWhereMet}
+use Rattle.saturation.specs.MetStates.{IsBoundWhereMet}
+use Rattle.path_model.specs.CheckerGraphs.Members.{Member}
 use Rattle.saturation.proofs.followed_sets.followed_sets.Goals as goal
 
 pub returns : goal.returns

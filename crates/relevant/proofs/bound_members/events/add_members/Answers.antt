@@ -1,7 +1,7 @@
 use Rattle.std.proofs.Common.{◌≡◌, ◌∷◌, [], ◌++◌, length, sym, ap, subst, ◌∙◌, append_assoc, append-nil, arith}
 use Rattle.std.proofs.lemmas.List.{nil_from_length}
 use Rattle.std.specs.Vec.Iter.{into_iter_items}
-use Rattle.relevant.specs.RelevantObjects.Links.{members}
+use Rattle.path_model.specs.CheckerGraphs.Members.{members}
 use Rattle.relevant.proofs.RelevantObjects.Adding.{pushed-member}
 use Rattle.relevant.proofs.bound_members.events.add_members.Goals as goal
 

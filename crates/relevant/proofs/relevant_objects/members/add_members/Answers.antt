@@ -1,6 +1,6 @@
 use Rattle.std.proofs.Common.{◌≡◌, ◌∷◌, [], ◌++◌, List, length, refl, sym, ap, subst, ◌∙◌, append_assoc, append-nil, arith}
 use Rattle.std.specs.Vec.Iter.{into_iter_items}
-use Rattle.relevant.specs.RelevantObjects.Links.{members}
+use Rattle.path_model.specs.CheckerGraphs.Members.{members}
 use Rattle.relevant.proofs.RelevantObjects.Adding.{pushed-member}
 use Rattle.relevant.proofs.relevant_objects.members.add_members.Goals as goal
 

@@ -1,6 +1,6 @@
 use Rattle.std.proofs.Common.{◌≡◌, ◌++◌, length}
 use Rattle.std.specs.Vec.Iter.{into_iter_items, into_iter_len}
-use Rattle.relevant.specs.RelevantObjects.Links.{members}
+use Rattle.path_model.specs.CheckerGraphs.Members.{members}
 use Rattle.relevant.proofs.relevant_objects.members.add_members.Given as goal
 
 -- those that were gone through were put behind
