@@ -93,10 +93,10 @@ module _ (depth : ℕ) (o : Object) where
   -- where nothing becomes it through the first, the first behind it is the first
   first-later : (x : Option CVar) (xs : List (Option CVar)) (actuals : List (Option Object)) (c : Object)
       → ((d : Object) → BecomesThrough depth (x ∷ xs) actuals 0 d o → ⊥) → BecomesFirst depth xs (behind_first actuals) c o → BecomesFirst depth (x ∷ xs) actuals c o
-  first-later x xs actuals c no f = record { position = suc f.position; through = later x xs actuals f.position c f.through; first = by }
+  first-later x xs actuals c none f = record { position = suc f.position; through = later x xs actuals f.position c f.through; first = by }
     where
       by : (n : ℕ) (d : Object) → BecomesThrough depth (x ∷ xs) actuals n d o → suc f.position ≤ n
-      by zero d b = absurd (no d b)
+      by zero d b = absurd (none d b)
       by (suc n) d b = let h = f.first n d (earlier x xs actuals n d b) in omega (arith, h)
 
   first-earlier : (x : Option CVar) (xs : List (Option CVar)) (actuals : List (Option Object)) (c : Object) (n : ℕ) → BecomesThrough depth (x ∷ xs) actuals (suc n) c o
