@@ -2,14 +2,13 @@
 use Rattle.std.specs.Prelude.{◌≡◌, ◌<◌, ℕ, List, Option, Some, slice_get}
 use Rattle.std.specs.Borrow.{Bor}
 use Rattle.std.specs.Option.{option_map}
-use Rattle.flow_graph.specs.CPaths.Building.{Graph}
 use Rattle.c_tree.specs.Node.{Node}
 use Rattle.c_tree.specs.Views.{node_of}
 use Rattle.type_rules.specs.Functions.{Defined}
 use Rattle.type_rules.specs.Options.{◌>?◌}
 use Rattle.flow_graph.specs.Seen.{graph_in}
 use Rattle.function_tables.specs.declared.table.FunctionTable.{FunctionTable}
-use Rattle.path_model.specs.CheckerGraphs.Ends.{call_in}
+use Rattle.path_model.specs.CheckerGraphs.Ends.{call_at}
 use Rattle.call_graph.specs.OfPrograms.Definitions.{definitions, trees_in}
 use Rattle.flow_graph.specs.ReachedBlocks.Reached.{Reaches}
 use Rattle.refine_restore.specs.Sites.{formals_of}

@@ -1,6 +1,6 @@
 -- THE LINKS between objects of functions: at the events of a function, and over the calls between two.
-use Rattle.std.specs.Prelude.{◌≡◌, ◌⊎◌, ℕ, List, Bool, true, Contains, map, Some, slice_get}
-use Rattle.c_objects.specs.Objects.{Object, IsObject}
+use Rattle.std.specs.Prelude.{◌≡◌, ◌⊎◌, ℕ, List, Bool, true, Contains, Some, slice_get}
+use Rattle.c_objects.specs.Objects.{IsObject}
 use Rattle.flow_graph.specs.declared.event.Event.{Event}
 use Rattle.flow_graph.specs.Values.{event_of}
 use Rattle.least_set.specs.Logs.{SomeGives}
