@@ -15,7 +15,7 @@ use Rattle.flow_graph.specs.Seen.{graph_in}
 use Rattle.least_set.specs.Logs.{IsExactly, SomeGives}
 use Rattle.path_edges.specs.declared.edges.Edge.{Edge}
 use Rattle.path_edges.specs.Edges.{tuple_in}
-use Rattle.path_edges.specs.Masks.{model_under, origins_under, objects_under}
+use Rattle.block_flows.specs.Masks.{model_under, origins_under, objects_under}
 use Rattle.block_flows.proofs.TupleFlows.Followed.{contains-in, in-contains}
 use Rattle.path_edges.specs.Relations.{Begins}
 use Rattle.path_theory.specs.Facts.{FactOf}

@@ -17,7 +17,7 @@ use Rattle.flow_graph.specs.Seen.{graph_in}
 use Rattle.least_set.specs.Logs.{IsExactly}
 use Rattle.path_edges.specs.declared.edges.Edge.{Edge}
 use Rattle.path_edges.specs.Edges.{edge_in, tuple_in}
-use Rattle.path_edges.specs.Masks.{model_under, origins_under, objects_under, graphs_under}
+use Rattle.block_flows.specs.Masks.{model_under, origins_under, objects_under, graphs_under}
 use Rattle.path_theory.specs.BlockEdges.{Crosses}
 use Rattle.function_tables.specs.declared.engine_tables.frames.Frame.{Frame}
 use Rattle.function_tables.specs.declared.engine_tables.tables.Tables.{Tables}

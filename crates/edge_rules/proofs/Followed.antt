@@ -22,7 +22,7 @@ use Rattle.typed_unit.specs.Texts.{Text}
 use Rattle.edge_rules.specs.Entries.{IsEntry}
 use Rattle.path_edges.specs.EdgeSteps.Steps.{StandsBehind, EntersBy, IsNext, Onward, Inward, edge_at, frame_edge}
 use Rattle.path_edges.proofs.MaskedCalls.{call-of}
-use Rattle.path_edges.specs.Masks.{model_under, origins_under, objects_under, graphs_under}
+use Rattle.block_flows.specs.Masks.{model_under, origins_under, objects_under, graphs_under}
 use Rattle.block_flows.specs.FollowedLists.{mask_in}
 use Rattle.path_edges.proofs.EdgeSteps.Lists.{exactly-same, exactly-none}
 use Rattle.path_edges.proofs.EdgeSteps.Nexts.{leads-next, next-leads, jump-next, passed-next, last-next}

@@ -12,7 +12,7 @@ use Rattle.numbered_calls.proofs.NumberedItems.{placed}
 use Rattle.numbered_calls.specs.Stands.{IsNumberedBy}
 use Rattle.numbered_paths.specs.Views.{AreNumbers, Views}
 use Rattle.numbered_tuples.proofs.Numbers.{item_at}
-use Rattle.path_edges.specs.Masks.{graphs_under, model_under, objects_under}
+use Rattle.block_flows.specs.Masks.{graphs_under, model_under, objects_under}
 use Rattle.path_model.specs.CheckerModel.Happenings.{Function}
 use Rattle.path_model.specs.CheckerModel.Reports.{Checker}
 use Rattle.typed_unit.specs.Texts.{Text}

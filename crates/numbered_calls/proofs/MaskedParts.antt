@@ -23,8 +23,7 @@ use Rattle.numbered_paths.specs.RowParts.{IsNumberOf}
 use Rattle.numbered_paths.specs.Views.{AreNumbers, Views}
 use Rattle.numbered_tuples.proofs.Numbers.{item_at}
 use Rattle.numbered_tuples.specs.FollowedObjects.{number_of, row_of}
-use Rattle.path_edges.proofs.MaskedCalls.{between}
-use Rattle.path_edges.specs.Masks.{graphs_under, model_under, objects_under, origins_under}
+use Rattle.block_flows.specs.Masks.{between, graphs_under, model_under, objects_under, origins_under}
 use Rattle.path_model.specs.CheckerModel.Calls.{into, out}
 use Rattle.path_model.specs.CheckerModel.Checkers.{model, origins}
 use Rattle.path_model.specs.CheckerModel.Happenings.{Function, Site}

@@ -8,8 +8,7 @@ use Rattle.numbered_calls.specs.FollowedCall.{IsFollowedCall}
 use Rattle.numbered_calls.specs.Rows.{entered_rows, handed_rows, saved_flags}
 use Rattle.numbered_calls.specs.Stands.{StandsForSites}
 use Rattle.numbered_engine.specs.declared.program.Call.{Call}
-use Rattle.path_edges.proofs.MaskedCalls.{between}
-use Rattle.path_edges.specs.Masks.{graphs_under, model_under, objects_under, origins_under}
+use Rattle.block_flows.specs.Masks.{between, graphs_under, model_under, objects_under, origins_under}
 use Rattle.path_model.specs.CheckerModel.Happenings.{Site}
 use Rattle.refine_restore.specs.Sites.{site_of}
 use Rattle.refine_restore.specs.declared.site.Site as code

@@ -6,7 +6,7 @@ use Rattle.flow_graph.specs.CPaths.Building.{Graph}
 use Rattle.numbered_engine.specs.declared.program.Call.{Call}
 use Rattle.numbered_paths.specs.Calls.{IsCall}
 use Rattle.numbered_paths.specs.Views.{AreNumbers, Views}
-use Rattle.path_edges.specs.Masks.{graphs_under, model_under, objects_under, origins_under}
+use Rattle.block_flows.specs.Masks.{graphs_under, model_under, objects_under, origins_under}
 use Rattle.path_model.specs.CheckerModel.Happenings.{Function, Site}
 use Rattle.path_model.specs.CheckerModel.Reports.{Checker}
 use Rattle.refine_restore.specs.declared.site.Site as code

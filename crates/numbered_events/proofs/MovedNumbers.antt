@@ -17,7 +17,7 @@ use Rattle.least_set.specs.Logs.{IsOnce}
 use Rattle.numbered_tuples.proofs.Numbers.{item_at}
 use Rattle.numbered_tuples.specs.FollowedObjects.{number_of, row_of}
 use Rattle.objects.specs.Equality.{same_object, same_object-true}
-use Rattle.path_edges.specs.Masks.{origins_under}
+use Rattle.block_flows.specs.Masks.{origins_under}
 use Rattle.path_model.proofs.CheckerModel.Sources.{untested}
 use Rattle.path_model.specs.CheckerModel.Checkers.{model, origins}
 use Rattle.path_model.specs.CheckerModel.Happenings.{Function, Happening}

@@ -21,7 +21,7 @@ use Rattle.numbered_paths.specs.RowParts.{AreChoicesOf, AreFiringsOf, IsMoveOf, 
 use Rattle.numbered_paths.specs.Rows.{AreRows, StandFor}
 use Rattle.numbered_paths.specs.Views.{AreNumbers, IsKnown, IsState, IsUnknown, Views}
 use Rattle.numbered_tuples.specs.ObjectStates.{number_of_state}
-use Rattle.path_edges.specs.Masks.{model_under, objects_under, origins_under}
+use Rattle.block_flows.specs.Masks.{model_under, objects_under, origins_under}
 use Rattle.path_model.specs.CheckerModel.Checkers.{model}
 use Rattle.path_model.specs.CheckerModel.Choices.{State, chosen, next_global}
 use Rattle.path_model.specs.CheckerModel.Happenings.{Function, Happening}

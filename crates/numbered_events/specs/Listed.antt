@@ -8,7 +8,7 @@ use Rattle.least_set.specs.Logs.{IsOnce}
 use Rattle.metal_tree.specs.MetalMachines.Machine.{Rule}
 use Rattle.numbered_paths.specs.Views.{Views}
 use Rattle.numbered_tuples.specs.ObjectStates.{states_of_rules}
-use Rattle.path_edges.specs.Masks.{model_under}
+use Rattle.block_flows.specs.Masks.{model_under}
 use Rattle.path_model.specs.CheckerModel.Choices.{State}
 use Rattle.path_model.specs.CheckerModel.Happenings.{Function}
 use Rattle.path_model.specs.CheckerModel.Reports.{Checker}

@@ -9,7 +9,7 @@ use Rattle.numbered_events.specs.Saying.{Says}
 use Rattle.numbered_paths.specs.RowParts.{IsRowOf}
 use Rattle.numbered_paths.specs.Rows.{StandFor}
 use Rattle.numbered_paths.specs.Views.{AreNumbers, Views}
-use Rattle.path_edges.specs.Masks.{graphs_under, model_under, objects_under, origins_under}
+use Rattle.block_flows.specs.Masks.{graphs_under, model_under, objects_under, origins_under}
 use Rattle.path_model.specs.CheckerModel.Checkers.{model}
 use Rattle.path_model.specs.CheckerModel.Choices.{State}
 use Rattle.path_model.specs.CheckerModel.Happenings.{Function, Happening}

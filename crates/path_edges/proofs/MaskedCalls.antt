@@ -10,11 +10,7 @@ use Rattle.path_model.specs.CheckerPrograms.Roots.{followed_into}
 use Rattle.type_rules.specs.Options.{if_there}
 use Rattle.typed_unit.specs.Texts.{Text}
 use Rattle.path_edges.specs.Edges.{caller_at, callee_at, call_site_at, no_function, site_at}
-use Rattle.path_edges.specs.Masks.{graphs_under}
-
--- the site of a call with its two functions
-abbrev pub between : Function → Site → Function → masks.SiteIn Function Site
-between f s h = record { caller = f; site = s; callee = h }
+use Rattle.block_flows.specs.Masks.{between, graphs_under}
 
 module _ (c : Checker) (ts : List Text) (gs : List Graph) (lists : List (List Object)) where
   abbrev pub MaskedCall : Function → ℕ → masks.SiteIn Function Site → Function → ℕ → Type 0

@@ -11,7 +11,7 @@ use Rattle.masked_paths.specs.Met.{CoversBlocks}
 use Rattle.path_edges.proofs.Numbers.{have-numbers}
 use Rattle.path_edges.proofs.Values.{complete}
 use Rattle.path_edges.specs.Edges.{edge_in}
-use Rattle.path_edges.specs.Masks.{model_under, origins_under, objects_under, graphs_under}
+use Rattle.block_flows.specs.Masks.{model_under, origins_under, objects_under, graphs_under}
 use Rattle.path_edges.specs.MetStates.{StandsAt, stands_in}
 use Rattle.path_edges.specs.Relations.{IsClosedLog}
 use Rattle.path_edges.specs.declared.edges.Edge.{Edge}

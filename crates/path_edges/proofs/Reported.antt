@@ -16,7 +16,7 @@ use Rattle.least_set.specs.Logs.{SomeGives}
 use Rattle.path_edges.specs.declared.edges.Edge.{Edge}
 use Rattle.path_edges.specs.Edges.{edge_in, context_in, waiter_in}
 use Rattle.path_edges.specs.Relations.{Begins, LeadsTo, WaitsAt, IsEndOf, IsWoken, ShowsAt, IsClosedLog, IsLeastLog}
-use Rattle.path_edges.specs.Theorems.{AreEnough}
+use Rattle.block_flows.specs.Masks.{AreEnough}
 use Rattle.path_edges.proofs.Numbers.{have-numbers}
 use Rattle.path_edges.proofs.Values.{sound, complete}
 use Rattle.report_model.specs.declared.report.Report.{Report}

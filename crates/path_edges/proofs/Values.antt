@@ -19,7 +19,7 @@ use Rattle.path_edges.specs.declared.edges.Edge.{Edge}
 use Rattle.path_edges.specs.declared.edges.Waiter.{Waiter}
 use Rattle.path_edges.specs.Edges.{tuple_in, context_in, edge_in, waiter_in, call_site_at, no_site, site_at}
 use Rattle.path_model.specs.CheckerGraphs.Ends.{call_in, call_at}
-use Rattle.path_edges.specs.Masks.{model_under, origins_under, objects_under, graphs_under}
+use Rattle.block_flows.specs.Masks.{model_under, origins_under, objects_under, graphs_under}
 use Rattle.path_edges.proofs.MaskedCalls.{MaskedCall, call-of, site-between}
 use Rattle.path_edges.specs.Relations.{Begins, LeadsTo, WaitsAt, IsEndOf, IsWoken}
 use Rattle.path_theory.specs.Facts.{FactOf, NoObject, HasObject}

@@ -1,6 +1,5 @@
 pub mod Equality
 pub mod Edges
-pub mod Masks
 pub mod MetStates
 pub mod Relations
 pub mod Theorems

@@ -10,7 +10,7 @@ use Rattle.path_edges.specs.declared.edges.Context.{Context}
 use Rattle.path_edges.specs.declared.edges.Edge.{Edge}
 use Rattle.path_edges.specs.declared.edges.Waiter.{Waiter}
 use Rattle.path_edges.specs.Edges.{context_in, edge_in, waiter_in}
-use Rattle.path_edges.specs.Masks.{model_under, origins_under, objects_under, graphs_under}
+use Rattle.block_flows.specs.Masks.{model_under, origins_under, objects_under, graphs_under}
 use Rattle.least_set.specs.TwoPremises.{Follows, Least}
 use Rattle.report_model.specs.declared.report.Report.{Report}
 use Rattle.path_theory.specs.TabulationRules.Rules.{Base, Goes, Waits, Ends, Wakes, ShowsReport}

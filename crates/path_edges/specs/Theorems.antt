@@ -1,26 +1,20 @@
 -- The theorems on edges as statements, which contracts can name.
 use Rattle.std.specs.Prelude.{◌≡◌, ◌↔◌, ℕ, List, [], Some, slice_get}
+use Rattle.block_flows.specs.Masks.{AreEnough}
 use Rattle.c_objects.specs.Objects.{Object}
 use Rattle.flow_graph.specs.CPaths.Building.{Graph}
-use Rattle.masked_paths.specs.Enough.{IsEnough}
 use Rattle.masked_paths.specs.Met.{CoversBlocks}
 use Rattle.path_model.specs.CheckerGraphs.Graphs.{AreGraphs, flow_graphs}
-use Rattle.path_model.specs.CheckerModel.Checkers.{model, origins}
+use Rattle.path_model.specs.CheckerModel.Checkers.{model}
 use Rattle.path_model.specs.CheckerModel.Reports.{Checker}
 use Rattle.path_model.specs.CheckerPrograms.Paths.{program}
 use Rattle.typed_unit.specs.Texts.{Text}
 use Rattle.least_set.specs.Logs.{SomeGives}
 use Rattle.path_edges.specs.declared.edges.Edge.{Edge}
-use Rattle.path_edges.specs.Masks.{objects_under}
 use Rattle.path_edges.specs.MetStates.{stands_in}
 use Rattle.path_edges.specs.Relations.{IsClosedLog, IsLeastLog, ShowsAt}
 use Rattle.report_model.specs.declared.report.Report.{Report}
-use Rattle.path_theory.specs.FlowGraphs.{supergraph}
 use Rattle.path_theory.specs.Paths.{Reported}
-
--- it is enough to follow the objects of these lists
-abbrev pub AreEnough : Checker → List Text → List Graph → List (List Object) → Type 0
-AreEnough c ts gs lists = IsEnough (model c) (supergraph (model c) (flow_graphs c ts gs)) (origins c) (objects_under c ts lists)
 
 abbrev pub LeastEdgesReport : Type 0
 LeastEdgesReport = (c : Checker) (ts : List Text) (gs : List Graph) → AreGraphs ts gs → (lists : List (List Object)) → AreEnough c ts gs lists

@@ -12,7 +12,7 @@ use Rattle.path_model.specs.CheckerGraphs.Graphs.{flow_graphs, function_at, grap
 use Rattle.path_model.specs.CheckerModel.Choices.{State}
 use Rattle.path_model.specs.CheckerModel.Happenings.{Function, Site}
 use Rattle.path_model.specs.CheckerModel.Reports.{Checker}
-use Rattle.path_edges.specs.Masks.{model_under, origins_under, objects_under, graphs_under}
+use Rattle.block_flows.specs.Masks.{model_under, origins_under, objects_under, graphs_under}
 use Rattle.path_model.specs.CheckerPrograms.Roots.{followed_into}
 use Rattle.path_model.specs.CheckerPrograms.Texts.{site}
 use Rattle.typed_unit.specs.Texts.{Text}

@@ -16,8 +16,8 @@ use Rattle.block_flows.specs.FollowedLists.{is_followed, mask_in}
 use Rattle.masked_paths.specs.Masked.{SiteIn}
 use Rattle.masked_paths.specs.StrictFlows.Among.{if_followed, of_followed}
 use Rattle.masked_paths.proofs.StrictFlows.Among.{return_among}
-use Rattle.path_edges.specs.Masks.{model_under, origins_under, objects_under, graphs_under}
-use Rattle.path_edges.proofs.MaskedCalls.{between, caller-is}
+use Rattle.block_flows.specs.Masks.{between, graphs_under, model_under, objects_under, origins_under}
+use Rattle.path_edges.proofs.MaskedCalls.{caller-is}
 use Rattle.path_edges.proofs.EdgeSteps.Lists.{exactly-none}
 use Rattle.path_edges.proofs.EdgeSteps.Views.{edge-seen, tuple_with, tuple-there}
 use Rattle.least_set.specs.Logs.{IsExactly, SomeGives}

@@ -15,8 +15,8 @@ use Rattle.block_flows.specs.FollowedLists.{is_followed, mask_in}
 use Rattle.block_flows.specs.TupleFlows.Passed.{out_in}
 use Rattle.masked_paths.specs.Masked.{SiteIn}
 use Rattle.masked_paths.proofs.StrictFlows.Among.{origins_are, call_among}
-use Rattle.path_edges.specs.Masks.{model_under, origins_under, objects_under, graphs_under}
-use Rattle.path_edges.proofs.MaskedCalls.{MaskedCall, between, call-of, masked-call, site-between}
+use Rattle.block_flows.specs.Masks.{between, graphs_under, model_under, objects_under, origins_under}
+use Rattle.path_edges.proofs.MaskedCalls.{MaskedCall, call-of, masked-call, site-between}
 use Rattle.path_theory.specs.Origins.{Origins}
 use Rattle.path_edges.proofs.EdgeSteps.Lists.{exactly-none}
 use Rattle.path_edges.proofs.EdgeSteps.Views.{context-seen, tuple-seen, tuple_with, tuple-there}

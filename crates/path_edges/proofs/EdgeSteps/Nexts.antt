@@ -19,9 +19,9 @@ use Rattle.typed_unit.specs.Texts.{Text}
 use Rattle.least_set.specs.Logs.{IsExactly}
 use Rattle.path_edges.specs.declared.edges.Edge.{Edge}
 use Rattle.path_edges.specs.Edges.{edge_in, tuple_in, context_in}
-use Rattle.path_edges.specs.Masks.{model_under, origins_under, objects_under, graphs_under}
+use Rattle.block_flows.specs.Masks.{between, graphs_under, model_under, objects_under, origins_under}
 use Rattle.path_edges.specs.Relations as relations
-use Rattle.path_edges.proofs.MaskedCalls.{between, call-of, masked-call}
+use Rattle.path_edges.proofs.MaskedCalls.{call-of, masked-call}
 use Rattle.path_theory.specs.Facts.{FactOf}
 use Rattle.path_theory.specs.Flows.{CallFlow}
 use Rattle.path_edges.specs.EdgeSteps.Steps.{StandsBehind, IsNext, Onward, Inward, edge_at, frame_edge}

@@ -21,7 +21,7 @@ use Rattle.path_edges.specs.declared.edges.Context.{Context}
 use Rattle.path_edges.specs.declared.edges.Edge.{Edge}
 use Rattle.path_edges.specs.declared.edges.Waiter.{Waiter}
 use Rattle.path_edges.specs.Edges.{edge_in, tuple_in}
-use Rattle.path_edges.specs.Masks.{model_under, origins_under, objects_under, graphs_under}
+use Rattle.block_flows.specs.Masks.{model_under, origins_under, objects_under, graphs_under}
 use Rattle.path_theory.specs.Facts.{FactOf}
 use Rattle.path_theory.specs.Flows.{Starts, CallFlow}
 use Rattle.state_tuples.specs.declared.tuple.Tuple.{Tuple}

@@ -26,7 +26,7 @@ use Rattle.function_tables.specs.declared.table.BlockTable.{BlockTable}
 use Rattle.least_set.specs.Logs.{IsExactly}
 use Rattle.least_set.proofs.Growing.{nothing}
 use Rattle.path_edges.specs.declared.edges.Edge.{Edge}
-use Rattle.path_edges.specs.Masks.{model_under, origins_under, objects_under}
+use Rattle.block_flows.specs.Masks.{model_under, origins_under, objects_under}
 use Rattle.path_edges.specs.Relations.{ShowsAt}
 use Rattle.path_theory.specs.BlockEdges.{Shows}
 use Rattle.report_model.specs.declared.report.Report.{Report}

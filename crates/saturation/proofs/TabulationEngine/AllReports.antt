@@ -8,7 +8,8 @@ use Rattle.function_tables.specs.declared.engine_tables.tables.Tables.{Tables}
 use Rattle.least_set.specs.Logs.{IsExactly, SomeGives}
 use Rattle.path_edges.specs.declared.edges.Edge.{Edge}
 use Rattle.path_edges.specs.Relations.{IsClosedLog, IsLeastLog, ShowsAt}
-use Rattle.path_edges.specs.Theorems.{AreEnough, LeastEdgesReport}
+use Rattle.block_flows.specs.Masks.{AreEnough}
+use Rattle.path_edges.specs.Theorems.{LeastEdgesReport}
 use Rattle.path_theory.specs.Paths.{Reported}
 use Rattle.report_model.specs.declared.report.Report.{Report}
 

@@ -5,7 +5,7 @@ ghost use Rattle.path_model.specs.CheckerModel.Checkers.{model};
 ghost use Rattle.path_model.specs.CheckerPrograms.Paths.{program};
 ghost use Rattle.function_tables.specs.EngineTables.Known.{checker_in, texts_in, graphs_in, objects_in};
 ghost use Rattle.path_edges.specs.Relations.{IsClosedLog, IsLeastLog};
-ghost use Rattle.path_edges.specs.Theorems.{AreEnough};
+ghost use Rattle.block_flows.specs.Masks.{AreEnough};
 ghost use Rattle.path_theory.specs.Paths.{Reported};
 ghost use Rattle.report_model.specs.declared.report.Report.{Report as Said};
 

@@ -1,6 +1,6 @@
 use Rattle.numbered_events.proofs.StandingRows.{is_row_of}
 use Rattle.numbered_events.proofs.theorems.rows_stand_for_events.Goals as goal
-use Rattle.path_edges.specs.Masks.{graphs_under}
+use Rattle.block_flows.specs.Masks.{graphs_under}
 
 pub returns : goal.returns
 returns c checker ts gs lists V n f followed states known h row is es number here k =

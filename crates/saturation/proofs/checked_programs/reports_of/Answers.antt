@@ -5,7 +5,7 @@ use Rattle.c_objects.specs.Objects.{Object}
 use Rattle.flow_graph.specs.CPaths.Building.{Graph}
 use Rattle.flow_graph.specs.Seen.{graph_in}
 use Rattle.function_tables.specs.declared.table.FunctionTable.{FunctionTable}
-use Rattle.path_edges.specs.Theorems.{AreEnough}
+use Rattle.block_flows.specs.Masks.{AreEnough}
 use Rattle.path_model.proofs.CheckerGraphs.Units.{functions-are}
 use Rattle.path_model.specs.CheckerPrograms.Texts.{functions_in}
 use Rattle.typed_unit.specs.Texts.{texts_of}
