@@ -1,2 +1,4 @@
 pub mod ComparedKinds
-pub mod ComparedLists
+pub mod Rebuilt
+pub mod SeenLevels
+pub mod Sizes

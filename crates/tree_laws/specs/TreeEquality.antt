@@ -1,1 +1,2 @@
 pub use Rattle.c_tree.specs.Compared
+pub mod Levels

@@ -1,5 +1,4 @@
 //! Copies of syntax trees in another arena.
-#![tactic(auto, using(c_tree::proofs::Rows::nodes_out))]
 
 mod copies;
 

@@ -1,8 +1,9 @@
-//! Whether two syntax trees are equal: as they stand, or as C reads them.
-#![tactic(auto, using(c_tree::proofs::Rows::nodes_out))]
+//! Whether two syntax trees are equal: as they are written, or as C reads them. Both are one walk, which goes level by level.
 
 mod equality;
-mod sameness;
+mod heads;
+mod levels;
+mod same_heads;
+mod seen;
 
-pub use equality::equal_tree;
-pub use sameness::same_tree;
+pub use equality::{equal_tree, same_tree};

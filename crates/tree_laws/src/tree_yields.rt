@@ -1,5 +1,4 @@
 //! Whether tokens are those of a syntax tree.
-#![tactic(auto, using(c_tree::proofs::Rows::nodes_out))]
 
 mod leading;
 mod yielded;

@@ -1,7 +1,7 @@
 -- What follows the symbols of a phrase, if they stand in front: a phrase taken off symbols, piece by piece.
 use Rattle.std.specs.Prelude.{ℕ, Bool, true, false, not, cond, ◌==◌, ◌&&◌, List, [], ◌∷◌, Option, None, Some}
 use Rattle.std.specs.Borrow.{Bor}
-use Rattle.std.specs.Option.{option_map, option_and_then}
+use Rattle.std.specs.Option.{option_map}
 use Rattle.c_tree.specs.declared.token.FloatEnd.{FloatEnd}
 use Rattle.c_tree.specs.declared.token.FloatEnd.TheVariants as ends
 use Rattle.c_tree.specs.declared.token.Token.{Token}
@@ -35,15 +35,20 @@ abbrev pub after_symbol : Symbol → List Symbol → Option (List Symbol)
 after_symbol s [] = None
 after_symbol s (t ∷ ts) = cond (same_symbol s t) (Some ts) None
 
-abbrev pub after_symbols : List Symbol → List Symbol → Option (List Symbol)
-after_symbols [] ts = Some ts
-after_symbols (s ∷ ss) ts = option_and_then (after_symbols ss) (after_symbol s ts)
+-- nothing follows where nothing is left
+abbrev pub after_one : Symbol → Option (List Symbol) → Option (List Symbol)
+after_one s None = None
+after_one s (Some ts) = after_symbol s ts
 
-abbrev pub after_phrase : Phrase → List Symbol → Option (List Symbol)
-after_phrase nothing ts = Some ts
-after_phrase (one s) ts = after_symbol s ts
+abbrev pub after_symbols : List Symbol → Option (List Symbol) → Option (List Symbol)
+after_symbols [] ts = ts
+after_symbols (s ∷ ss) ts = after_symbols ss (after_one s ts)
+
+abbrev pub after_phrase : Phrase → Option (List Symbol) → Option (List Symbol)
+after_phrase nothing ts = ts
+after_phrase (one s) ts = after_one s ts
 after_phrase (all ss) ts = after_symbols ss ts
-after_phrase (p ⨾ q) ts = option_and_then (after_phrase q) (after_phrase p ts)
+after_phrase (p ⨾ q) ts = after_phrase q (after_phrase p ts)
 
 -- the symbols of the tokens that are left
 abbrev pub rest_of : Option (Bor (List Token)) → Option (List Symbol)

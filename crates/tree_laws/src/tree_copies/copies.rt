@@ -412,6 +412,7 @@ fn copy_optional<'b>(
 
 /// Equal nodes side by side in the second arena.
 #[cycle(copy)]
+#[tactic(auto, using(c_tree::proofs::Rows::nodes_out))]
 fn copy_list<'b>(arena: &'b Arena, trees: &Trees) -> Result<Trees<'b>, AllocError>
     ensures { IfOk result (λ copy. nodes_of copy ≡ nodes_of trees.now) }
 {

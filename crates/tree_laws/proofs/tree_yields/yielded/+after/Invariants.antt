@@ -1,22 +1,21 @@
 use Rattle.std.proofs.Common.{◌≡◌, ℕ, ◌+◌, ◌*◌, cond, drop, Option, None, Some}
 use Rattle.std.specs.Borrow.{Bor}
 use Rattle.c_tree.specs.declared.tree.Tree.{Tree, size-Tree}
-use Rattle.c_tree.specs.Symbol.{symbols_of}
 use Rattle.c_tree.specs.Forget.{view_all, list_view}
 use Rattle.c_tree.specs.Tokens.{row_phrase, list_phrase, more_phrase}
-use Rattle.tree_laws.specs.TreeYields.After.{after_phrase}
+use Rattle.tree_laws.specs.TreeYields.After.{after_phrase, rest_of}
 use Rattle.tree_laws.proofs.tree_yields.yielded.+after.Given as goal
 
 -- taking off what is left gives what taking off the whole gives
 abbrev pub invariant-after_row-loop-tree : goal.invariant-after_row-loop-tree
 invariant-after_row-loop-tree l =
     let left = view_all (drop l.tree-index l.tree-items) in
-    after_phrase (row_phrase left) (symbols_of l.rest) ≡ after_phrase (row_phrase (list_view l.trees)) (symbols_of l.fn.tokens)
+    after_phrase (row_phrase left) (rest_of l.rest) ≡ after_phrase (row_phrase (list_view l.trees)) (rest_of l.fn.tokens)
 
 abbrev pub invariant-after_list-loop-tree : goal.invariant-after_list-loop-tree
 invariant-after_list-loop-tree l =
     let left = view_all (drop l.tree-index l.tree-items) in
-    after_phrase (cond l.is_first (list_phrase left) (more_phrase left)) (symbols_of l.rest) ≡ after_phrase (list_phrase (list_view l.trees)) (symbols_of l.fn.tokens)
+    after_phrase (cond l.is_first (list_phrase left) (more_phrase left)) (rest_of l.rest) ≡ after_phrase (list_phrase (list_view l.trees)) (rest_of l.fn.tokens)
 
 abbrev maybe_size : Option (Bor Tree) → ℕ
 maybe_size None = 0
@@ -30,6 +29,9 @@ decreases-after_declarator l = 2 * goal.size-after_declarator l
 
 abbrev pub decreases-after_else : goal.decreases-after_else
 decreases-after_else l = maybe_size l.tree
+
+abbrev pub decreases-after_ended : goal.decreases-after_ended
+decreases-after_ended l = maybe_size l.tree
 
 abbrev pub decreases-after_initializer : goal.decreases-after_initializer
 decreases-after_initializer l = 2 * goal.size-after_initializer l
