@@ -1,6 +1,7 @@
 //! Trees copied into another arena.
 
 ghost use Rattle.std.specs.Prelude.{◌≡◌, IfOk};
+ghost use Rattle.c_tree.specs.Node as nodes;
 ghost use Rattle.c_tree.specs.Views.{maybe_token, node_of, shape_of, option_node, nodes_of, primary_shape, operation_shape, initializer_shape, specifier_shape, declarator_shape, part_shape, outer_shape, statement_shape, iteration_shape, jump_shape};
 
 use bumpalo::collections::into_bump_slice;
@@ -37,363 +38,365 @@ fn copy_kind<'b>(arena: &'b Arena, kind: &Kind) -> Result<Kind<'b>, AllocError>
     ensures { IfOk result (λ copy. shape_of copy ≡ shape_of kind.now) }
 {
     match kind {
-        Kind::Primary(kind) => Ok(Kind::Primary(copy_primary(arena, kind)?)),
-        Kind::Operation(kind) => Ok(Kind::Operation(copy_operation(arena, kind)?)),
-        Kind::Initializer(kind) => Ok(Kind::Initializer(copy_initializer(arena, kind)?)),
-        Kind::Specifier(kind) => Ok(Kind::Specifier(copy_specifier(arena, kind)?)),
-        Kind::Declarator(kind) => Ok(Kind::Declarator(copy_declarator(arena, kind)?)),
-        Kind::Part(kind) => Ok(Kind::Part(copy_part(arena, kind)?)),
-        Kind::Outer(kind) => Ok(Kind::Outer(copy_outer(arena, kind)?)),
-        Kind::Statement(kind) => Ok(Kind::Statement(copy_statement(arena, kind)?)),
-        Kind::Iteration(kind) => Ok(Kind::Iteration(copy_iteration(arena, kind)?)),
-        Kind::Jump(kind) => Ok(Kind::Jump(copy_jump(arena, kind)?)),
+        Kind::Primary(kind) => copy_primary(arena, kind),
+        Kind::Operation(kind) => copy_operation(arena, kind),
+        Kind::Initializer(kind) => copy_initializer(arena, kind),
+        Kind::Specifier(kind) => copy_specifier(arena, kind),
+        Kind::Declarator(kind) => copy_declarator(arena, kind),
+        Kind::Part(kind) => copy_part(arena, kind),
+        Kind::Outer(kind) => copy_outer(arena, kind),
+        Kind::Statement(kind) => copy_statement(arena, kind),
+        Kind::Iteration(kind) => copy_iteration(arena, kind),
+        Kind::Jump(kind) => copy_jump(arena, kind),
     }
 }
 
 #[cycle(copy)]
-fn copy_primary<'b>(arena: &'b Arena, kind: &Primary) -> Result<Primary<'b>, AllocError>
-    ensures { IfOk result (λ copy. primary_shape copy ≡ primary_shape kind.now) }
+fn copy_primary<'b>(arena: &'b Arena, kind: &Primary) -> Result<Kind<'b>, AllocError>
+    ensures { IfOk result (λ copy. shape_of copy ≡ nodes.Primary (primary_shape kind.now)) }
 {
     match kind {
-        Primary::Ident { name } => Ok(Primary::Ident {
+        Primary::Ident { name } => Ok(Kind::Primary(Primary::Ident {
             name: copy_token(arena, name)?,
-        }),
-        Primary::Constant { token } => Ok(Primary::Constant {
+        })),
+        Primary::Constant { token } => Ok(Kind::Primary(Primary::Constant {
             token: copy_token(arena, token)?,
-        }),
-        Primary::StrConst { literals } => Ok(Primary::StrConst {
+        })),
+        Primary::StrConst { literals } => Ok(Kind::Primary(Primary::StrConst {
             literals: copy_tokens(arena, literals)?,
-        }),
-        Primary::Paren { inner } => Ok(Primary::Paren {
+        })),
+        Primary::Paren { inner } => Ok(Kind::Primary(Primary::Paren {
             inner: copy_tree(arena, inner)?,
-        }),
-        Primary::VaArg { list, of } => Ok(Primary::VaArg {
+        })),
+        Primary::VaArg { list, of } => Ok(Kind::Primary(Primary::VaArg {
             list: copy_tree(arena, list)?,
             of: copy_tree(arena, of)?,
-        }),
-        Primary::Offsetof { of, member, path } => Ok(Primary::Offsetof {
+        })),
+        Primary::Offsetof { of, member, path } => Ok(Kind::Primary(Primary::Offsetof {
             of: copy_tree(arena, of)?,
             member: copy_token(arena, member)?,
             path: copy_list(arena, path)?,
-        }),
-        Primary::Hole { number } => Ok(Primary::Hole { number: *number }),
+        })),
+        Primary::Hole { number } => Ok(Kind::Primary(Primary::Hole { number: *number })),
     }
 }
 
 #[cycle(copy)]
-fn copy_operation<'b>(arena: &'b Arena, kind: &Operation) -> Result<Operation<'b>, AllocError>
-    ensures { IfOk result (λ copy. operation_shape copy ≡ operation_shape kind.now) }
+fn copy_operation<'b>(arena: &'b Arena, kind: &Operation) -> Result<Kind<'b>, AllocError>
+    ensures { IfOk result (λ copy. shape_of copy ≡ nodes.Operation (operation_shape kind.now)) }
 {
     match kind {
-        Operation::Index { array, index } => Ok(Operation::Index {
+        Operation::Index { array, index } => Ok(Kind::Operation(Operation::Index {
             array: copy_tree(arena, array)?,
             index: copy_tree(arena, index)?,
-        }),
+        })),
         Operation::Call {
             callee,
             open,
             arguments,
-        } => Ok(Operation::Call {
+        } => Ok(Kind::Operation(Operation::Call {
             callee: copy_tree(arena, callee)?,
             open: *open,
             arguments: copy_list(arena, arguments)?,
-        }),
-        Operation::Member { operand, member } => Ok(Operation::Member {
+        })),
+        Operation::Member { operand, member } => Ok(Kind::Operation(Operation::Member {
             operand: copy_tree(arena, operand)?,
             member: copy_token(arena, member)?,
-        }),
-        Operation::Arrow { operand, member } => Ok(Operation::Arrow {
+        })),
+        Operation::Arrow { operand, member } => Ok(Kind::Operation(Operation::Arrow {
             operand: copy_tree(arena, operand)?,
             member: copy_token(arena, member)?,
-        }),
-        Operation::CompoundLit { of, braces } => Ok(Operation::CompoundLit {
+        })),
+        Operation::CompoundLit { of, braces } => Ok(Kind::Operation(Operation::CompoundLit {
             of: copy_tree(arena, of)?,
             braces: copy_tree(arena, braces)?,
-        }),
-        Operation::Unary { op, operand } => Ok(Operation::Unary {
+        })),
+        Operation::Unary { op, operand } => Ok(Kind::Operation(Operation::Unary {
             op: *op,
             operand: copy_tree(arena, operand)?,
-        }),
-        Operation::SizeofType { of } => Ok(Operation::SizeofType {
+        })),
+        Operation::SizeofType { of } => Ok(Kind::Operation(Operation::SizeofType {
             of: copy_tree(arena, of)?,
-        }),
-        Operation::Cast { to, operand } => Ok(Operation::Cast {
+        })),
+        Operation::Cast { to, operand } => Ok(Kind::Operation(Operation::Cast {
             to: copy_tree(arena, to)?,
             operand: copy_tree(arena, operand)?,
-        }),
-        Operation::Binary { op, left, right } => Ok(Operation::Binary {
+        })),
+        Operation::Binary { op, left, right } => Ok(Kind::Operation(Operation::Binary {
             op: *op,
             left: copy_tree(arena, left)?,
             right: copy_tree(arena, right)?,
-        }),
+        })),
         Operation::Cond {
             condition,
             then,
             otherwise,
-        } => Ok(Operation::Cond {
+        } => Ok(Kind::Operation(Operation::Cond {
             condition: copy_tree(arena, condition)?,
             then: copy_tree(arena, then)?,
             otherwise: copy_tree(arena, otherwise)?,
-        }),
-        Operation::Assign { op, left, right } => Ok(Operation::Assign {
+        })),
+        Operation::Assign { op, left, right } => Ok(Kind::Operation(Operation::Assign {
             op: *op,
             left: copy_tree(arena, left)?,
             right: copy_tree(arena, right)?,
-        }),
+        })),
     }
 }
 
 #[cycle(copy)]
-fn copy_initializer<'b>(arena: &'b Arena, kind: &Initializer) -> Result<Initializer<'b>, AllocError>
-    ensures { IfOk result (λ copy. initializer_shape copy ≡ initializer_shape kind.now) }
+fn copy_initializer<'b>(arena: &'b Arena, kind: &Initializer) -> Result<Kind<'b>, AllocError>
+    ensures { IfOk result (λ copy. shape_of copy ≡ nodes.Initializer (initializer_shape kind.now)) }
 {
     match kind {
         Initializer::Init {
             name,
             declarator,
             initial,
-        } => Ok(Initializer::Init {
+        } => Ok(Kind::Initializer(Initializer::Init {
             name: copy_tree(arena, name)?,
             declarator: copy_tree(arena, declarator)?,
             initial: copy_tree(arena, initial)?,
-        }),
-        Initializer::Braces { elements, comma } => Ok(Initializer::Braces {
+        })),
+        Initializer::Braces { elements, comma } => Ok(Kind::Initializer(Initializer::Braces {
             elements: copy_list(arena, elements)?,
             comma: *comma,
-        }),
+        })),
         Initializer::Designated {
             designators,
             initial,
-        } => Ok(Initializer::Designated {
+        } => Ok(Kind::Initializer(Initializer::Designated {
             designators: copy_list(arena, designators)?,
             initial: copy_tree(arena, initial)?,
-        }),
+        })),
     }
 }
 
 #[cycle(copy)]
-fn copy_specifier<'b>(arena: &'b Arena, kind: &Specifier) -> Result<Specifier<'b>, AllocError>
-    ensures { IfOk result (λ copy. specifier_shape copy ≡ specifier_shape kind.now) }
+fn copy_specifier<'b>(arena: &'b Arena, kind: &Specifier) -> Result<Kind<'b>, AllocError>
+    ensures { IfOk result (λ copy. shape_of copy ≡ nodes.Specifier (specifier_shape kind.now)) }
 {
     match kind {
-        Specifier::TypeName { specs, declarator } => Ok(Specifier::TypeName {
+        Specifier::TypeName { specs, declarator } => Ok(Kind::Specifier(Specifier::TypeName {
             specs: copy_tree(arena, specs)?,
             declarator: copy_optional(arena, *declarator)?,
-        }),
-        Specifier::Specs { items } => Ok(Specifier::Specs {
+        })),
+        Specifier::Specs { items } => Ok(Kind::Specifier(Specifier::Specs {
             items: copy_list(arena, items)?,
-        }),
-        Specifier::StructTag { which, tag } => Ok(Specifier::StructTag {
+        })),
+        Specifier::StructTag { which, tag } => Ok(Kind::Specifier(Specifier::StructTag {
             which: *which,
             tag: copy_token(arena, tag)?,
-        }),
+        })),
         Specifier::StructBody {
             which,
             tag,
             members,
-        } => Ok(Specifier::StructBody {
+        } => Ok(Kind::Specifier(Specifier::StructBody {
             which: *which,
             tag: copy_tag(arena, *tag)?,
             members: copy_list(arena, members)?,
-        }),
-        Specifier::EnumTag { tag } => Ok(Specifier::EnumTag {
+        })),
+        Specifier::EnumTag { tag } => Ok(Kind::Specifier(Specifier::EnumTag {
             tag: copy_token(arena, tag)?,
-        }),
+        })),
         Specifier::EnumBody {
             tag,
             enumerators,
             comma,
-        } => Ok(Specifier::EnumBody {
+        } => Ok(Kind::Specifier(Specifier::EnumBody {
             tag: copy_tag(arena, *tag)?,
             enumerators: copy_list(arena, enumerators)?,
             comma: *comma,
-        }),
-        Specifier::StructDeclaration { specs, declarators } => Ok(Specifier::StructDeclaration {
-            specs: copy_tree(arena, specs)?,
-            declarators: copy_list(arena, declarators)?,
-        }),
-        Specifier::BitField { declarator, width } => Ok(Specifier::BitField {
+        })),
+        Specifier::StructDeclaration { specs, declarators } => Ok(Kind::Specifier(
+            Specifier::StructDeclaration {
+                specs: copy_tree(arena, specs)?,
+                declarators: copy_list(arena, declarators)?,
+            },
+        )),
+        Specifier::BitField { declarator, width } => Ok(Kind::Specifier(Specifier::BitField {
             declarator: copy_optional(arena, *declarator)?,
             width: copy_tree(arena, width)?,
-        }),
-        Specifier::Param { specs, declarator } => Ok(Specifier::Param {
+        })),
+        Specifier::Param { specs, declarator } => Ok(Kind::Specifier(Specifier::Param {
             specs: copy_tree(arena, specs)?,
             declarator: copy_optional(arena, *declarator)?,
-        }),
+        })),
     }
 }
 
 #[cycle(copy)]
-fn copy_declarator<'b>(arena: &'b Arena, kind: &Declarator) -> Result<Declarator<'b>, AllocError>
-    ensures { IfOk result (λ copy. declarator_shape copy ≡ declarator_shape kind.now) }
+fn copy_declarator<'b>(arena: &'b Arena, kind: &Declarator) -> Result<Kind<'b>, AllocError>
+    ensures { IfOk result (λ copy. shape_of copy ≡ nodes.Declarator (declarator_shape kind.now)) }
 {
     match kind {
         Declarator::Named {
             pointers,
             name,
             suffixes,
-        } => Ok(Declarator::Named {
+        } => Ok(Kind::Declarator(Declarator::Named {
             pointers: copy_tokens(arena, pointers)?,
             name: copy_token(arena, name)?,
             suffixes: copy_list(arena, suffixes)?,
-        }),
+        })),
         Declarator::Nested {
             pointers,
             inner,
             suffixes,
-        } => Ok(Declarator::Nested {
+        } => Ok(Kind::Declarator(Declarator::Nested {
             pointers: copy_tokens(arena, pointers)?,
             inner: copy_tree(arena, inner)?,
             suffixes: copy_list(arena, suffixes)?,
-        }),
-        Declarator::Unnamed { pointers, suffixes } => Ok(Declarator::Unnamed {
+        })),
+        Declarator::Unnamed { pointers, suffixes } => Ok(Kind::Declarator(Declarator::Unnamed {
             pointers: copy_tokens(arena, pointers)?,
             suffixes: copy_list(arena, suffixes)?,
-        }),
+        })),
     }
 }
 
 #[cycle(copy)]
-fn copy_part<'b>(arena: &'b Arena, kind: &Part) -> Result<Part<'b>, AllocError>
-    ensures { IfOk result (λ copy. part_shape copy ≡ part_shape kind.now) }
+fn copy_part<'b>(arena: &'b Arena, kind: &Part) -> Result<Kind<'b>, AllocError>
+    ensures { IfOk result (λ copy. shape_of copy ≡ nodes.Part (part_shape kind.now)) }
 {
     match kind {
-        Part::SpecWord { word } => Ok(Part::SpecWord {
+        Part::SpecWord { word } => Ok(Kind::Part(Part::SpecWord {
             word: copy_token(arena, word)?,
-        }),
-        Part::ArrayBound { words, bound } => Ok(Part::ArrayBound {
+        })),
+        Part::ArrayBound { words, bound } => Ok(Kind::Part(Part::ArrayBound {
             words: copy_tokens(arena, words)?,
             bound: copy_optional(arena, *bound)?,
-        }),
-        Part::VoidParams => Ok(Part::VoidParams),
-        Part::Params { params, variadic } => Ok(Part::Params {
+        })),
+        Part::VoidParams => Ok(Kind::Part(Part::VoidParams)),
+        Part::Params { params, variadic } => Ok(Kind::Part(Part::Params {
             params: copy_list(arena, params)?,
             variadic: *variadic,
-        }),
-        Part::Enumerator { name, value } => Ok(Part::Enumerator {
+        })),
+        Part::Enumerator { name, value } => Ok(Kind::Part(Part::Enumerator {
             name: copy_token(arena, name)?,
             value: copy_optional(arena, *value)?,
-        }),
-        Part::MemberDesignator { member } => Ok(Part::MemberDesignator {
+        })),
+        Part::MemberDesignator { member } => Ok(Kind::Part(Part::MemberDesignator {
             member: copy_token(arena, member)?,
-        }),
-        Part::IndexDesignator { index } => Ok(Part::IndexDesignator {
+        })),
+        Part::IndexDesignator { index } => Ok(Kind::Part(Part::IndexDesignator {
             index: copy_tree(arena, index)?,
-        }),
+        })),
     }
 }
 
 #[cycle(copy)]
-fn copy_outer<'b>(arena: &'b Arena, kind: &Outer) -> Result<Outer<'b>, AllocError>
-    ensures { IfOk result (λ copy. outer_shape copy ≡ outer_shape kind.now) }
+fn copy_outer<'b>(arena: &'b Arena, kind: &Outer) -> Result<Kind<'b>, AllocError>
+    ensures { IfOk result (λ copy. shape_of copy ≡ nodes.Outer (outer_shape kind.now)) }
 {
     match kind {
-        Outer::Declaration { specs, declarators } => Ok(Outer::Declaration {
+        Outer::Declaration { specs, declarators } => Ok(Kind::Outer(Outer::Declaration {
             specs: copy_tree(arena, specs)?,
             declarators: copy_list(arena, declarators)?,
-        }),
+        })),
         Outer::Function {
             specs,
             declarator,
             body,
-        } => Ok(Outer::Function {
+        } => Ok(Kind::Outer(Outer::Function {
             specs: copy_tree(arena, specs)?,
             declarator: copy_tree(arena, declarator)?,
             body: copy_tree(arena, body)?,
-        }),
-        Outer::Empty => Ok(Outer::Empty),
+        })),
+        Outer::Empty => Ok(Kind::Outer(Outer::Empty)),
     }
 }
 
 #[cycle(copy)]
-fn copy_statement<'b>(arena: &'b Arena, kind: &Statement) -> Result<Statement<'b>, AllocError>
-    ensures { IfOk result (λ copy. statement_shape copy ≡ statement_shape kind.now) }
+fn copy_statement<'b>(arena: &'b Arena, kind: &Statement) -> Result<Kind<'b>, AllocError>
+    ensures { IfOk result (λ copy. shape_of copy ≡ nodes.Statement (statement_shape kind.now)) }
 {
     match kind {
-        Statement::Block { items } => Ok(Statement::Block {
+        Statement::Block { items } => Ok(Kind::Statement(Statement::Block {
             items: copy_list(arena, items)?,
-        }),
-        Statement::ExprStmt { value } => Ok(Statement::ExprStmt {
+        })),
+        Statement::ExprStmt { value } => Ok(Kind::Statement(Statement::ExprStmt {
             value: copy_optional(arena, *value)?,
-        }),
+        })),
         Statement::If {
             condition,
             then,
             otherwise,
-        } => Ok(Statement::If {
+        } => Ok(Kind::Statement(Statement::If {
             condition: copy_tree(arena, condition)?,
             then: copy_tree(arena, then)?,
             otherwise: copy_optional(arena, *otherwise)?,
-        }),
-        Statement::Switch { value, body } => Ok(Statement::Switch {
+        })),
+        Statement::Switch { value, body } => Ok(Kind::Statement(Statement::Switch {
             value: copy_tree(arena, value)?,
             body: copy_tree(arena, body)?,
-        }),
-        Statement::Case { value, body } => Ok(Statement::Case {
+        })),
+        Statement::Case { value, body } => Ok(Kind::Statement(Statement::Case {
             value: copy_tree(arena, value)?,
             body: copy_tree(arena, body)?,
-        }),
-        Statement::Default { body } => Ok(Statement::Default {
+        })),
+        Statement::Default { body } => Ok(Kind::Statement(Statement::Default {
             body: copy_tree(arena, body)?,
-        }),
-        Statement::Label { label, body } => Ok(Statement::Label {
+        })),
+        Statement::Label { label, body } => Ok(Kind::Statement(Statement::Label {
             label: copy_token(arena, label)?,
             body: copy_tree(arena, body)?,
-        }),
+        })),
     }
 }
 
 #[cycle(copy)]
-fn copy_iteration<'b>(arena: &'b Arena, kind: &Iteration) -> Result<Iteration<'b>, AllocError>
-    ensures { IfOk result (λ copy. iteration_shape copy ≡ iteration_shape kind.now) }
+fn copy_iteration<'b>(arena: &'b Arena, kind: &Iteration) -> Result<Kind<'b>, AllocError>
+    ensures { IfOk result (λ copy. shape_of copy ≡ nodes.Iteration (iteration_shape kind.now)) }
 {
     match kind {
-        Iteration::While { condition, body } => Ok(Iteration::While {
+        Iteration::While { condition, body } => Ok(Kind::Iteration(Iteration::While {
             condition: copy_tree(arena, condition)?,
             body: copy_tree(arena, body)?,
-        }),
-        Iteration::Do { body, condition } => Ok(Iteration::Do {
+        })),
+        Iteration::Do { body, condition } => Ok(Kind::Iteration(Iteration::Do {
             body: copy_tree(arena, body)?,
             condition: copy_tree(arena, condition)?,
-        }),
+        })),
         Iteration::For {
             first,
             condition,
             step,
             body,
-        } => Ok(Iteration::For {
+        } => Ok(Kind::Iteration(Iteration::For {
             first: copy_optional(arena, *first)?,
             condition: copy_optional(arena, *condition)?,
             step: copy_optional(arena, *step)?,
             body: copy_tree(arena, body)?,
-        }),
+        })),
         Iteration::ForDeclaration {
             declaration,
             condition,
             step,
             body,
-        } => Ok(Iteration::ForDeclaration {
+        } => Ok(Kind::Iteration(Iteration::ForDeclaration {
             declaration: copy_tree(arena, declaration)?,
             condition: copy_optional(arena, *condition)?,
             step: copy_optional(arena, *step)?,
             body: copy_tree(arena, body)?,
-        }),
+        })),
     }
 }
 
 #[cycle(copy)]
-fn copy_jump<'b>(arena: &'b Arena, kind: &Jump) -> Result<Jump<'b>, AllocError>
-    ensures { IfOk result (λ copy. jump_shape copy ≡ jump_shape kind.now) }
+fn copy_jump<'b>(arena: &'b Arena, kind: &Jump) -> Result<Kind<'b>, AllocError>
+    ensures { IfOk result (λ copy. shape_of copy ≡ nodes.Jump (jump_shape kind.now)) }
 {
     match kind {
-        Jump::Goto { label } => Ok(Jump::Goto {
+        Jump::Goto { label } => Ok(Kind::Jump(Jump::Goto {
             label: copy_token(arena, label)?,
-        }),
-        Jump::Continue => Ok(Jump::Continue),
-        Jump::Break => Ok(Jump::Break),
-        Jump::Return { value } => Ok(Jump::Return {
+        })),
+        Jump::Continue => Ok(Kind::Jump(Jump::Continue)),
+        Jump::Break => Ok(Kind::Jump(Jump::Break)),
+        Jump::Return { value } => Ok(Kind::Jump(Jump::Return {
             value: copy_optional(arena, *value)?,
-        }),
+        })),
     }
 }
 
