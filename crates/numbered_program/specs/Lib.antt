@@ -1,0 +1,10 @@
+pub mod Views
+pub mod Rows
+pub mod Theorems
+pub mod Numbered
+pub mod Made
+pub mod Begun
+pub mod NumberedTuples
+pub mod EventTables
+pub mod NumberedCalls
+pub mod NumberedEvents

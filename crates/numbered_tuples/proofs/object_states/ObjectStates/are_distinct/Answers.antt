@@ -1,7 +1,0 @@
-use Rattle.least_set.proofs.Growing.{once}
-use Rattle.numbered_tuples.proofs.FewStates.{state_itself}
-use Rattle.state_tuples.specs.Equality.{states_agree}
-use Rattle.numbered_tuples.proofs.object_states.ObjectStates.are_distinct.Goals as goal
-
-pub returns : goal.returns
-returns c = once states_agree state_itself c.args.self.now.states.keys c.len-count.ensures.unique

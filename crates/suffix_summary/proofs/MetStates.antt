@@ -1,0 +1,4 @@
+pub mod AmongEvents
+pub mod Gifts
+pub mod MetEdges
+pub mod EmptyEdges
