@@ -11,8 +11,8 @@ use call_graph::Program;
 use metal_tree::Machine;
 use mx_base::Names;
 use report_model::{Report, sorted};
-use saturation::analyse;
 use std::alloc::{AllocError, Global};
+use suffix_summary::analyse;
 
 // The reports of all checkers, in no order.
 fn gathered<'u, 'a>(
