@@ -14,8 +14,9 @@ use Rattle.hole_matching.proofs.Building.{assigned}
 use Rattle.path_model.specs.CheckerModel.Moves.{move_of}
 use Rattle.row_flows.specs.declared.rows.Touched.{Touched}
 
-abbrev row : ℕ → ℕ → Touched
-row object source = record { object = object; source = source }
+-- the object with a number has its state from that with this one, 0 from none
+abbrev touched : ℕ → ℕ → Touched
+touched object source = record { object = object; source = source }
 
 -- p, *p, *q and a[i] are followed
 abbrev followed : List Object
@@ -25,15 +26,15 @@ abbrev behind : Node → List Touched
 behind e = touched_rows 4 (move_of facts 4 (Evaluated (Tree e))) followed
 
 -- p = *q: p has the state of *q, and *p that of **q, which isn't followed
-copied : behind (assigned assign.Plain (name 0) (star (name 5))) ≡ row 1 3 ∷ row 2 0 ∷ []
+copied : behind (assigned assign.Plain (name 0) (star (name 5))) ≡ touched 1 3 ∷ touched 2 0 ∷ []
 copied = refl
 
 -- q = p: *q has the state of *p
-copied_behind : behind (assigned assign.Plain (name 5) (name 0)) ≡ row 3 2 ∷ []
+copied_behind : behind (assigned assign.Plain (name 5) (name 0)) ≡ touched 3 2 ∷ []
 copied_behind = refl
 
 -- i = p: a[i] is another element
-index_changes : behind (assigned assign.Plain (name 3) (name 0)) ≡ row 4 0 ∷ []
+index_changes : behind (assigned assign.Plain (name 3) (name 0)) ≡ touched 4 0 ∷ []
 index_changes = refl
 
 -- p = p changes nothing
