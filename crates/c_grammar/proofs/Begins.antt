@@ -1,5 +1,6 @@
 -- What a tree begins with.
 use Rattle.std.proofs.Common.{◌≡◌, ℕ, ◌<◌, ◌≤◌, Bool, true, false, cond, not, ◌&&◌, ◌||◌, nat_le, List, [], ◌∷◌, Option, None, Some, ap, refl, arith}
+use Rattle.c_tree.specs.declared.keyword.Keyword.{Keyword}
 use Rattle.c_tree.specs.declared.keyword.Keyword.TheVariants as words
 use Rattle.c_tree.specs.declared.operator.BinaryOp.{BinaryOp}
 use Rattle.c_tree.specs.declared.operator.BinaryOp.TheVariants as binary
@@ -7,7 +8,7 @@ use Rattle.c_tree.specs.declared.operator.UnaryOp.{UnaryOp}
 use Rattle.c_tree.specs.declared.operator.UnaryOp.TheVariants as unary
 use Rattle.c_tree.specs.declared.punctuator.Punctuator.{Punctuator}
 use Rattle.c_tree.specs.declared.punctuator.Punctuator.TheVariants as marks
-use Rattle.c_tree.specs.Codes.{keyword_code, punctuator_code}
+use Rattle.c_tree.specs.Codes.{punctuator_code}
 use Rattle.c_tree.specs.Symbol.{Symbol, Word, Reserved, Sign, IntLiteral, FloatLiteral, CharLiteral, StringLiteral}
 use Rattle.c_tree.specs.Syntax.{Syntax, Primary, Operation, Specifier, Declarator, Part, Ident, Constant, StrConst, Paren, VaArg, Offsetof, Index, Call, Member, Arrow, Unary, SizeofType, Cast, Binary, Cond, Assign, TypeName, Param, Named, Nested, Unnamed, ArrayBound, VoidParams, Params, no_more, more}
 use Rattle.c_tree.specs.Phrase.{phrase_then}
@@ -49,10 +50,16 @@ begins_primary names (Sign marks.OpenParen) = true
 begins_primary names (Sign p) = false
 begins_primary names _ = true
 
--- an expression may begin with this symbol: it is one of the first keywords and punctuators
+abbrev pub begins_with : Keyword → Bool
+begins_with words.Sizeof = true
+begins_with words.BuiltinVaArg = true
+begins_with words.BuiltinOffsetof = true
+begins_with _ = false
+
+-- an expression may begin with this symbol: it is one of these keywords or of the first punctuators
 abbrev pub begins_expression : Names → Symbol → Bool
 begins_expression names (Word name) = not (is_type names name)
-begins_expression names (Reserved k) = nat_le (keyword_code k) 2
+begins_expression names (Reserved k) = begins_with k
 begins_expression names (Sign p) = nat_le (punctuator_code p) 8
 begins_expression names _ = true
 

@@ -13,7 +13,7 @@ use Rattle.c_grammar.specs.Symbols.{is_sign, is_keyword, after, after_sign, afte
 use Rattle.c_grammar.specs.Levels.{level_of, binary_of, assign_of}
 use Rattle.c_grammar.specs.Found.{◌>>=◌}
 use Rattle.c_grammar.specs.ExpressionSteps.{take_binary, take_assign}
-use Rattle.c_grammar.proofs.Codes.{keyword_by_code, punctuator_by_code}
+use Rattle.c_tree.proofs.Codes.{keyword_by_code, punctuator_by_code}
 use Rattle.c_grammar.proofs.Options.{same, when, parts, bound}
 
 pub is_sign-self : (p : Punctuator) → is_sign p (Sign p) ≡ true

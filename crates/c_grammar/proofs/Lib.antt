@@ -1,6 +1,5 @@
 pub mod Examples
 pub mod NameChanges
-pub mod Codes
 pub mod Options
 pub mod Front
 pub mod Steps

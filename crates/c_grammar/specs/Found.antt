@@ -1,5 +1,6 @@
 -- What a reader of symbols gives: nothing, or something and the symbols behind it.
 use Rattle.std.specs.Prelude.{ℕ, cond, nat_le, List, Option, None, Some}
+pub use Rattle.c_tree.specs.Tables.{if_there}
 use Rattle.c_tree.specs.Symbol.{Symbol}
 use Rattle.c_tree.specs.Syntax.{Syntax}
 use Rattle.c_tree.specs.Height.{height_of}
@@ -10,11 +11,6 @@ infixl 10 ◌>>=◌
 abbrev pub ◌>>=◌ : {A B : Type 0} → Option A → (A → Option B) → Option B
 None >>= f = None
 (Some x) >>= f = f x
-
--- f of what is there, or y
-abbrev pub if_there : {A B : Type 0} → Option A → B → (A → B) → B
-if_there None y f = y
-if_there (Some x) y f = f x
 
 -- a tree and the symbols behind it
 abbrev pub Found : Type 0

@@ -6,6 +6,7 @@ use Rattle.c_tree.specs.Symbol.{Symbol, Word, Reserved}
 use Rattle.c_tree.specs.Syntax.{Syntax, Specifier, Part, SpecWord, Syntaxes, no_more, more}
 use Rattle.c_grammar.specs.Symbols.{same_keyword}
 use Rattle.c_grammar.specs.Names.{Names, is_type}
+use Rattle.c_grammar.specs.BasicTypes.{basic_words}
 
 -- the words that say how something is stored, `typedef` among them (6.5.1)
 abbrev pub is_storage : Keyword → Bool
@@ -120,52 +121,6 @@ unfoldable pub inlines : Syntaxes → Bool
 inlines no_more = false
 inlines (more e es) = inlines_of e || inlines es
 
--- The basic types, each list of words in one order. The words of a type may stand in any order.
-abbrev pub basic_types : List (List Keyword)
-basic_types =
-    (words.Int ∷ [])
-    ∷ (words.Char ∷ [])
-    ∷ (words.Void ∷ [])
-    ∷ (words.Unsigned ∷ words.Long ∷ [])
-    ∷ (words.Unsigned ∷ words.Int ∷ [])
-    ∷ (words.Unsigned ∷ words.Char ∷ [])
-    ∷ (words.Long ∷ [])
-    ∷ (words.Double ∷ [])
-    ∷ (words.Unsigned ∷ [])
-    ∷ (words.Signed ∷ words.Char ∷ [])
-    ∷ (words.Short ∷ [])
-    ∷ (words.Short ∷ words.Int ∷ [])
-    ∷ (words.Signed ∷ words.Short ∷ [])
-    ∷ (words.Signed ∷ words.Short ∷ words.Int ∷ [])
-    ∷ (words.Unsigned ∷ words.Short ∷ [])
-    ∷ (words.Unsigned ∷ words.Short ∷ words.Int ∷ [])
-    ∷ (words.Signed ∷ [])
-    ∷ (words.Signed ∷ words.Int ∷ [])
-    ∷ (words.Long ∷ words.Int ∷ [])
-    ∷ (words.Signed ∷ words.Long ∷ [])
-    ∷ (words.Signed ∷ words.Long ∷ words.Int ∷ [])
-    ∷ (words.Unsigned ∷ words.Long ∷ words.Int ∷ [])
-    ∷ (words.Long ∷ words.Long ∷ [])
-    ∷ (words.Long ∷ words.Long ∷ words.Int ∷ [])
-    ∷ (words.Signed ∷ words.Long ∷ words.Long ∷ [])
-    ∷ (words.Signed ∷ words.Long ∷ words.Long ∷ words.Int ∷ [])
-    ∷ (words.Unsigned ∷ words.Long ∷ words.Long ∷ [])
-    ∷ (words.Unsigned ∷ words.Long ∷ words.Long ∷ words.Int ∷ [])
-    ∷ (words.Int128 ∷ [])
-    ∷ (words.Signed ∷ words.Int128 ∷ [])
-    ∷ (words.Unsigned ∷ words.Int128 ∷ [])
-    ∷ (words.Float ∷ [])
-    ∷ (words.Long ∷ words.Double ∷ [])
-    ∷ (words.Bool ∷ [])
-    ∷ (words.Float32 ∷ [])
-    ∷ (words.Float32x ∷ [])
-    ∷ (words.Float64 ∷ [])
-    ∷ (words.Float64x ∷ [])
-    ∷ (words.Float128 ∷ [])
-    ∷ (words.GnuFloat128 ∷ [])
-    ∷ (words.BuiltinVaList ∷ [])
-    ∷ []
-
 -- how often a keyword stands among these
 unfoldable pub occurrences : Keyword → List Keyword → ℕ
 occurrences k [] = 0
@@ -186,7 +141,7 @@ is_among ks (line ∷ lines) = same_words ks line || is_among ks lines
 
 -- one basic type
 abbrev pub is_basic : List Keyword → Bool
-is_basic ks = is_among ks basic_types
+is_basic ks = is_among ks basic_words
 
 -- Exactly one type: a name or a tag, or the words of a basic type.
 abbrev pub is_one_type : List Keyword → ℕ → Bool

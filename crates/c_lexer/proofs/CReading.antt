@@ -3,6 +3,7 @@ pub mod Runs
 pub mod Literals
 pub mod Comments
 pub mod Tables
+pub mod WordsByLength
 pub mod ByteFacts
 pub mod Classes
 pub mod Longest

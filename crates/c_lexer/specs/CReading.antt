@@ -1,6 +1,7 @@
 pub mod Bytes
 pub mod Runs
 pub mod Words
+pub mod WordsByLength
 pub mod Punctuators
 pub mod Constants
 pub mod Spellings

@@ -1,7 +1,8 @@
 //! What a word is, by its length and its bytes: a keyword, a word of GNU C with a mark, or a plain name.
 
 ghost use Rattle.std.specs.Prelude.{◌≡◌, unwrap_or, length, bytes_eq};
-ghost use Rattle.c_lexer.specs.CReading.Words.{find_text, words_of, word_kind, words_2, words_3, words_4, words_5, words_6, words_7, words_8, words_9, words_10, words_11, words_12, words_13, words_16, words_17, words_18, words_19};
+ghost use Rattle.c_lexer.specs.CReading.Words.{find_text, word_kind, special_words};
+ghost use Rattle.c_lexer.specs.CReading.WordsByLength.{of_length, words_of};
 
 use c_tree::{Keyword, Mark, TokenKind};
 
@@ -21,9 +22,9 @@ fn is_word(text: &[u8], word: &[u8]) -> bool
     text == word
 }
 
-#[tactic(auto, unfolding(crate::specs::CReading::Words::words_2))]
+#[tactic(auto, unfolding(crate::specs::CReading::Words::special_words))]
 fn of_2(text: &[u8]) -> Option<TokenKind>
-    ensures { result ≡ find_text text.now words_2 }
+    ensures { result ≡ find_text text.now (of_length 2 special_words) }
 {
     find! { text;
         b"do" => TokenKind::Keyword(Keyword::Do),
@@ -32,9 +33,9 @@ fn of_2(text: &[u8]) -> Option<TokenKind>
     None
 }
 
-#[tactic(auto, unfolding(crate::specs::CReading::Words::words_3))]
+#[tactic(auto, unfolding(crate::specs::CReading::Words::special_words))]
 fn of_3(text: &[u8]) -> Option<TokenKind>
-    ensures { result ≡ find_text text.now words_3 }
+    ensures { result ≡ find_text text.now (of_length 3 special_words) }
 {
     find! { text;
         b"for" => TokenKind::Keyword(Keyword::For),
@@ -44,9 +45,9 @@ fn of_3(text: &[u8]) -> Option<TokenKind>
     None
 }
 
-#[tactic(auto, unfolding(crate::specs::CReading::Words::words_4))]
+#[tactic(auto, unfolding(crate::specs::CReading::Words::special_words))]
 fn of_4(text: &[u8]) -> Option<TokenKind>
-    ensures { result ≡ find_text text.now words_4 }
+    ensures { result ≡ find_text text.now (of_length 4 special_words) }
 {
     find! { text;
         b"auto" => TokenKind::Keyword(Keyword::Auto),
@@ -61,9 +62,9 @@ fn of_4(text: &[u8]) -> Option<TokenKind>
     None
 }
 
-#[tactic(auto, unfolding(crate::specs::CReading::Words::words_5))]
+#[tactic(auto, unfolding(crate::specs::CReading::Words::special_words))]
 fn of_5(text: &[u8]) -> Option<TokenKind>
-    ensures { result ≡ find_text text.now words_5 }
+    ensures { result ≡ find_text text.now (of_length 5 special_words) }
 {
     find! { text;
         b"break" => TokenKind::Keyword(Keyword::Break),
@@ -78,27 +79,27 @@ fn of_5(text: &[u8]) -> Option<TokenKind>
     None
 }
 
-#[tactic(auto, unfolding(crate::specs::CReading::Words::words_6))]
+#[tactic(auto, unfolding(crate::specs::CReading::Words::special_words))]
 fn of_6(text: &[u8]) -> Option<TokenKind>
-    ensures { result ≡ find_text text.now words_6 }
+    ensures { result ≡ find_text text.now (of_length 6 special_words) }
 {
     find! { text;
         b"double" => TokenKind::Keyword(Keyword::Double),
         b"extern" => TokenKind::Keyword(Keyword::Extern),
-        b"inline" => TokenKind::Keyword(Keyword::Inline),
         b"return" => TokenKind::Keyword(Keyword::Return),
         b"signed" => TokenKind::Keyword(Keyword::Signed),
         b"sizeof" => TokenKind::Keyword(Keyword::Sizeof),
         b"static" => TokenKind::Keyword(Keyword::Static),
         b"struct" => TokenKind::Keyword(Keyword::Struct),
         b"switch" => TokenKind::Keyword(Keyword::Switch),
+        b"inline" => TokenKind::Keyword(Keyword::Inline),
     }
     None
 }
 
-#[tactic(auto, unfolding(crate::specs::CReading::Words::words_7))]
+#[tactic(auto, unfolding(crate::specs::CReading::Words::special_words))]
 fn of_7(text: &[u8]) -> Option<TokenKind>
-    ensures { result ≡ find_text text.now words_7 }
+    ensures { result ≡ find_text text.now (of_length 7 special_words) }
 {
     find! { text;
         b"default" => TokenKind::Keyword(Keyword::Default),
@@ -109,16 +110,16 @@ fn of_7(text: &[u8]) -> Option<TokenKind>
     None
 }
 
-#[tactic(auto, unfolding(crate::specs::CReading::Words::words_8))]
+#[tactic(auto, unfolding(crate::specs::CReading::Words::special_words))]
 fn of_8(text: &[u8]) -> Option<TokenKind>
-    ensures { result ≡ find_text text.now words_8 }
+    ensures { result ≡ find_text text.now (of_length 8 special_words) }
 {
     find! { text;
         b"continue" => TokenKind::Keyword(Keyword::Continue),
         b"register" => TokenKind::Keyword(Keyword::Register),
-        b"restrict" => TokenKind::Keyword(Keyword::Restrict),
         b"unsigned" => TokenKind::Keyword(Keyword::Unsigned),
         b"volatile" => TokenKind::Keyword(Keyword::Volatile),
+        b"restrict" => TokenKind::Keyword(Keyword::Restrict),
         b"__int128" => TokenKind::Keyword(Keyword::Int128),
         b"_Float32" => TokenKind::Keyword(Keyword::Float32),
         b"_Float64" => TokenKind::Keyword(Keyword::Float64),
@@ -129,9 +130,9 @@ fn of_8(text: &[u8]) -> Option<TokenKind>
     None
 }
 
-#[tactic(auto, unfolding(crate::specs::CReading::Words::words_9))]
+#[tactic(auto, unfolding(crate::specs::CReading::Words::special_words))]
 fn of_9(text: &[u8]) -> Option<TokenKind>
-    ensures { result ≡ find_text text.now words_9 }
+    ensures { result ≡ find_text text.now (of_length 9 special_words) }
 {
     find! { text;
         b"_Float32x" => TokenKind::Keyword(Keyword::Float32x),
@@ -142,23 +143,23 @@ fn of_9(text: &[u8]) -> Option<TokenKind>
     None
 }
 
-#[tactic(auto, unfolding(crate::specs::CReading::Words::words_10))]
+#[tactic(auto, unfolding(crate::specs::CReading::Words::special_words))]
 fn of_10(text: &[u8]) -> Option<TokenKind>
-    ensures { result ≡ find_text text.now words_10 }
+    ensures { result ≡ find_text text.now (of_length 10 special_words) }
 {
     find! { text;
         b"__float128" => TokenKind::Keyword(Keyword::GnuFloat128),
         b"__inline__" => TokenKind::Word(Mark::InlineBoth),
         b"__restrict" => TokenKind::Word(Mark::Restrict),
-        b"__signed__" => TokenKind::Word(Mark::SignedBoth),
         b"__volatile" => TokenKind::Word(Mark::Volatile),
+        b"__signed__" => TokenKind::Word(Mark::SignedBoth),
     }
     None
 }
 
-#[tactic(auto, unfolding(crate::specs::CReading::Words::words_11))]
+#[tactic(auto, unfolding(crate::specs::CReading::Words::special_words))]
 fn of_11(text: &[u8]) -> Option<TokenKind>
-    ensures { result ≡ find_text text.now words_11 }
+    ensures { result ≡ find_text text.now (of_length 11 special_words) }
 {
     find! { text;
         b"__attribute" => TokenKind::Word(Mark::Attribute),
@@ -166,9 +167,9 @@ fn of_11(text: &[u8]) -> Option<TokenKind>
     None
 }
 
-#[tactic(auto, unfolding(crate::specs::CReading::Words::words_12))]
+#[tactic(auto, unfolding(crate::specs::CReading::Words::special_words))]
 fn of_12(text: &[u8]) -> Option<TokenKind>
-    ensures { result ≡ find_text text.now words_12 }
+    ensures { result ≡ find_text text.now (of_length 12 special_words) }
 {
     find! { text;
         b"__FUNCTION__" => TokenKind::Word(Mark::FunctionName),
@@ -178,20 +179,20 @@ fn of_12(text: &[u8]) -> Option<TokenKind>
     None
 }
 
-#[tactic(auto, unfolding(crate::specs::CReading::Words::words_13))]
+#[tactic(auto, unfolding(crate::specs::CReading::Words::special_words))]
 fn of_13(text: &[u8]) -> Option<TokenKind>
-    ensures { result ≡ find_text text.now words_13 }
+    ensures { result ≡ find_text text.now (of_length 13 special_words) }
 {
     find! { text;
-        b"__attribute__" => TokenKind::Word(Mark::AttributeBoth),
         b"__extension__" => TokenKind::Word(Mark::ExtensionBoth),
+        b"__attribute__" => TokenKind::Word(Mark::AttributeBoth),
     }
     None
 }
 
-#[tactic(auto, unfolding(crate::specs::CReading::Words::words_16))]
+#[tactic(auto, unfolding(crate::specs::CReading::Words::special_words))]
 fn of_16(text: &[u8]) -> Option<TokenKind>
-    ensures { result ≡ find_text text.now words_16 }
+    ensures { result ≡ find_text text.now (of_length 16 special_words) }
 {
     find! { text;
         b"__builtin_va_arg" => TokenKind::Keyword(Keyword::BuiltinVaArg),
@@ -199,9 +200,9 @@ fn of_16(text: &[u8]) -> Option<TokenKind>
     None
 }
 
-#[tactic(auto, unfolding(crate::specs::CReading::Words::words_17))]
+#[tactic(auto, unfolding(crate::specs::CReading::Words::special_words))]
 fn of_17(text: &[u8]) -> Option<TokenKind>
-    ensures { result ≡ find_text text.now words_17 }
+    ensures { result ≡ find_text text.now (of_length 17 special_words) }
 {
     find! { text;
         b"__builtin_va_list" => TokenKind::Keyword(Keyword::BuiltinVaList),
@@ -209,9 +210,9 @@ fn of_17(text: &[u8]) -> Option<TokenKind>
     None
 }
 
-#[tactic(auto, unfolding(crate::specs::CReading::Words::words_18))]
+#[tactic(auto, unfolding(crate::specs::CReading::Words::special_words))]
 fn of_18(text: &[u8]) -> Option<TokenKind>
-    ensures { result ≡ find_text text.now words_18 }
+    ensures { result ≡ find_text text.now (of_length 18 special_words) }
 {
     find! { text;
         b"__builtin_offsetof" => TokenKind::Keyword(Keyword::BuiltinOffsetof),
@@ -219,9 +220,9 @@ fn of_18(text: &[u8]) -> Option<TokenKind>
     None
 }
 
-#[tactic(auto, unfolding(crate::specs::CReading::Words::words_19))]
+#[tactic(auto, unfolding(crate::specs::CReading::Words::special_words))]
 fn of_19(text: &[u8]) -> Option<TokenKind>
-    ensures { result ≡ find_text text.now words_19 }
+    ensures { result ≡ find_text text.now (of_length 19 special_words) }
 {
     find! { text;
         b"__PRETTY_FUNCTION__" => TokenKind::Word(Mark::FunctionName),
@@ -230,7 +231,7 @@ fn of_19(text: &[u8]) -> Option<TokenKind>
 }
 
 /// What a word is, if it is more than a name.
-#[tactic(auto, unfolding(crate::specs::CReading::Words::words_of))]
+#[tactic(auto, unfolding(crate::specs::CReading::WordsByLength::words_of))]
 fn special(text: &[u8]) -> Option<TokenKind>
     ensures { result ≡ find_text text.now (words_of (length text.now)) }
 {
@@ -256,7 +257,7 @@ fn special(text: &[u8]) -> Option<TokenKind>
 }
 
 /// What a word is.
-#[tactic(auto, unfolding(crate::specs::CReading::Words::word_kind))]
+#[tactic(auto, using(crate::proofs::CReading::WordsByLength::word_by_length), unfolding(crate::specs::CReading::Words::word_kind))]
 pub fn word_kind(text: &[u8]) -> TokenKind
     ensures { result ≡ word_kind text.now }
 {

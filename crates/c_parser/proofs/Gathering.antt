@@ -8,7 +8,6 @@ use Rattle.c_grammar.specs.UnitGrammar.Control.{has_name, are_different, labels,
 use Rattle.c_parser.specs.Gathered.{with_label, gathered, known_if}
 
 pub any_name : (name : ℕ) (names : List ℕ) → list_any (nat_eq name) names ≡ has_name name names
-unfolding has_name
 any_name name [] = refl
 any_name name (other ∷ names) = ap (λ b. nat_eq name other || b) (any_name name names)
 
@@ -47,7 +46,6 @@ same_sym : (a b : ℕ) → nat_eq a b ≡ nat_eq b a
 same_sym a b = grind arith
 
 has_name-push : (name last : ℕ) (known : List ℕ) → has_name name (known ++ (last ∷ [])) ≡ (has_name name known || nat_eq name last)
-unfolding has_name
 has_name-push name last [] = by (nat_eq name last)
   where
     by : (b : Bool) → (b || false) ≡ b
@@ -62,7 +60,7 @@ has_name-push name last (other ∷ known) = by (nat_eq name other) (has_name-pus
 
 -- apart from one more, if it is none of them
 apart-push : (names known : List ℕ) (last : ℕ) → apart names (known ++ (last ∷ [])) ≡ (apart names known && not (has_name last names))
-unfolding apart has_name
+unfolding apart
 apart-push [] known last = refl
 apart-push (name ∷ names) known last =
     ap (λ b. not b && apart names (known ++ (last ∷ []))) (has_name-push name last known)
@@ -77,7 +75,7 @@ apart-push (name ∷ names) known last =
     by false false c d = refl
 
 apart-none : (names : List ℕ) → apart names [] ≡ true
-unfolding apart has_name
+unfolding apart
 apart-none [] = refl
 apart-none (name ∷ names) = apart-none names
 

@@ -1,6 +1,5 @@
 -- Lists that may have a comma behind the last.
 use Rattle.std.specs.Prelude.{◌≡◌, ℕ, Bool, List, Option, None, Some, Result, Ok, Err, length}
-use Rattle.c_tree.specs.declared.tree.Tree.{Tree}
 use Rattle.c_tree.specs.declared.punctuator.Punctuator.TheVariants as marks
 use Rattle.c_tree.specs.declared.token.Token.{Token}
 use Rattle.c_tree.specs.Symbol.{Symbol, symbols_of}
@@ -10,15 +9,10 @@ use Rattle.c_tree.specs.Forget.{list_view}
 use Rattle.c_tree.specs.Views.{nodes_of}
 use Rattle.c_grammar.specs.CPlaces.Lines.{sign, comma_if, ◌⨾◌, list_line}
 use Rattle.c_grammar.specs.CPlaces.Stands.{Stands}
-use Rattle.c_expr.specs.Gives.{before}
+pub use Rattle.c_expr.specs.ParamLists.{params_after as commas_after}
 use Rattle.c_expr.specs.declared.fault.ExprFault.{ExprFault}
 use Rattle.c_expr.specs.declared.fault.ExprFault.TheVariants.{NoTree}
 use Rattle.c_parser.specs.declared.parts.ReadCommaList.{ReadCommaList}
-
--- what is found, behind these
-abbrev pub commas_after : List Tree → Option (Syntaxes × Bool × List Symbol) → Option (Syntaxes × Bool × List Symbol)
-commas_after all None = None
-commas_after all (Some es) = Some (before all es.0, es.1, es.2)
 
 -- nodes and whether a comma stands behind them, and what follows, or no such list; where memory runs out, nothing is said
 abbrev pub GivesCommaList : Result ReadCommaList ExprFault → Option (Syntaxes × Bool × List Symbol) → Type 0

@@ -1,54 +1,80 @@
 //! The keywords of C (ISO 9899:1990, 6.1.1, and those of later editions and of GNU C that a preprocessed file holds).
 
-/// A keyword. Those that may begin an expression come first, then those of declarations, then those of statements.
+/// A keyword. Those of ISO 9899:1990 come first, in its order, then those that ISO 9899:1999 adds, then those of GNU C.
 #[derive(Clone, Copy, PartialEq, Eq)]
 pub enum Keyword {
-    /// `sizeof`
-    Sizeof,
-    /// `__builtin_va_arg`
-    BuiltinVaArg,
-    /// `__builtin_offsetof`
-    BuiltinOffsetof,
-
-    /// `typedef`
-    Typedef,
-    /// `extern`
-    Extern,
-    /// `static`
-    Static,
     /// `auto`
     Auto,
-    /// `register`
-    Register,
-    /// `inline`
-    Inline,
-    /// `const`
-    Const,
-    /// `volatile`
-    Volatile,
-    /// `restrict`
-    Restrict,
-
-    /// `void`
-    Void,
+    /// `break`
+    Break,
+    /// `case`
+    Case,
     /// `char`
     Char,
-    /// `short`
-    Short,
+    /// `const`
+    Const,
+    /// `continue`
+    Continue,
+    /// `default`
+    Default,
+    /// `do`
+    Do,
+    /// `double`
+    Double,
+    /// `else`
+    Else,
+    /// `enum`
+    Enum,
+    /// `extern`
+    Extern,
+    /// `float`
+    Float,
+    /// `for`
+    For,
+    /// `goto`
+    Goto,
+    /// `if`
+    If,
     /// `int`
     Int,
     /// `long`
     Long,
-    /// `float`
-    Float,
-    /// `double`
-    Double,
+    /// `register`
+    Register,
+    /// `return`
+    Return,
+    /// `short`
+    Short,
     /// `signed`
     Signed,
+    /// `sizeof`
+    Sizeof,
+    /// `static`
+    Static,
+    /// `struct`
+    Struct,
+    /// `switch`
+    Switch,
+    /// `typedef`
+    Typedef,
+    /// `union`
+    Union,
     /// `unsigned`
     Unsigned,
+    /// `void`
+    Void,
+    /// `volatile`
+    Volatile,
+    /// `while`
+    While,
+
+    /// `inline`
+    Inline,
+    /// `restrict`
+    Restrict,
     /// `_Bool`
     Bool,
+
     /// `__int128`
     Int128,
     /// `_Float32`
@@ -65,36 +91,8 @@ pub enum Keyword {
     GnuFloat128,
     /// `__builtin_va_list`
     BuiltinVaList,
-
-    /// `struct`
-    Struct,
-    /// `union`
-    Union,
-    /// `enum`
-    Enum,
-
-    /// `if`
-    If,
-    /// `else`
-    Else,
-    /// `switch`
-    Switch,
-    /// `case`
-    Case,
-    /// `default`
-    Default,
-    /// `while`
-    While,
-    /// `do`
-    Do,
-    /// `for`
-    For,
-    /// `goto`
-    Goto,
-    /// `continue`
-    Continue,
-    /// `break`
-    Break,
-    /// `return`
-    Return,
+    /// `__builtin_va_arg`
+    BuiltinVaArg,
+    /// `__builtin_offsetof`
+    BuiltinOffsetof,
 }

@@ -5,7 +5,7 @@ use Rattle.std.proofs.lemmas.List.{append_assoc, map-append}
 use Rattle.c_tree.specs.Symbol.{Symbol}
 use Rattle.metal_tree.specs.MetalMachines.Machine.{Hole, Rule}
 use Rattle.metal_tree.specs.MetalMachines.Kept as kept
-use Rattle.metal_tree.specs.MetalMachines.Kept.{all_of, some_of, are_one, targets, bound_in, asked_in, named_in, variable_of_target, is_variable, is_split_well, goes_from, binds, named_by, named_outside_states, IsKeptBy, AreKept, IsKept}
+use Rattle.metal_tree.specs.MetalMachines.Kept.{all_of, any_of, are_one, targets, bound_in, asked_in, named_in, variable_of_target, is_variable, is_split_well, goes_from, binds, named_by, named_outside_states, IsKeptBy, AreKept, IsKept}
 use Rattle.metal_tree.specs.MetalMachines.Limits.{most_variables, most_holes, most_rules}
 use Rattle.metal_grammar.specs.Words.{Spelling}
 use Rattle.metal_grammar.specs.Written.{Row, lone, row, members, StateName, OfMachine, OfVariable, WrittenItem, Pattern, Callout, Dollars, Destination, To, Split, WrittenAction, Alternative, WrittenRule, Content, Nothing, Declares, Rules, Clause}
@@ -16,7 +16,7 @@ use Rattle.metal_grammar.specs.Holes.{DeclaredHole, Operand, are_placed}
 use Rattle.metal_grammar.specs.Patterns.{has_plain_types}
 use Rattle.metal_grammar.specs.Meaning.{number_in, is_start, globals_among, states_among, Numbering, global_number, source_of, target_of, dest_of, item_of, action_of, rule_of, in_order, hole_of, states_mentioned, machine_name}
 use Rattle.metal_grammar.specs.Rules.{is_among, size, behind_head, behind_clause, holes_of, declared_names, variables_among, targets_of, variable_of, pattern_names, callout_names, all_pattern_names, all_callout_names, action_names_of, variables_of_states, has_end, PlacedRule, rules_from, rules_of_content, count_of_rules, placed_rules, rules_of}
-use Rattle.metal_grammar.specs.Faults.{count_of_holes, count_of_variables, passing, repeated, any_of, is_stop, is_misnamed, is_global, unknown_callout_of, unknown_callouts, differ, names_two_variables, are_alike, some_end, is_bad_split, is_all_global, names_variable, is_bad_source, is_excused, is_bound, lacks, lacks_variable, is_bad_format}
+use Rattle.metal_grammar.specs.Faults.{count_of_holes, count_of_variables, passing, repeated, is_stop, is_misnamed, is_global, unknown_callout_of, unknown_callouts, differ, names_two_variables, are_alike, some_end, is_bad_split, is_all_global, names_variable, is_bad_source, is_excused, is_bound, lacks, lacks_variable, is_bad_format}
 use Rattle.metal_grammar.specs.FirstFault.{Fault, Variables, Holes, AllRules, too_many, twice, unknown_at, TwoVariables, BadSplit, BadSource, VariableMissing, BadFormat, fault_of_rule, fault_of_rules}
 use Rattle.metal_grammar.specs.Theorems.{TextsAreKept, MachinesAreKept}
 use Rattle.metal_grammar.proofs.HolesNumbered.{both}
@@ -229,11 +229,11 @@ goes spelling vs ws states name holes lists rules r (OfMachine s) e w q c d =
     joined _ _ (flipped_true _ (not_stop (numbering_for spelling vs ws states) s q)) (by (any_of (λ target. not (is_global target)) (targets_of r.rule.destination)) refl d)
   where
     by : (b : Bool) → any_of (λ target. not (is_global target)) (targets_of r.rule.destination) ≡ b → (not b && names_variable vs r.rule) ≡ false
-        → (some_of (λ t. not (kept.is_global t)) (targets (dest_of (numbering_for spelling vs ws states) r.rule.destination))
-        || not (some_of (λ k. nat_lt k (length vs)) (named_outside_states (rule_of (numbering_for spelling vs ws states) r)))) ≡ true
+        → (any_of (λ t. not (kept.is_global t)) (targets (dest_of (numbering_for spelling vs ws states) r.rule.destination))
+        || not (any_of (λ k. nat_lt k (length vs)) (named_outside_states (rule_of (numbering_for spelling vs ws states) r)))) ≡ true
     by true p h = left _ _ (some_targets (numbering_for spelling vs ws states) r.rule.destination ∙ p)
     by false p h =
-        right _ _ (flipped_true _ (ap (some_of (λ k. nat_lt k (length vs))) e ∙ some_numbers vs ws (outside (vs ++ ws) r) w
+        right _ _ (flipped_true _ (ap (any_of (λ k. nat_lt k (length vs))) e ∙ some_numbers vs ws (outside (vs ++ ws) r) w
         ∙ any_outside vs ws (all_pattern_names r.rule) (all_callout_names r.rule) (action_names_of r.rule.action) ∙ h))
 goes spelling vs ws states name holes lists rules r (OfVariable v s) e w q c d = all_targets (numbering_for spelling vs ws states) r.rule.destination c
 

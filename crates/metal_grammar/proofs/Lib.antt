@@ -23,6 +23,7 @@ pub mod Limited
 pub mod HolesNumbered
 pub mod Numbered
 pub mod StatesNumbered
+pub mod Messages
 pub mod RulesNumbered
 pub mod RulesKept
 pub mod Kept

@@ -37,7 +37,7 @@ pub neither_fault : (a b : Option Fault) → or_else a b ≡ None → (a ≡ Non
 neither_fault None b h = (refl, h)
 neither_fault (Some fault) b h = cc
 
-not_too_many : (which : Counted) (o : Option ℕ) → too_many which o ≡ None → o ≡ None
+pub not_too_many : (which : Counted) (o : Option ℕ) → too_many which o ≡ None → o ≡ None
 not_too_many which None h = refl
 not_too_many which (Some position) h = cc
 

@@ -53,20 +53,20 @@ text_plain : (t : Option Literal) → IsPlain (text_phrase t)
 text_plain None = tt
 text_plain (Some literal) = (refl, refl)
 
-callout_plain : (spelling : Spelling) (c : WrittenCallout) → is_callout spelling c ≡ true → IsPlain (callout_phrase c)
+pub callout_plain : (spelling : Spelling) (c : WrittenCallout) → is_callout spelling c ≡ true → IsPlain (callout_phrase c)
 callout_plain spelling (Digit (IntLiteral value name)) h = refl
 callout_plain spelling (Digit _) h = cc
 callout_plain spelling (Asked name argument text) h = ((((refl, refl), argument_plain argument), text_plain text), refl)
 
-negation_plain : (b : Bool) → IsPlain (sign_if b (sign marks.Exclamation))
+pub negation_plain : (b : Bool) → IsPlain (sign_if b (sign marks.Exclamation))
 negation_plain true = refl
 negation_plain false = tt
 
-literals_plain : (ls : Row Literal) → IsPlain (literals_phrase ls)
+pub literals_plain : (ls : Row Literal) → IsPlain (literals_phrase ls)
 literals_plain (lone l) = refl
 literals_plain (row l ls) = ((refl, tt), literals_plain ls)
 
-identifiers_plain : (xs : List (ℕ × ℕ)) → IsPlain (each_phrase identifier_phrase xs)
+pub identifiers_plain : (xs : List (ℕ × ℕ)) → IsPlain (each_phrase identifier_phrase xs)
 identifiers_plain [] = tt
 identifiers_plain (x ∷ xs) = (((((refl, refl), refl), refl), refl), identifiers_plain xs)
 

@@ -3,14 +3,14 @@ use Rattle.std.proofs.Common.{◌≡◌, ◌⊎◌, inl, inr, ℕ, Bool, true, f
 use Rattle.std.proofs.lemmas.List.{map-append}
 use Rattle.metal_tree.specs.MetalMachines.Machine.{Hole, ToObject, ToUnknown, Rule, Machine}
 use Rattle.metal_tree.specs.MetalMachines.Kept as kept
-use Rattle.metal_tree.specs.MetalMachines.Kept.{all_of, some_of, are_one, targets, bound_in, asked_in, named_in, variable_of_source, variable_of_target, is_source_of, is_target_of, is_in_range, is_variable, has_one_variable, is_split_well, goes_from, binds, binds_all, named_by, named_outside_states, IsKeptBy}
+use Rattle.metal_tree.specs.MetalMachines.Kept.{all_of, any_of, are_one, targets, bound_in, asked_in, named_in, variable_of_source, variable_of_target, is_source_of, is_target_of, is_in_range, is_variable, has_one_variable, is_split_well, goes_from, binds, binds_all, named_by, named_outside_states, IsKeptBy}
 use Rattle.metal_grammar.specs.Words.{Spelling}
 use Rattle.metal_grammar.specs.Written.{Row, lone, row, members, StateName, OfMachine, OfVariable, WrittenItem, Pattern, Callout, Dollars, Destination, To, Split, WrittenAction, Alternative}
 use Rattle.metal_grammar.specs.Grammar.{some, each, is_end}
 use Rattle.metal_grammar.specs.Meaning.{number_in, globals_among, states_among, Numbering, state_number, source_of, target_of, dest_of, item_of, action_of}
 use Rattle.metal_grammar.specs.Message.{message_with}
 use Rattle.metal_grammar.specs.Rules.{is_among, targets_of, variable_of, pattern_names, callout_names, action_names_of, has_end}
-use Rattle.metal_grammar.specs.Faults.{any_of, is_stop, is_misnamed, is_global, unknown_callout_of, any_wide, is_bad_format}
+use Rattle.metal_grammar.specs.Faults.{is_stop, is_misnamed, is_global, unknown_callout_of, any_wide, is_bad_format}
 use Rattle.metal_grammar.proofs.HolesNumbered.{both}
 use Rattle.metal_grammar.proofs.Numbered.{equal, either, right, front_below, is_front, Within}
 use Rattle.metal_grammar.proofs.StatesNumbered.{OneOf, lower, global_below, state_below}
@@ -127,11 +127,11 @@ any_held vs ws (x ∷ xs) = by (is_among vs x) (is_among (vs ++ ws) x) refl refl
     by true false p q i = let t : is_among (vs ++ ws) x ≡ true = among-left vs ws x p in cc
     by false false p q i = i
 
-pub some_numbers : (vs ws xs : List ℕ) → Within (vs ++ ws) xs → some_of (λ k. nat_lt k (length vs)) (map (number_in (vs ++ ws)) xs) ≡ any_of (is_among vs) xs
+pub some_numbers : (vs ws xs : List ℕ) → Within (vs ++ ws) xs → any_of (λ k. nat_lt k (length vs)) (map (number_in (vs ++ ws)) xs) ≡ any_of (is_among vs) xs
 some_numbers vs ws [] h = refl
 some_numbers vs ws (x ∷ xs) h =
     let b = both (is_among (vs ++ ws) x) (all_of (is_among (vs ++ ws)) xs) h in
-    ap (λ c. c || some_of (λ k. nat_lt k (length vs)) (map (number_in (vs ++ ws)) xs)) (is_front vs ws x b.0) ∙ ap (λ c. is_among vs x || c) (some_numbers vs ws xs b.1)
+    ap (λ c. c || any_of (λ k. nat_lt k (length vs)) (map (number_in (vs ++ ws)) xs)) (is_front vs ws x b.0) ∙ ap (λ c. is_among vs x || c) (some_numbers vs ws xs b.1)
 
 -- What gives names their numbers where these are the names of the variables and of the other holes.
 abbrev pub numbering_for : Spelling → List ℕ → List ℕ → List StateName → Numbering
@@ -231,9 +231,9 @@ items_end n (Dollars name ∷ is) = refl
 pub same_end : (n : Numbering) (items : Alternative) → kept.has_end (map (item_of n) (members items)) ≡ has_end items
 same_end n items = items_end n (members items) ∙ sym (some_members is_end items)
 
-pub ends : (n : Numbering) (os : List Alternative) → some_of kept.has_end (map (λ items. map (item_of n) (members items)) os) ≡ any_of has_end os
+pub ends : (n : Numbering) (os : List Alternative) → any_of kept.has_end (map (λ items. map (item_of n) (members items)) os) ≡ any_of has_end os
 ends n [] = refl
-ends n (o ∷ os) = ap (λ b. b || some_of kept.has_end (map (λ items. map (item_of n) (members items)) os)) (same_end n o) ∙ ap (λ b. has_end o || b) (ends n os)
+ends n (o ∷ os) = ap (λ b. b || any_of kept.has_end (map (λ items. map (item_of n) (members items)) os)) (same_end n o) ∙ ap (λ b. has_end o || b) (ends n os)
 
 pub target_global : (n : Numbering) (s : StateName) → kept.is_global (target_of n s) ≡ is_global s
 target_global n (OfMachine s) = refl
@@ -243,7 +243,7 @@ target_global n (OfVariable v s) = by (is_stop n.spelling (OfVariable v s))
     by true = refl
     by false = refl
 
-pub some_targets : (n : Numbering) (d : Destination) → some_of (λ t. not (kept.is_global t)) (targets (dest_of n d)) ≡ any_of (λ t. not (is_global t)) (targets_of d)
+pub some_targets : (n : Numbering) (d : Destination) → any_of (λ t. not (kept.is_global t)) (targets (dest_of n d)) ≡ any_of (λ t. not (is_global t)) (targets_of d)
 some_targets n (To t) = ap (λ b. not b || false) (target_global n t)
 some_targets n (Split x t y u) = ap (λ b. not b || (not (kept.is_global (target_of n u)) || false)) (target_global n t) ∙ ap (λ b. not (is_global t) || (not b || false)) (target_global n u)
 

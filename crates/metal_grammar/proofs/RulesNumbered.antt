@@ -1,8 +1,8 @@
 -- What the rule of a machine names, against what the rule of the text does.
-use Rattle.std.proofs.Common.{◌≡◌, ℕ, Bool, true, false, cond, not, nat_eq, ◌&&◌, is_some, is_none, List, [], ◌∷◌, ◌++◌, map, filter, flat_map, option_map, unwrap_or, codes, Option, None, Some, ap, refl, ◌∙◌, sym}
+use Rattle.std.proofs.Common.{◌≡◌, ℕ, Bool, true, false, cond, is_none, List, [], ◌∷◌, ◌++◌, map, filter, flat_map, unwrap_or, codes, None, Some, ap, refl, ◌∙◌, sym}
 use Rattle.std.proofs.lemmas.List.{map-append}
 use Rattle.c_tree.specs.Symbol.{Integer, Word, Reserved, Sign, IntLiteral, FloatLiteral, CharLiteral, StringLiteral}
-use Rattle.metal_tree.specs.MetalMachines.Machine.{CalloutRow, IsConst, IsGlobal, IsParam, IsLocal, NameIs, InFunction, NeverHolds, AlwaysHolds, Piece, Bytes, HoleText, Holds, ToUnknown, ToObject}
+use Rattle.metal_tree.specs.MetalMachines.Machine.{CalloutRow, IsConst, IsGlobal, IsParam, IsLocal, NameIs, InFunction, NeverHolds, AlwaysHolds, Holds, ToUnknown, ToObject}
 use Rattle.metal_tree.specs.MetalMachines.Kept.{all_of, targets, holes_of_item, asked_of_item, bound_in, asked_in, hole_of_piece, named_in, variable_of_source, variable_of_target, asks_hole}
 use Rattle.metal_grammar.specs.Words.{Spelling, is_spelled, contents_of}
 use Rattle.metal_grammar.specs.Written.{members, StateName, OfMachine, OfVariable, Name, Text, WrittenCallout, Digit, Asked, WrittenItem, Pattern, Callout, Dollars, Destination, To, Split, WrittenAction}
@@ -10,11 +10,12 @@ use Rattle.metal_grammar.specs.Grammar.{is_callout}
 use Rattle.metal_grammar.specs.Patterns.{has_plain_types, names_in}
 use Rattle.metal_grammar.specs.Callouts.{row_of_hole, row_of_both, row_of_text, row_of_digit, row_of}
 use Rattle.metal_grammar.specs.Meaning.{number_among, number_in, Numbering, state_number, source_of, target_of, dest_of, condition_of, item_of, action_of}
-use Rattle.metal_grammar.specs.Message.{unescaped, literal_byte, next_argument, later_arguments, directive, are_none_left, pieces_from, pieces_of, message_with}
+use Rattle.metal_grammar.specs.Message.{unescaped, message_with}
 use Rattle.metal_grammar.specs.Rules.{is_among, targets_of, variable_of, pattern_names_of, callout_names_of}
 use Rattle.metal_grammar.specs.Faults.{is_stop, unknown_callout_of}
 use Rattle.metal_grammar.proofs.HolesNumbered.{both, holes_numbered}
 use Rattle.metal_grammar.proofs.Numbered.{numbers_of}
+use Rattle.metal_grammar.proofs.Messages.{some_pieces}
 
 -- what is known of an item of a text: its holes are still names, and its callout is one of the language
 abbrev pub is_sound : Spelling → WrittenItem → Bool
@@ -140,94 +141,6 @@ items_asked n (i ∷ is) h u =
     ∙ ap (λ l. map (number_in n.holes) (callout_names_of i) ++ l) (items_asked n is b.1 v.1)
     ∙ sym (map-append (number_in n.holes) (callout_names_of i) (flat_map callout_names_of is))
 
--- Messages take their arguments in order.
-none_left : (f : ℕ → ℕ) (xs : List ℕ) → are_none_left (map f xs) ≡ are_none_left xs
-none_left f [] = refl
-none_left f (x ∷ xs) = refl
-
-later : (f : ℕ → ℕ) (b : Bool) (xs : List ℕ) → cond b (later_arguments (map f xs)) (map f xs) ≡ map f (cond b (later_arguments xs) xs)
-later f true [] = refl
-later f true (x ∷ xs) = refl
-later f false xs = refl
-
-mapped_some : {A B : Type 0} (g : A → B) (o : Option A) → is_some (option_map g o) ≡ is_some o
-mapped_some g None = refl
-mapped_some g (Some x) = refl
-
-argument_some : (f : ℕ → ℕ) (xs : List ℕ) (p q : Option (List Piece)) → is_some p ≡ is_some q → is_some (next_argument (map f xs) p) ≡ is_some (next_argument xs q)
-argument_some f [] p q e = refl
-argument_some f (x ∷ xs) p q e = mapped_some _ p ∙ e ∙ sym (mapped_some _ q)
-
-directive_some : (f : ℕ → ℕ) (percent : Bool) (b : ℕ) (xs : List ℕ) (p q : Option (List Piece)) → is_some p ≡ is_some q → is_some (directive percent b (map f xs) p) ≡ is_some (directive percent b xs q)
-directive_some f true b xs p q e = by (nat_eq b 115) (nat_eq b 37)
-  where
-    by : (s t : Bool) → is_some (cond s (next_argument (map f xs) p) (cond t (option_map (literal_byte b) p) None)) ≡ is_some (cond s (next_argument xs q) (cond t (option_map (literal_byte b) q) None))
-    by true t = argument_some f xs p q e
-    by false true = mapped_some (literal_byte b) p ∙ e ∙ sym (mapped_some (literal_byte b) q)
-    by false false = refl
-directive_some f false b xs p q e = by (nat_eq b 37)
-  where
-    by : (t : Bool) → is_some (cond t p (option_map (literal_byte b) p)) ≡ is_some (cond t q (option_map (literal_byte b) q))
-    by true = e
-    by false = mapped_some (literal_byte b) p ∙ e ∙ sym (mapped_some (literal_byte b) q)
-
-pieces_some : (f : ℕ → ℕ) (percent : Bool) (bs xs : List ℕ) → is_some (pieces_from percent bs (map f xs)) ≡ is_some (pieces_from percent bs xs)
-pieces_some f percent [] xs = ap (λ b. is_some {T = List Piece} (cond (not percent && b) (Some []) None)) (none_left f xs)
-pieces_some f percent (b ∷ bs) xs =
-    directive_some f percent b xs _ _
-    (ap (λ l. is_some (pieces_from (not percent && nat_eq b 37) bs l)) (later f (percent && nat_eq b 115) xs)
-    ∙ pieces_some f (not percent && nat_eq b 37) bs (cond (percent && nat_eq b 115) (later_arguments xs) xs))
-
-abbrev pub names_of_pieces : List Piece → List ℕ
-names_of_pieces ps = flat_map hole_of_piece ps
-
-literal_names : (b : ℕ) (ps : List Piece) → names_of_pieces (literal_byte b ps) ≡ names_of_pieces ps
-literal_names b [] = refl
-literal_names b (Bytes bs ∷ ps) = refl
-literal_names b (HoleText h ∷ ps) = refl
-
--- whatever pieces there are name these
-abbrev pub Names : Option (List Piece) → List ℕ → Type 0
-Names o xs = (ps : List Piece) → o ≡ Some ps → names_of_pieces ps ≡ xs
-
-literal_named : (b : ℕ) (o : Option (List Piece)) (xs : List ℕ) → Names o xs → Names (option_map (literal_byte b) o) xs
-literal_named b None xs w ps e = cc
-literal_named b (Some qs) xs w ps e = let q : literal_byte b qs ≡ ps = cc in ap names_of_pieces (sym q) ∙ literal_names b qs ∙ w qs refl
-
-argument_named : (xs : List ℕ) (o : Option (List Piece)) → Names o (later_arguments xs) → Names (next_argument xs o) xs
-argument_named [] o w ps e = cc
-argument_named (x ∷ xs) None w ps e = cc
-argument_named (x ∷ xs) (Some qs) w ps e = let q : (HoleText x ∷ qs) ≡ ps = cc in ap names_of_pieces (sym q) ∙ ap (λ l. x ∷ l) (w qs refl)
-
-pieces_named : (percent : Bool) (bs xs : List ℕ) → Names (pieces_from percent bs xs) xs
-pieces_named percent [] xs ps e = by percent xs e
-  where
-    by : (b : Bool) (ys : List ℕ) → cond (not b && are_none_left ys) (Some []) None ≡ Some ps → names_of_pieces ps ≡ ys
-    by true ys q = cc
-    by false [] q = let z : [] ≡ ps = cc in ap names_of_pieces (sym z)
-    by false (y ∷ ys) q = cc
-pieces_named true (b ∷ bs) xs ps e = by (nat_eq b 115) (nat_eq b 37) (pieces_named false bs (cond (nat_eq b 115) (later_arguments xs) xs)) ps e
-  where
-    by : (s t : Bool) → Names (pieces_from false bs (cond s (later_arguments xs) xs)) (cond s (later_arguments xs) xs)
-        → Names (cond s (next_argument xs (pieces_from false bs (cond s (later_arguments xs) xs))) (cond t (option_map (literal_byte b) (pieces_from false bs (cond s (later_arguments xs) xs))) None)) xs
-    by true t w = argument_named xs _ w
-    by false true w = literal_named b _ xs w
-    by false false w = λ ps e. cc
-pieces_named false (b ∷ bs) xs ps e = by (nat_eq b 37) (pieces_named (nat_eq b 37) bs xs) ps e
-  where
-    by : (t : Bool) → Names (pieces_from t bs xs) xs → Names (cond t (pieces_from t bs xs) (option_map (literal_byte b) (pieces_from t bs xs))) xs
-    by true w = w
-    by false w = literal_named b _ xs w
-
-some_pieces : (f : ℕ → ℕ) (o : Option (List ℕ)) (xs : List ℕ) → is_none (pieces_of o xs) ≡ false → named_in (pieces_of o (map f xs)) ≡ map f xs
-some_pieces f None xs h = cc
-some_pieces f (Some bs) xs h = by (pieces_from false bs xs) (pieces_from false bs (map f xs)) (pieces_some f false bs xs) (pieces_named false bs (map f xs)) h
-  where
-    by : (p q : Option (List Piece)) → is_some q ≡ is_some p → Names q (map f xs) → is_none p ≡ false → named_in q ≡ map f xs
-    by None q e w n = cc
-    by (Some ps) None e w n = cc
-    by (Some ps) (Some qs) e w n = w qs refl
-
 map-map : {A : Type 0} (f : ℕ → ℕ) (g : A → ℕ) (xs : List A) → map f (map g xs) ≡ map (λ x. f (g x)) xs
 map-map f g [] = refl
 map-map f g (x ∷ xs) = ap (λ l. f (g x) ∷ l) (map-map f g xs)
@@ -236,4 +149,4 @@ pub action_named : (n : Numbering) (a : WrittenAction) → is_none (message_with
     → named_in (action_of n (Some a)) ≡ map (number_in n.holes) (map (λ argument. argument.1) a.arguments)
 action_named n a h =
     ap (λ l. named_in (message_with n.spelling a l)) (sym (map-map (number_in n.holes) (λ argument. argument.1) a.arguments))
-    ∙ some_pieces (number_in n.holes) (unescaped false (flat_map (contents_of n.spelling) (members a.literals))) (map (λ argument. argument.1) a.arguments) h
+    ∙ some_pieces (number_in n.holes) (unescaped (flat_map (contents_of n.spelling) (members a.literals))) (map (λ argument. argument.1) a.arguments) h

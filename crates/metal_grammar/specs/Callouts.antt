@@ -1,25 +1,40 @@
 -- The table of callouts: which row a written callout is.
-use Rattle.std.specs.Prelude.{ℕ, cond, codes, Option, None, Some}
+use Rattle.std.specs.Prelude.{ℕ, cond, codes, List, [], ◌∷◌, Option, None, Some}
+use Rattle.c_tree.specs.Tables.{find_text}
 use Rattle.c_tree.specs.Symbol.{Symbol, IntLiteral}
 use Rattle.metal_tree.specs.MetalMachines.Machine.{CalloutRow, IsConst, IsGlobal, IsParam, IsLocal, NameIs, InFunction, NeverHolds, AlwaysHolds}
-use Rattle.metal_grammar.specs.Words.{Spelling, Literal, is_spelled, name_spelled, contents_of}
+use Rattle.metal_grammar.specs.Words.{Spelling, Literal, spelled, is_spelled, name_spelled, contents_of}
 use Rattle.metal_grammar.specs.Written.{Name, Text, WrittenCallout, Digit, Asked}
 
--- the rows that ask of a hole alone
+-- names, each with its row
+abbrev pub Rows : Type 0
+Rows = List (List ℕ × CalloutRow)
+
+-- those that ask of a hole alone
+abbrev pub hole_rows : Rows
+hole_rows =
+    (codes "mc_is_const", IsConst)
+    ∷ (codes "mc_is_global", IsGlobal)
+    ∷ (codes "mc_is_param", IsParam)
+    ∷ (codes "mc_is_local", IsLocal)
+    ∷ []
+
+-- of a hole and a text
+abbrev pub both_rows : Rows
+both_rows = (codes "mc_name_is", NameIs) ∷ []
+
+-- of a text alone
+abbrev pub text_rows : Rows
+text_rows = (codes "mc_in_function", InFunction) ∷ []
+
 abbrev pub row_of_hole : Spelling → ℕ → Option CalloutRow
-row_of_hole spelling name =
-    cond (is_spelled spelling (codes "mc_is_const") name) (Some IsConst) (
-    cond (is_spelled spelling (codes "mc_is_global") name) (Some IsGlobal) (
-    cond (is_spelled spelling (codes "mc_is_param") name) (Some IsParam) (
-    cond (is_spelled spelling (codes "mc_is_local") name) (Some IsLocal) None)))
+row_of_hole spelling name = find_text (spelled spelling name) hole_rows
 
--- the row that asks of a hole and a text
 abbrev pub row_of_both : Spelling → ℕ → Option CalloutRow
-row_of_both spelling name = cond (is_spelled spelling (codes "mc_name_is") name) (Some NameIs) None
+row_of_both spelling name = find_text (spelled spelling name) both_rows
 
--- the row that asks of a text alone
 abbrev pub row_of_text : Spelling → ℕ → Option CalloutRow
-row_of_text spelling name = cond (is_spelled spelling (codes "mc_in_function") name) (Some InFunction) None
+row_of_text spelling name = find_text (spelled spelling name) text_rows
 
 -- `0` never holds, and `1` always does
 abbrev pub row_of_digit : Spelling → Symbol → Option CalloutRow

@@ -1,5 +1,6 @@
 -- The faults that a written text may have, each by itself.
 use Rattle.std.specs.Prelude.{ℕ, ◌+◌, Bool, true, false, cond, not, nat_eq, nat_lt, ◌&&◌, ◌||◌, is_some, is_none, List, [], ◌∷◌, ◌++◌, length, flat_map, filter, codes, Option, None, Some}
+pub use Rattle.metal_tree.specs.MetalMachines.Lists.{any_of}
 use Rattle.metal_grammar.specs.Words.{Spelling, is_spelled, Literal}
 use Rattle.metal_grammar.specs.Written.{members, StateName, OfMachine, OfVariable, Asked, WrittenItem, Callout, Destination, To, Split, WrittenAction, Alternative, WrittenRule, Content, Declares, Clause}
 use Rattle.metal_grammar.specs.Grammar.{some}
@@ -78,10 +79,6 @@ is_stop spelling (OfVariable variable state) = is_spelled spelling (codes "stop"
 abbrev pub is_global : StateName → Bool
 is_global (OfMachine state) = true
 is_global (OfVariable variable state) = false
-
-abbrev pub any_of : {A : Type 0} → (A → Bool) → List A → Bool
-any_of is [] = false
-any_of is (x ∷ xs) = is x || any_of is xs
 
 -- the rule goes from a state of the machine to such states
 abbrev pub is_all_global : PlacedRule → Bool

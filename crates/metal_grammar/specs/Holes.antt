@@ -1,9 +1,10 @@
 -- The types of holes as they are written, the names that a text declares as holes, and where in an expression each may stand.
 use Rattle.std.specs.Prelude.{ℕ, zero, suc, Bool, true, false, cond, nat_eq, ◌&&◌, List, [], ◌∷◌, map, Option, None, Some}
+use Rattle.c_tree.specs.Tables.{find_text}
 use Rattle.c_tree.specs.Symbol.{Symbol, Word}
 use Rattle.c_tree.specs.Syntax.{Syntax, Primary, Operation, Initializer, Part, PrimarySyntax, OperationSyntax, InitializerSyntax, Ident, Paren, VaArg, Offsetof, Index, Call, Member, Arrow, CompoundLit, Unary, Cast, Binary, Cond, Assign, Braces, Designated, IndexDesignator, Syntaxes, no_more, more}
 use Rattle.metal_tree.specs.MetalMachines.Machine.{NamedType, Basic, Tag, Pointer, HoleType, AnyExpr, AnyScalar, AnyPointer, AnyArguments, AnyFnCall, Named}
-use Rattle.metal_grammar.specs.Words.{Spelling, is_spelled}
+use Rattle.metal_grammar.specs.Words.{Spelling, spelled}
 use Rattle.metal_grammar.specs.Written.{members, WrittenType, KindOfHole, BasicType, TagType, Declaration}
 use Rattle.std.specs.Prelude.{codes, is_some}
 
@@ -11,14 +12,18 @@ abbrev pub pointers : ℕ → NamedType → NamedType
 pointers zero t = t
 pointers (suc n) t = Pointer (pointers n t)
 
--- the kind of hole that a word names
+-- the kinds of holes that have a word of the language
+abbrev pub kinds_of_holes : List (List ℕ × HoleType)
+kinds_of_holes =
+    (codes "any_expr", AnyExpr)
+    ∷ (codes "any_scalar", AnyScalar)
+    ∷ (codes "any_pointer", AnyPointer)
+    ∷ (codes "any_arguments", AnyArguments)
+    ∷ (codes "any_fn_call", AnyFnCall)
+    ∷ []
+
 abbrev pub kind_of_hole : Spelling → ℕ → Option HoleType
-kind_of_hole spelling name =
-    cond (is_spelled spelling (codes "any_expr") name) (Some AnyExpr) (
-    cond (is_spelled spelling (codes "any_scalar") name) (Some AnyScalar) (
-    cond (is_spelled spelling (codes "any_pointer") name) (Some AnyPointer) (
-    cond (is_spelled spelling (codes "any_arguments") name) (Some AnyArguments) (
-    cond (is_spelled spelling (codes "any_fn_call") name) (Some AnyFnCall) None))))
+kind_of_hole spelling name = find_text (spelled spelling name) kinds_of_holes
 
 abbrev pub hole_type : Spelling → WrittenType → Option HoleType
 hole_type spelling (KindOfHole name) = kind_of_hole spelling name

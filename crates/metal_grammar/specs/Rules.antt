@@ -1,16 +1,13 @@
 -- The declared names and the rules of a text, each with the position of its first symbol, and what a rule names.
-use Rattle.std.specs.Prelude.{ℕ, ◌+◌, Bool, false, cond, nat_eq, ◌||◌, List, [], ◌∷◌, ◌++◌, length, flat_map, filter, map, Option, None, Some}
+use Rattle.std.specs.Prelude.{ℕ, ◌+◌, Bool, cond, nat_eq, List, [], ◌∷◌, ◌++◌, length, flat_map, filter, map, Option, None, Some}
 use Rattle.c_tree.specs.Phrase.{Phrase, ◌⨾◌}
+pub use Rattle.metal_tree.specs.MetalMachines.Lists.{is_among}
 use Rattle.metal_grammar.specs.Words.{Spelling}
 use Rattle.metal_grammar.specs.Written.{Row, lone, row, members, StateName, OfMachine, OfVariable, Name, Asked, WrittenItem, Pattern, Callout, Destination, To, Split, WrittenAction, Alternative, WrittenRule, Content, Declares, Rules, Clause}
 use Rattle.metal_grammar.specs.Phrases.{word, maybe_phrase, type_phrase, state_phrase, rule_phrase, head_phrase, phrase_tokens, clause_tokens}
 use Rattle.metal_grammar.specs.Holes.{DeclaredHole, declared_holes}
 use Rattle.metal_grammar.specs.Patterns.{names_in}
 use Rattle.metal_grammar.specs.Grammar.{is_end, some}
-
-abbrev pub is_among : List ℕ → ℕ → Bool
-is_among [] n = false
-is_among (m ∷ ms) n = nat_eq m n || is_among ms n
 
 abbrev pub size : Phrase → ℕ
 size p = length (phrase_tokens p)

@@ -8,7 +8,8 @@ use Rattle.metal_grammar.specs.Written.{members, Content, Nothing, Declares, Rul
 use Rattle.metal_grammar.specs.Holes.{DeclaredHole, hole_type, holes_as}
 use Rattle.metal_grammar.specs.Rules.{behind_clause, behind_head, holes_of_content, holes_of, rules_of_content, count_of_rules, placed_rules, rules_of}
 use Rattle.metal_grammar.specs.Faults.{passing, count_of_holes, count_of_variables}
-use Rattle.metal_grammar.specs.FirstFault.{Fault, Counted, Variables, Holes, AllRules, or_else, too_many, fault_of, fault_of_rules}
+use Rattle.metal_grammar.specs.FirstFault.{Fault, Variables, Holes, AllRules, or_else, too_many, fault_of, fault_of_rules}
+use Rattle.metal_grammar.proofs.Limited.{neither_fault, not_too_many}
 use Rattle.metal_reader.proofs.MetalPositions.Counting.{content_count}
 use Rattle.metal_reader.specs.MetalFaults.FirstFaults.{faults_before_rules}
 
@@ -59,27 +60,19 @@ rules-few limit before at number position (c ∷ cs) h l =
     let k = content_count number (behind_head position c) c.content in
     omega (arith, i, j, k)
 
-pub neither : (a b : Option Fault) → or_else a b ≡ None → (a ≡ None) × (b ≡ None)
-neither None b h = (refl, h)
-neither (Some fault) b h = cc
-
-not-too-many : (which : Counted) (o : Option ℕ) → too_many which o ≡ None → o ≡ None
-not-too-many which None h = refl
-not-too-many which (Some position) h = cc
-
 pub few_holes : (spelling : Spelling) (cs : List Clause) → faults_before_rules cs ≡ None → length (holes_of spelling cs) ≤ most_holes
 few_holes spelling cs h =
-    let a = neither (too_many Variables (passing count_of_variables most_variables 0 0 cs)) _ h in
-    let b = neither (too_many Holes (passing count_of_holes most_holes 0 0 cs)) _ a.1 in
-    let f = holes-few spelling most_holes 0 0 cs (not-too-many Holes _ b.0) (omega arith) in
+    let a = neither_fault (too_many Variables (passing count_of_variables most_variables 0 0 cs)) _ h in
+    let b = neither_fault (too_many Holes (passing count_of_holes most_holes 0 0 cs)) _ a.1 in
+    let f = holes-few spelling most_holes 0 0 cs (not_too_many Holes _ b.0) (omega arith) in
     omega (arith, f)
 
 pub few_rules : (cs : List Clause) → faults_before_rules cs ≡ None → length (rules_of cs) ≤ most_rules
 few_rules cs h =
-    let a = neither (too_many Variables (passing count_of_variables most_variables 0 0 cs)) _ h in
-    let b = neither (too_many Holes (passing count_of_holes most_holes 0 0 cs)) _ a.1 in
-    let c = neither (too_many AllRules (passing count_of_rules most_rules 0 0 cs)) _ b.1 in
-    let f = rules-few most_rules 0 0 1 0 cs (not-too-many AllRules _ c.0) (omega arith) in
+    let a = neither_fault (too_many Variables (passing count_of_variables most_variables 0 0 cs)) _ h in
+    let b = neither_fault (too_many Holes (passing count_of_holes most_holes 0 0 cs)) _ a.1 in
+    let c = neither_fault (too_many AllRules (passing count_of_rules most_rules 0 0 cs)) _ b.1 in
+    let f = rules-few most_rules 0 0 1 0 cs (not_too_many AllRules _ c.0) (omega arith) in
     omega (arith, f)
 
 -- the faults before the rules, and then those of the rules

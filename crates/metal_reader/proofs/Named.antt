@@ -9,7 +9,8 @@ use Rattle.metal_grammar.specs.FirstFault.{TwoVariables, BadSplit, BadSource, or
 use Rattle.metal_grammar.proofs.Numbered.{either}
 use Rattle.metal_numbers.specs.Numbers.{IsNamed, AreNamed}
 use Rattle.metal_reader.specs.MetalFaults.FirstFaults.{faults_before_rules}
-use Rattle.metal_reader.proofs.Few.{passed, neither, in_turn}
+use Rattle.metal_grammar.proofs.Limited.{neither_fault}
+use Rattle.metal_reader.proofs.Few.{passed, in_turn}
 
 source_named : (spelling : Spelling) (variables : List ℕ) (r : PlacedRule) → is_bad_source spelling variables r ≡ false → IsNamed variables r
 source_named spelling variables r h =
@@ -23,7 +24,7 @@ source_named spelling variables r h =
 rule_named : (spelling : Spelling) (holes : List DeclaredHole) (r : PlacedRule) → fault_of_rule spelling holes r ≡ None → IsNamed (variables_among holes) r
 rule_named spelling holes r h =
     let variables = variables_among holes in
-    let a = neither (unknown_at r.position (unknown_callouts spelling r.rule)) _ h in
+    let a = neither_fault (unknown_at r.position (unknown_callouts spelling r.rule)) _ h in
     let b = passed (names_two_variables variables r) (TwoVariables r.number) _ a.1 in
     let c = passed (is_bad_split r.rule r.rule.destination) (BadSplit r.number) _ b.1 in
     let d = passed (is_bad_source spelling variables r) (BadSource r.number) _ c.1 in
@@ -32,7 +33,7 @@ rule_named spelling holes r h =
 pub rules_named : (spelling : Spelling) (holes : List DeclaredHole) (rs : List PlacedRule) → fault_of_rules spelling holes rs ≡ None → AreNamed (variables_among holes) rs
 rules_named spelling holes [] h = tt
 rules_named spelling holes (r ∷ rs) h =
-    let a = neither (fault_of_rule spelling holes r) (fault_of_rules spelling holes rs) h in
+    let a = neither_fault (fault_of_rule spelling holes r) (fault_of_rules spelling holes rs) h in
     (rule_named spelling holes r a.0, rules_named spelling holes rs a.1)
 
 -- no fault before the rules, and none of theirs

@@ -3,7 +3,7 @@ use Rattle.std.specs.Prelude.{◌≡◌, ℕ, Bool, true, false, cond, not, nat_
 use Rattle.std.specs.Borrow.{Bor}
 use Rattle.std.specs.Option.{option_map}
 use Rattle.metal_tree.specs.MetalMachines.Machine as machines
-use Rattle.metal_grammar.specs.Message.{literal_byte}
+use Rattle.metal_grammar.specs.Message.{percent, letter_s, backslash, quote, literal_byte, push_literal, unescaped, behind_backslash, pieces_of, conversion}
 use Rattle.metal_tree.specs.declared.messages.Piece.{Piece}
 use Rattle.metal_tree.specs.Views.{piece_view}
 
@@ -20,10 +20,15 @@ ended pieces (b ∷ bs) = pieces ++ (machines.Bytes (b ∷ bs) ∷ [])
 
 -- whether a byte behind a backslash is none that is escaped, and whether a byte counts
 abbrev pub is_bad : Bool → ℕ → Bool
-is_bad behind b = behind && not (nat_eq b 92) && not (nat_eq b 34)
+is_bad behind b = behind && not (nat_eq b backslash) && not (nat_eq b quote)
 
 abbrev pub counts : Bool → ℕ → Bool
-counts behind b = behind || not (nat_eq b 92)
+counts behind b = behind || not (nat_eq b backslash)
+
+-- what bytes stand for, behind a backslash or not
+abbrev pub unescaped_from : Bool → List ℕ → Option (List ℕ)
+unescaped_from true bytes = behind_backslash bytes
+unescaped_from false bytes = unescaped bytes
 
 -- literal bytes in front of pieces
 abbrev pub bytes_before : List ℕ → List machines.Piece → List machines.Piece
@@ -35,10 +40,19 @@ abbrev pub behind_pieces : List machines.Piece → List ℕ → Option (List mac
 behind_pieces pieces bytes None = None
 behind_pieces pieces bytes (Some more) = Some (pieces ++ bytes_before bytes more)
 
--- the argument in front
-abbrev pub first_of : List ℕ → Option ℕ
+-- the argument in front, and those behind it
+abbrev pub first_of : {A : Type 0} → List A → Option A
 first_of [] = None
-first_of (h ∷ hs) = Some h
+first_of (x ∷ xs) = Some x
+
+abbrev pub later_arguments : List ℕ → List ℕ
+later_arguments [] = []
+later_arguments (h ∷ hs) = hs
+
+-- the pieces of bytes, behind a `%` or not
+abbrev pub pieces_from : Bool → List ℕ → List ℕ → Option (List machines.Piece)
+pieces_from true bytes arguments = conversion bytes arguments
+pieces_from false bytes arguments = pieces_of bytes arguments
 
 -- what follows behind an argument, a byte that isn't behind a `%`, and one that is
 abbrev pub with_argument : Option ℕ → Option (List machines.Piece) → Option (List machines.Piece)
@@ -46,10 +60,10 @@ with_argument None pieces = None
 with_argument (Some h) pieces = option_map (λ ps. machines.HoleText h ∷ ps) pieces
 
 abbrev pub directive_without : ℕ → Option (List machines.Piece) → Option (List machines.Piece)
-directive_without b pieces = cond (nat_eq b 37) pieces (option_map (literal_byte b) pieces)
+directive_without b pieces = cond (nat_eq b percent) pieces (push_literal b pieces)
 
 abbrev pub directive_behind : Option ℕ → ℕ → Option (List machines.Piece) → Option (List machines.Piece)
-directive_behind argument b pieces = cond (nat_eq b 115) (with_argument argument pieces) (cond (nat_eq b 37) (option_map (literal_byte b) pieces) None)
+directive_behind argument b pieces = cond (nat_eq b letter_s) (with_argument argument pieces) (cond (nat_eq b percent) (push_literal b pieces) None)
 
 abbrev pub directive_of : Bool → Option ℕ → ℕ → Option (List machines.Piece) → Option (List machines.Piece)
 directive_of true argument b pieces = directive_behind argument b pieces

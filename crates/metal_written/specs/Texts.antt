@@ -1,12 +1,10 @@
 -- The contents of strings, and their numbers.
-use Rattle.std.specs.Prelude.{◌≡◌, ℕ, ◌<◌, Bool, ◌&&◌, nat_eq, List, [], ◌∷◌, drop, length, slice_get, Some}
+use Rattle.std.specs.Prelude.{◌≡◌, ℕ, ◌<◌, List, [], ◌∷◌, drop, length, slice_get, Some}
 use Rattle.indexmap.specs.IndexMap.{get}
+pub use Rattle.c_tree.specs.Tables.{same_key}
 use Rattle.c_tree.specs.declared.token.Token.{Token}
 use Rattle.metal_written.specs.declared.texts.Texts.{Texts}
 use Rattle.metal_grammar.specs.Words.{Spelling, spelled, name_spelled, all_but_last}
-
-abbrev pub same_key : ℕ × ℕ → ℕ × ℕ → Bool
-same_key k l = nat_eq k.0 l.0 && nat_eq k.1 l.1
 
 -- the contents of the string with this name, behind so many bytes
 abbrev pub contents_behind : Spelling → ℕ × ℕ → List ℕ

@@ -1,10 +1,10 @@
 //! Messages: the pieces of an action.
 
-ghost use Rattle.std.specs.Prelude.{◌≡◌, ◌++◌, ◌&&◌, false, cond, nat_eq, flat_map, IfOk, map, [], ◌∷◌};
-ghost use Rattle.metal_grammar.specs.Message.{unescaped, later_arguments, pieces_from, message_with};
+ghost use Rattle.std.specs.Prelude.{◌≡◌, ◌++◌, ◌&&◌, cond, nat_eq, flat_map, IfOk, map, [], ◌∷◌};
+ghost use Rattle.metal_grammar.specs.Message.{letter_s, unescaped, pieces_of, message_with};
 ghost use Rattle.metal_grammar.specs.Words.{contents_of};
 ghost use Rattle.metal_written.specs.Written.{literal_views, action_view};
-ghost use Rattle.metal_written.specs.Messages.{bytes_in, pieces_in, ended, is_bad, counts, IsStep, first_of, with_argument, directive_without, directive_behind, directive_of};
+ghost use Rattle.metal_written.specs.Messages.{bytes_in, pieces_in, ended, is_bad, counts, IsStep, first_of, later_arguments, with_argument, directive_without, directive_behind, directive_of};
 ghost use Rattle.metal_tree.specs.Views.{piece_view};
 
 use crate::words::contents_of;
@@ -50,7 +50,7 @@ fn add_byte<'a>(
 
 /// The bytes that these stand for, where only a backslash and a quote are escaped; nothing where another byte is.
 fn unescaped<'a>(arena: &'a Arena, text: &[u8]) -> Result<Option<&'a [u8]>, AllocError>
-    ensures { IfOk result (λ bytes. bytes_in bytes ≡ unescaped false text.now) }
+    ensures { IfOk result (λ bytes. bytes_in bytes ≡ unescaped text.now) }
 {
     let mut bytes = Vec::new(arena);
     let mut behind_backslash = false;
@@ -158,7 +158,7 @@ fn add_text<'a>(
 
 /// The arguments that are left behind a byte: `s` behind a `%` takes one.
 fn left_behind(behind_percent: bool, byte: u8, arguments: &[u8]) -> &[u8]
-    ensures { result.now ≡ cond (behind_percent && nat_eq byte 115) (later_arguments arguments.now) arguments.now }
+    ensures { result.now ≡ cond (behind_percent && nat_eq byte letter_s) (later_arguments arguments.now) arguments.now }
 {
     if behind_percent && byte == b's' {
         match arguments {
@@ -187,7 +187,7 @@ fn pieces_of<'a>(
     text: &[u8],
     arguments: &[u8],
 ) -> Result<Option<&'a [Piece<'a>]>, AllocError>
-    ensures { IfOk result (λ pieces. pieces_in pieces ≡ pieces_from false text.now arguments.now) }
+    ensures { IfOk result (λ pieces. pieces_in pieces ≡ pieces_of text.now arguments.now) }
 {
     let mut pieces = Vec::new(arena);
     let mut bytes = Vec::new(arena);

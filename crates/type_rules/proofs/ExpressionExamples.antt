@@ -1,7 +1,6 @@
 -- Types of expressions, by computation. Names: f 0, x 1, y 2, p 3, q 4, s 5, T 6, a 7, b 8, c 9.
-use Rattle.std.proofs.Common.{◌≡◌, true, false, List, [], ◌∷◌, map, Some, refl}
+use Rattle.std.proofs.Common.{◌≡◌, true, false, List, [], ◌∷◌, Some, refl}
 use Rattle.c_grammar.specs.Specifiers.{occurrences, as_often}
-use Rattle.c_grammar.specs.Specifiers as grammar
 use Rattle.c_tree.specs.declared.keyword.Keyword.TheVariants as words
 use Rattle.c_tree.specs.declared.operator.BinaryOp.TheVariants as op
 use Rattle.c_tree.specs.declared.operator.StructOrUnion.TheVariants as which_word
@@ -12,16 +11,11 @@ use Rattle.c_tree.specs.Node.{Node, Declarator, Unnamed, present}
 use Rattle.type_rules.specs.Arithmetic.{convert, promote}
 use Rattle.type_rules.specs.Arithmetic as kind
 use Rattle.type_rules.specs.Faults.{Undeclared, NoField, NotPointer, NotStruct, NotFunction, NotLvalue}
-use Rattle.type_rules.specs.Specified.{basic_types}
 use Rattle.type_rules.specs.Types.{Void, Arith, Pointer, Array, Func, int, long}
 use Rattle.type_rules.proofs.Building.{at, a_node, list, name, func, constant, decimal, paren, unary, binary, choice, assigned, call, dot, arrow, index, cast, keyword, tag, tagged_body, body, specs, ints, chars, voids, type_in, member, declarator, plain, pointer, pointer_alone, bound, params, declaration, type_behind, fault_behind}
 
--- the words of basic types are those of the grammar
-pub same_basic_types : map (λ line. line.0) basic_types ≡ grammar.basic_types
-same_basic_types = refl
-
 -- 2147483647 is the last int in decimal, and 9223372036854775807 the last long
-last_int : type_behind [] (decimal 2147483647) ≡ Some int
+pub last_int : type_behind [] (decimal 2147483647) ≡ Some int
 last_int = refl
 
 first_long : type_behind [] (decimal 2147483648) ≡ Some long

@@ -1,31 +1,6 @@
--- Arithmetic types (ISO 9899:1990, 6.1.2.5), the types of later editions and of GNU C among them, and what becomes of them in
--- operators (6.2.1). The widths are those of a machine whose int has 32 bits and whose long and long long have 64.
+-- What becomes of the arithmetic types in operators (ISO 9899:1990, 6.2.1). The widths are those of a machine whose int has 32 bits and whose long and long long have 64.
 use Rattle.std.specs.Prelude.{ℕ, ◌-◌, ◌^◌, Bool, true, false, cond, not, ◌&&◌, nat_lt}
-
--- an enumeration has the type int
-pub data Arithmetic : Type 0 where
-  Boolean : Arithmetic
-  Char : Arithmetic
-  SignedChar : Arithmetic
-  UnsignedChar : Arithmetic
-  Short : Arithmetic
-  UnsignedShort : Arithmetic
-  Int : Arithmetic
-  UnsignedInt : Arithmetic
-  Long : Arithmetic
-  UnsignedLong : Arithmetic
-  LongLong : Arithmetic
-  UnsignedLongLong : Arithmetic
-  Int128 : Arithmetic
-  UnsignedInt128 : Arithmetic
-  Float32 : Arithmetic
-  Float : Arithmetic
-  Float32x : Arithmetic
-  Float64 : Arithmetic
-  Double : Arithmetic
-  Float64x : Arithmetic
-  LongDouble : Arithmetic
-  Float128 : Arithmetic
+pub use Rattle.c_grammar.specs.BasicTypes.{Arithmetic, Boolean, Char, SignedChar, UnsignedChar, Short, UnsignedShort, Int, UnsignedInt, Long, UnsignedLong, LongLong, UnsignedLongLong, Int128, UnsignedInt128, Float32, Float, Float32x, Float64, Double, Float64x, LongDouble, Float128}
 
 -- The order of the floating types, in which the later of two operands decides. It is 0 for an integer type.
 abbrev pub float_rank : Arithmetic → ℕ

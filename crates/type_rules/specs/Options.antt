@@ -1,15 +1,11 @@
 -- What may be missing, and what may be a fault.
 use Rattle.std.specs.Prelude.{Option, None, Some, Result, Ok, Err}
+pub use Rattle.c_tree.specs.Tables.{if_there}
 use Rattle.type_rules.specs.Faults.{Fault}
 
 abbrev pub or_else : {A : Type 0} → Option A → Option A → Option A
 or_else None y = y
 or_else (Some x) y = Some x
-
--- the second where the first is missing, else the third of it
-abbrev pub if_there : {A B : Type 0} → Option A → B → (A → B) → B
-if_there None n s = n
-if_there (Some x) n s = s x
 
 infixl 10 ◌>?◌
 abbrev pub ◌>?◌ : {A B : Type 0} → Option A → (A → Option B) → Option B

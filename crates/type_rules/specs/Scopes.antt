@@ -1,6 +1,7 @@
 -- What is in force at a place (ISO 9899:1990, 6.1.2.1 to 6.1.2.3): names, tags, and the structures and unions so far.
-use Rattle.std.specs.Prelude.{ℕ, ◌+◌, List, [], ◌∷◌, ◌++◌, length, drop, Option, None, Some, Bool, false, cond, ◌&&◌, ◌||◌, nat_eq}
+use Rattle.std.specs.Prelude.{ℕ, ◌+◌, List, [], ◌∷◌, ◌++◌, length, drop, Option, None, Some, Bool, cond, ◌&&◌, nat_eq}
 use Rattle.c_tree.specs.declared.place.Place.{Place}
+pub use Rattle.c_grammar.specs.UnitGrammar.Control.{has_name as is_among}
 use Rattle.type_rules.specs.Options.{or_else}
 use Rattle.type_rules.specs.Types.{CType}
 use Rattle.type_rules.specs.Vars.{CVar}
@@ -71,10 +72,6 @@ latest_tag n (k ∷ ks) = or_else (latest_tag n ks) (cond (nat_eq k.name n) (Som
 abbrev pub member_of : ℕ → ℕ → List Member → Option Member
 member_of o n [] = None
 member_of o n (m ∷ ms) = cond (nat_eq m.owner o && nat_eq m.name n) (Some m) (member_of o n ms)
-
-abbrev pub is_among : ℕ → List ℕ → Bool
-is_among n [] = false
-is_among n (k ∷ ks) = nat_eq n k || is_among n ks
 
 abbrev pub with_name : Scopes → Entry → Scopes
 with_name v k = record v { names = v.names ++ (k ∷ []) }

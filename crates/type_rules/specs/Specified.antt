@@ -1,63 +1,26 @@
 -- What specifiers say: the type, and how a name is stored (ISO 9899:1990, 6.5.1, 6.5.2).
-use Rattle.std.specs.Prelude.{cond, List, [], ◌∷◌, ◌++◌, Option, None, Some}
+use Rattle.std.specs.Prelude.{cond, List, [], ◌∷◌, ◌++◌, map, Option, None, Some}
 use Rattle.c_tree.specs.declared.keyword.Keyword.{Keyword}
 use Rattle.c_tree.specs.declared.keyword.Keyword.TheVariants as words
 use Rattle.c_tree.specs.declared.token.Token.{Token}
 use Rattle.c_tree.specs.declared.token.TokenKind.{TokenKind}
 use Rattle.c_tree.specs.declared.token.TokenKind.TheVariants as kinds
 use Rattle.c_tree.specs.Node.{Node, node, Specifier, Part, SpecifierShape, Specs, StructTag, StructBody, EnumTag, EnumBody, SpecWord, Nodes, no_more, more}
+use Rattle.c_grammar.specs.BasicTypes as basic
 use Rattle.c_grammar.specs.Specifiers.{is_type_word, same_words}
-use Rattle.type_rules.specs.Arithmetic as kind
 use Rattle.type_rules.specs.Options.{or_else, if_there, ◌>?◌}
 use Rattle.type_rules.specs.Scopes.{Scopes, latest}
 use Rattle.type_rules.specs.Tags.{Plainly, sort_of, aggregate, tag_number, body_number}
 use Rattle.type_rules.specs.Types.{CType, Void, Arith, VaList, int}
 
--- The basic types, each list of words in one order.
+abbrev pub type_of_basic : basic.BasicType → CType
+type_of_basic basic.Void = Void
+type_of_basic (basic.Arith k) = Arith k
+type_of_basic basic.VaList = VaList
+
+-- the lists of words of the basic types, each with its type
 abbrev pub basic_types : List (List Keyword × CType)
-basic_types =
-    (words.Int ∷ [], int)
-    ∷ (words.Char ∷ [], Arith kind.Char)
-    ∷ (words.Void ∷ [], Void)
-    ∷ (words.Unsigned ∷ words.Long ∷ [], Arith kind.UnsignedLong)
-    ∷ (words.Unsigned ∷ words.Int ∷ [], Arith kind.UnsignedInt)
-    ∷ (words.Unsigned ∷ words.Char ∷ [], Arith kind.UnsignedChar)
-    ∷ (words.Long ∷ [], Arith kind.Long)
-    ∷ (words.Double ∷ [], Arith kind.Double)
-    ∷ (words.Unsigned ∷ [], Arith kind.UnsignedInt)
-    ∷ (words.Signed ∷ words.Char ∷ [], Arith kind.SignedChar)
-    ∷ (words.Short ∷ [], Arith kind.Short)
-    ∷ (words.Short ∷ words.Int ∷ [], Arith kind.Short)
-    ∷ (words.Signed ∷ words.Short ∷ [], Arith kind.Short)
-    ∷ (words.Signed ∷ words.Short ∷ words.Int ∷ [], Arith kind.Short)
-    ∷ (words.Unsigned ∷ words.Short ∷ [], Arith kind.UnsignedShort)
-    ∷ (words.Unsigned ∷ words.Short ∷ words.Int ∷ [], Arith kind.UnsignedShort)
-    ∷ (words.Signed ∷ [], int)
-    ∷ (words.Signed ∷ words.Int ∷ [], int)
-    ∷ (words.Long ∷ words.Int ∷ [], Arith kind.Long)
-    ∷ (words.Signed ∷ words.Long ∷ [], Arith kind.Long)
-    ∷ (words.Signed ∷ words.Long ∷ words.Int ∷ [], Arith kind.Long)
-    ∷ (words.Unsigned ∷ words.Long ∷ words.Int ∷ [], Arith kind.UnsignedLong)
-    ∷ (words.Long ∷ words.Long ∷ [], Arith kind.LongLong)
-    ∷ (words.Long ∷ words.Long ∷ words.Int ∷ [], Arith kind.LongLong)
-    ∷ (words.Signed ∷ words.Long ∷ words.Long ∷ [], Arith kind.LongLong)
-    ∷ (words.Signed ∷ words.Long ∷ words.Long ∷ words.Int ∷ [], Arith kind.LongLong)
-    ∷ (words.Unsigned ∷ words.Long ∷ words.Long ∷ [], Arith kind.UnsignedLongLong)
-    ∷ (words.Unsigned ∷ words.Long ∷ words.Long ∷ words.Int ∷ [], Arith kind.UnsignedLongLong)
-    ∷ (words.Int128 ∷ [], Arith kind.Int128)
-    ∷ (words.Signed ∷ words.Int128 ∷ [], Arith kind.Int128)
-    ∷ (words.Unsigned ∷ words.Int128 ∷ [], Arith kind.UnsignedInt128)
-    ∷ (words.Float ∷ [], Arith kind.Float)
-    ∷ (words.Long ∷ words.Double ∷ [], Arith kind.LongDouble)
-    ∷ (words.Bool ∷ [], Arith kind.Boolean)
-    ∷ (words.Float32 ∷ [], Arith kind.Float32)
-    ∷ (words.Float32x ∷ [], Arith kind.Float32x)
-    ∷ (words.Float64 ∷ [], Arith kind.Float64)
-    ∷ (words.Float64x ∷ [], Arith kind.Float64x)
-    ∷ (words.Float128 ∷ [], Arith kind.Float128)
-    ∷ (words.GnuFloat128 ∷ [], Arith kind.Float128)
-    ∷ (words.BuiltinVaList ∷ [], VaList)
-    ∷ []
+basic_types = map (λ line. (line.0, type_of_basic line.1)) basic.basic_types
 
 -- the type of the first list with the same words, in any order
 abbrev pub basic_in : List Keyword → List (List Keyword × CType) → CType

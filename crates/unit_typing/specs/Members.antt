@@ -1,12 +1,10 @@
 -- Members by owner and name, and the members of an owner.
-use Rattle.std.specs.Prelude.{◌≡◌, ℕ, suc, Bool, List, [], ◌∷◌, ◌++◌, map, Option, None, Some, cond, nat_eq, ◌&&◌, slice_get}
+use Rattle.std.specs.Prelude.{◌≡◌, ℕ, suc, List, [], ◌∷◌, ◌++◌, map, Option, None, Some, cond, nat_eq, slice_get}
 use Rattle.std.specs.Option.{option_map}
+pub use Rattle.c_tree.specs.Tables.{same_key}
 use Rattle.unit_typing.specs.declared.members.MemberEntry.{MemberEntry}
 
 -- an owner and a name
-abbrev pub same_key : ℕ × ℕ → ℕ × ℕ → Bool
-same_key k l = nat_eq k.0 l.0 && nat_eq k.1 l.1
-
 abbrev pub key_of : MemberEntry → ℕ × ℕ
 key_of m = (m.owner, m.name)
 

@@ -10,7 +10,7 @@ use Rattle.c_tree.specs.declared.operator.StructOrUnion.TheVariants as which_wor
 use Rattle.c_tree.specs.declared.operator.UnaryOp.TheVariants as unary
 use Rattle.c_tree.specs.declared.punctuator.Punctuator.{Punctuator}
 use Rattle.c_tree.specs.declared.punctuator.Punctuator.TheVariants as marks
-use Rattle.c_tree.specs.Codes.{keyword_code, punctuator_code}
+use Rattle.c_tree.specs.Codes.{punctuator_code}
 use Rattle.c_tree.specs.Symbol.{Symbol, Word, Reserved, Sign, IntLiteral, FloatLiteral, CharLiteral, StringLiteral}
 use Rattle.c_tree.specs.Syntax.{Syntax, Primary, Operation, Initializer, Specifier, Declarator, Part, Outer, Statement, Iteration, Jump, Ident, Constant, StrConst, Paren, VaArg, Offsetof, Index, Call, Member, Arrow, Unary, SizeofType, Cast, Binary, Cond, Assign, Init, Braces, Specs, StructTag, StructBody, EnumTag, EnumBody, StructDeclaration, BitField, SpecWord, Enumerator, Declaration, Empty, Block, ExprStmt, If, Switch, Case, Default, Label, While, Do, For, Goto, Continue, Break, Return, absent, present, Syntaxes, no_more, more}
 use Rattle.c_tree.specs.Phrase.{phrase_then}
@@ -22,7 +22,7 @@ use Rattle.c_grammar.specs.Nonterminal.{WithName}
 use Rattle.c_grammar.specs.Grammar.{IsExpr, IsDeclarator}
 use Rattle.c_grammar.specs.DeclaratorSteps.{begins_declarator}
 use Rattle.c_grammar.proofs.Front.{after_none, is_sign-true, is_keyword-true}
-use Rattle.c_grammar.proofs.Begins.{differ, wider, begins_expression, expression_begins, expression_no_specifier, declarator_begins}
+use Rattle.c_grammar.proofs.Begins.{differ, wider, begins_with, begins_expression, expression_begins, expression_no_specifier, declarator_begins}
 use Rattle.c_grammar.proofs.CompleteSpecifiers.{fit_typed}
 use Rattle.c_grammar.specs.UnitGrammar.Names.{declared, makes_types}
 use Rattle.c_grammar.specs.UnitGrammar.Declarations.{IsEnumerator, IsMemberDeclarator, AreFullSpecifiers, AreFullItems, IsFullItem, IsMember, IsInitial, IsInitDeclarator, AreInitDeclarators, IsDeclaration}
@@ -204,12 +204,12 @@ opens words.Return = true
 opens _ = false
 
 abbrev pub begins_statement : Symbol → Bool
-begins_statement (Reserved k) = nat_le (keyword_code k) 2 || opens k
+begins_statement (Reserved k) = begins_with k || opens k
 begins_statement (Sign p) = nat_le (punctuator_code p) 8 || (is_sign marks.OpenBrace (Sign p) || is_sign marks.Semicolon (Sign p))
 begins_statement _ = true
 
 begins_expression_statement : (names : Names) (t : Symbol) → begins_expression names t ≡ true → begins_statement t ≡ true
-begins_expression_statement names (Reserved k) h = or_first (nat_le (keyword_code k) 2) (opens k) h
+begins_expression_statement names (Reserved k) h = or_first (begins_with k) (opens k) h
 begins_expression_statement names (Sign p) h = or_first (nat_le (punctuator_code p) 8) (is_sign marks.OpenBrace (Sign p) || is_sign marks.Semicolon (Sign p)) h
 begins_expression_statement names _ h = refl
 

@@ -66,7 +66,7 @@ abbrev mutual
   all_defaults no_more = 0
   all_defaults (more e es) = defaults e + all_defaults es
 
-unfoldable pub has_name : ℕ → List ℕ → Bool
+abbrev pub has_name : ℕ → List ℕ → Bool
 has_name name [] = false
 has_name name (other ∷ others) = nat_eq name other || has_name name others
 

@@ -1,6 +1,5 @@
 -- The definition on examples, each by computation.
-use Rattle.std.proofs.Common.{◌≡◌, eqb, true, false, [], ◌∷◌, ◌++◌, length, codes, None, Some, refl}
-use Rattle.std.specs.List.{list_all}
+use Rattle.std.proofs.Common.{◌≡◌, true, false, [], ◌∷◌, ◌++◌, codes, None, Some, refl}
 use Rattle.c_tree.specs.declared.token.Token.{Token}
 use Rattle.c_tree.specs.declared.token.TokenKind.{TokenKind}
 use Rattle.c_tree.specs.declared.token.TokenKind.TheVariants as kinds
@@ -11,7 +10,7 @@ use Rattle.c_tree.specs.declared.punctuator.Punctuator.TheVariants as punctuator
 use Rattle.c_lexer.specs.declared.c_reading.fault.Fault.TheVariants.{BadByte, OpenText}
 use Rattle.c_lexer.specs.declared.c_reading.mode.Mode.TheVariants.{C, Metal}
 use Rattle.c_lexer.specs.CReading.Bytes.{is_digit, is_letter, is_word_byte, is_gap, is_blank, is_quote}
-use Rattle.c_lexer.specs.CReading.Words.{words_of, words_2, words_3, words_4, words_5, words_6, words_7, words_8, words_9, words_10, words_11, words_12, words_13, words_16, words_17, words_18, words_19, word_kind}
+use Rattle.c_lexer.specs.CReading.Words.{special_words, word_kind}
 use Rattle.c_lexer.specs.CReading.Punctuators.{singles, pairs, triples, punctuators, punctuator_of}
 use Rattle.c_lexer.specs.CReading.Constants.{is_octal, is_hex, digit_value, suffix_of, integer_in, hexadecimal, integer_of, after_digits, float_end, exponent_digits, exponent, after_point, after_whole, float_of, number_kind}
 use Rattle.c_lexer.specs.CReading.Spellings.{is_word, is_number, quoted, is_literal, literal_len, kind_of}
@@ -67,11 +66,11 @@ two_points = refl
 -- ---- words and punctuators
 
 renamed : word_kind (codes "__volatile__") ≡ kinds.Word mark.VolatileBoth
-unfolding word_kind words_of words_2 words_3 words_4 words_5 words_6 words_7 words_8 words_9 words_10 words_11 words_12 words_13 words_16 words_17 words_18 words_19
+unfolding word_kind special_words
 renamed = refl
 
 prefix_of_keyword : word_kind (codes "in") ≡ kinds.Word mark.Plain
-unfolding word_kind words_of words_2 words_3 words_4 words_5 words_6 words_7 words_8 words_9 words_10 words_11 words_12 words_13 words_16 words_17 words_18 words_19
+unfolding word_kind special_words
 prefix_of_keyword = refl
 
 no_arrow : punctuator_of C (codes "==>") ≡ None
@@ -81,11 +80,6 @@ no_arrow = refl
 arrow : punctuator_of Metal (codes "==>") ≡ Some punctuator.LongArrow
 unfolding punctuator_of punctuators singles pairs triples
 arrow = refl
-
--- each word stands among the words of its length
-all_sized : list_all (λ n. list_all (λ e. eqb (length e.0) n) (words_of n)) (2 ∷ 3 ∷ 4 ∷ 5 ∷ 6 ∷ 7 ∷ 8 ∷ 9 ∷ 10 ∷ 11 ∷ 12 ∷ 13 ∷ 16 ∷ 17 ∷ 18 ∷ 19 ∷ []) ≡ true
-unfolding words_of words_2 words_3 words_4 words_5 words_6 words_7 words_8 words_9 words_10 words_11 words_12 words_13 words_16 words_17 words_18 words_19
-all_sized = refl
 
 -- ---- literals
 

@@ -2,17 +2,12 @@
 use Rattle.std.specs.Prelude.{ℕ, List, [], slice_get}
 use Rattle.std.specs.Borrow.{Bor}
 use Rattle.flow_graph.specs.CPaths.Traces.{Definition}
-use Rattle.c_tree.specs.declared.place.Place.{Place}
 use Rattle.c_tree.specs.declared.token.Token.{Token}
-use Rattle.c_tree.specs.Node.{Node, node}
+use Rattle.c_tree.specs.PathSubjects.Subjects.{first_of}
 use Rattle.type_rules.specs.Functions.{Defined}
 use Rattle.type_rules.specs.Options.{if_there}
 use Rattle.call_graph.specs.FunctionGraphs.Closing.{closing_brace}
 use Rattle.typed_unit.specs.declared.typed_unit.TypedUnit.{TypedUnit}
-
--- the place of the first token of a node
-abbrev pub first_of : Node → Place
-first_of (node i p s) = p
 
 -- the tokens of a file of the program
 abbrev pub tokens_in : List (Bor TypedUnit) → ℕ → List Token

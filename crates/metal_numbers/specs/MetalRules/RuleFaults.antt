@@ -1,14 +1,11 @@
 -- What the faults of a rule are found by.
-use Rattle.std.specs.Prelude.{ℕ, Bool, true, not, nat_eq, ◌&&◌, ◌||◌, List, [], ◌∷◌, ◌++◌, map, flat_map, Option, None, Some}
+use Rattle.std.specs.Prelude.{ℕ, Bool, true, not, nat_eq, ◌&&◌, ◌||◌, List, [], ◌∷◌, ◌++◌, map, flat_map}
 use Rattle.metal_grammar.specs.Faults.{is_excused, unknown_callout_of}
 use Rattle.metal_grammar.specs.Grammar.{some}
 use Rattle.metal_grammar.specs.Rules.{PlacedRule, is_among, pattern_names, all_callout_names, action_names_of, variable_of, variables_of_states}
 use Rattle.metal_grammar.specs.Words.{Spelling}
 use Rattle.metal_grammar.specs.Written.{Alternative, members}
-
-abbrev pub first_of : {A : Type 0} → List A → Option A
-first_of [] = None
-first_of (x ∷ xs) = Some x
+pub use Rattle.metal_written.specs.Messages.{first_of}
 
 -- the callouts of an alternative that are in no row of the table, by name
 abbrev pub unknown_callouts_in : Spelling → Alternative → List ℕ

@@ -4,21 +4,22 @@ use Rattle.c_tree.specs.declared.keyword.Keyword.{Keyword}
 use Rattle.c_tree.specs.declared.operator.StructOrUnion.TheVariants as which_word
 use Rattle.c_tree.specs.declared.punctuator.Punctuator.{Punctuator}
 use Rattle.c_tree.specs.declared.punctuator.Punctuator.TheVariants as marks
-use Rattle.c_tree.specs.Symbol.{Symbol, Sign, Reserved, IntLiteral}
+use Rattle.c_tree.specs.Symbol.{Symbol, Sign, Reserved}
 use Rattle.c_tree.specs.Phrase.{Phrase, nothing, one, all, ◌⨾◌, phrase_then, sign}
 use Rattle.c_tree.specs.Tokens.{phrase_of}
 use Rattle.c_grammar.specs.Symbols.{is_sign, AreAll}
 use Rattle.c_grammar.proofs.Options.{both, neither}
-use Rattle.metal_grammar.specs.Words.{Spelling, Literal}
-use Rattle.metal_grammar.specs.Written.{Row, lone, row, WrittenType, KindOfHole, BasicType, TagType, StateName, OfMachine, OfVariable, Argument, Name, Text, WrittenCallout, Digit, Asked, WrittenItem, Pattern, Callout, Dollars, Destination, To, Split, WrittenAction, Alternative, WrittenRule}
-use Rattle.metal_grammar.specs.Phrases.{word, row_phrase, each_phrase, maybe_phrase, sign_if, stars, type_phrase, state_phrase, argument_phrase, text_phrase, callout_phrase, literals_phrase, item_phrase, alternative_phrase, destination_phrase, identifier_phrase, action_phrase, rule_phrase}
+use Rattle.metal_grammar.specs.Words.{Spelling}
+use Rattle.metal_grammar.specs.Written.{Row, lone, row, WrittenType, KindOfHole, BasicType, TagType, StateName, OfMachine, OfVariable, WrittenItem, Pattern, Callout, Dollars, Destination, To, Split, WrittenAction, Alternative, WrittenRule}
+use Rattle.metal_grammar.specs.Phrases.{word, row_phrase, each_phrase, maybe_phrase, sign_if, stars, type_phrase, state_phrase, callout_phrase, literals_phrase, item_phrase, alternative_phrase, destination_phrase, identifier_phrase, action_phrase, rule_phrase}
 use Rattle.metal_grammar.specs.Holes.{DeclaredHole, Operand, are_placed}
 use Rattle.metal_grammar.specs.Patterns.{has_plain_types}
 use Rattle.metal_grammar.specs.Rules.{size}
-use Rattle.metal_grammar.specs.Grammar.{each, EachIs, IsItem, IsAlternative, is_item, is_callout, is_alternative, is_destination, is_action}
+use Rattle.metal_grammar.specs.Grammar.{each, EachIs, IsItem, IsAlternative, is_item, is_alternative, is_destination, is_action}
 use Rattle.metal_grammar.proofs.CompleteParts.{each_both}
 use Rattle.metal_grammar.proofs.CompleteRules.{ItemIs, AlternativeIs, RuleIs}
 use Rattle.metal_grammar.proofs.Plain.{is_quiet, IsPlain, expression_plain}
+use Rattle.metal_grammar.proofs.Passing.{callout_plain, negation_plain, literals_plain, identifiers_plain}
 use Rattle.metal_written.proofs.InSizes.{size-two}
 use Rattle.metal_reader.specs.MetalPositions.Positions.{beginnings}
 
@@ -140,31 +141,6 @@ maybe_word_calm (Some name) = refl
 destination_calm : (d : Destination) → IsMade is_calm (destination_phrase d)
 destination_calm (To target) = state_calm target
 destination_calm (Split true_word on_true false_word on_false) = ((((((refl, refl), state_calm on_true), refl), refl), refl), state_calm on_false)
-
-argument_plain : (a : Argument) → IsPlain (argument_phrase a)
-argument_plain (Name name) = refl
-argument_plain (Text literal) = refl
-
-text_plain : (t : Option Literal) → IsPlain (text_phrase t)
-text_plain None = tt
-text_plain (Some literal) = (refl, refl)
-
-callout_plain : (spelling : Spelling) (c : WrittenCallout) → is_callout spelling c ≡ true → IsPlain (callout_phrase c)
-callout_plain spelling (Digit (IntLiteral value name)) h = refl
-callout_plain spelling (Digit _) h = cc
-callout_plain spelling (Asked name argument text) h = ((((refl, refl), argument_plain argument), text_plain text), refl)
-
-negation_plain : (b : Bool) → IsPlain (sign_if b (sign marks.Exclamation))
-negation_plain true = refl
-negation_plain false = tt
-
-literals_plain : (ls : Row Literal) → IsPlain (literals_phrase ls)
-literals_plain (lone l) = refl
-literals_plain (row l ls) = ((refl, tt), literals_plain ls)
-
-identifiers_plain : (xs : List (ℕ × ℕ)) → IsPlain (each_phrase identifier_phrase xs)
-identifiers_plain [] = tt
-identifiers_plain (x ∷ xs) = (((((refl, refl), refl), refl), refl), identifiers_plain xs)
 
 item_skips : (spelling : Spelling) (holes : List DeclaredHole) (i : WrittenItem) → ItemIs spelling holes i → Skips 1 (item_phrase i)
 item_skips spelling holes (Pattern e b) w q r =

@@ -1,16 +1,9 @@
 -- What every machine keeps to.
 use Rattle.std.specs.Prelude.{◌≡◌, ℕ, ◌+◌, Bool, true, false, cond, not, nat_eq, nat_lt, nat_le, ◌&&◌, ◌||◌, is_some, List, [], ◌∷◌, ◌++◌, length, flat_map, filter, get_or, Option, None, Some}
+pub use Rattle.metal_tree.specs.MetalMachines.Lists.{all_of, any_of, is_among}
 use Rattle.metal_tree.specs.MetalMachines.Machine.{first_named, Piece, Bytes, HoleText, Source, FromGlobal, FromObject, Target, ToGlobal, ToObject, ToUnknown, Dest, Always, ByTruth, CalloutRow, InFunction, NeverHolds, AlwaysHolds, Item, Base, Holds, EndOfPath, Rule, Machine}
 use Rattle.metal_tree.specs.MetalMachines.Limits.{IsLimited}
 use Rattle.metal_tree.specs.MetalMachines.Numbers.{holes_in}
-
-abbrev pub all_of : {A : Type 0} → (A → Bool) → List A → Bool
-all_of is [] = true
-all_of is (x ∷ xs) = is x && all_of is xs
-
-abbrev pub some_of : {A : Type 0} → (A → Bool) → List A → Bool
-some_of is [] = false
-some_of is (x ∷ xs) = is x || some_of is xs
 
 abbrev pub targets : Dest → List Target
 targets (Always t) = t ∷ []
@@ -99,7 +92,7 @@ is_end EndOfPath = true
 is_end _ = false
 
 abbrev pub has_end : List Item → Bool
-has_end items = some_of is_end items
+has_end items = any_of is_end items
 
 abbrev pub is_global : Target → Bool
 is_global (ToGlobal state) = true
@@ -109,17 +102,13 @@ is_global _ = false
 abbrev pub is_split_well : Rule → Dest → Bool
 is_split_well r (Always t) = true
 is_split_well r (ByTruth on_true on_false) =
-    not (is_some r.action) && not (some_of has_end r.alternatives)
+    not (is_some r.action) && not (any_of has_end r.alternatives)
     && ((is_global on_true && is_global on_false) || (not (is_global on_true) && not (is_global on_false) && are_one (variable_of_target on_true ++ variable_of_target on_false)))
 
 -- No rule leaves `stop`; from a state of a variable a rule goes to one of it; and among states of the machine it names no variable.
 abbrev pub goes_from : Machine → Rule → Source → Bool
-goes_from m r (FromGlobal state) = not (nat_eq state 1) && (some_of (λ t. not (is_global t)) (targets r.dest) || not (some_of (is_variable m) (named_outside_states r)))
+goes_from m r (FromGlobal state) = not (nat_eq state 1) && (any_of (λ t. not (is_global t)) (targets r.dest) || not (any_of (is_variable m) (named_outside_states r)))
 goes_from m r (FromObject variable state) = all_of (λ t. not (is_global t)) (targets r.dest)
-
-abbrev pub is_among : List ℕ → ℕ → Bool
-is_among [] n = false
-is_among (m ∷ ms) n = nat_eq m n || is_among ms n
 
 -- at the end of a path the variable of the source needs no pattern, unless a callout there asks of it
 abbrev pub is_excused : Rule → List Item → ℕ → Bool

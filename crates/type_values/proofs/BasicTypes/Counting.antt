@@ -4,7 +4,8 @@ use Rattle.std.proofs.lemmas.List.{drop_all}
 use Rattle.c_tree.specs.declared.keyword.Keyword.{Keyword}
 use Rattle.c_grammar.specs.Symbols.{same_keyword}
 use Rattle.c_grammar.specs.Specifiers.{occurrences, as_often, same_words, is_among}
-use Rattle.type_values.specs.BasicTypes.Lines.{lines_of}
+use Rattle.type_values.specs.BasicTypes.Basics.{words_of}
+use Rattle.type_values.specs.declared.basic_types.basic.Basic.{Basic}
 
 passed : {A B : Type 0} (f : List A → B) (ts : List A) (i : ℕ) (d : A) → i < length ts → f (drop i ts) ≡ f (get_or ts i d ∷ drop (i + 1) ts)
 passed f ts i d h = ap f (drop-cons ts i d h) ∙ ap (λ j. f (get_or ts i d ∷ drop j ts)) (sym (add-one i))
@@ -66,9 +67,9 @@ is_among-none : (ks : List Keyword) → is_among ks [] ≡ false
 unfolding is_among
 is_among-none ks = refl
 
-pub is_among-drop : (ks : List Keyword) (table : List (Bor (List Keyword))) (i : ℕ) (d : Bor (List Keyword)) → i < length table
-    → is_among ks (lines_of (drop i table)) ≡ (same_words ks (get_or table i d).now || is_among ks (lines_of (drop (i + 1) table)))
-is_among-drop ks table i d h = passed (λ ls. is_among ks (lines_of ls)) table i d h ∙ is_among-more ks (get_or table i d).now (lines_of (drop (i + 1) table))
+pub is_among-drop : (ks : List Keyword) (table : List (Bor (List Keyword) × Basic)) (i : ℕ) (d : Bor (List Keyword) × Basic) → i < length table
+    → is_among ks (words_of (drop i table)) ≡ (same_words ks (get_or table i d).0.now || is_among ks (words_of (drop (i + 1) table)))
+is_among-drop ks table i d h = passed (λ ls. is_among ks (words_of ls)) table i d h ∙ is_among-more ks (get_or table i d).0.now (words_of (drop (i + 1) table))
 
-pub is_among-end : (ks : List Keyword) (table : List (Bor (List Keyword))) (i : ℕ) → length table ≤ i → is_among ks (lines_of (drop i table)) ≡ false
-is_among-end ks table i h = ap (λ ls. is_among ks (lines_of ls)) (drop_all i table h) ∙ is_among-none ks
+pub is_among-end : (ks : List Keyword) (table : List (Bor (List Keyword) × Basic)) (i : ℕ) → length table ≤ i → is_among ks (words_of (drop i table)) ≡ false
+is_among-end ks table i h = ap (λ ls. is_among ks (words_of ls)) (drop_all i table h) ∙ is_among-none ks

@@ -12,5 +12,9 @@ basic_of basic.Void = Void
 basic_of (basic.Arith k) = Arith (arithmetic_of k)
 basic_of basic.VaList = VaList
 
+-- its lists of words alone
+abbrev pub words_of : List (Bor (List Keyword) × Basic) → List (List Keyword)
+words_of table = map (λ line. line.0.now) table
+
 abbrev pub lines_of : List (Bor (List Keyword) × Basic) → List (List Keyword × CType)
 lines_of table = map (λ line. (line.0.now, basic_of line.1)) table

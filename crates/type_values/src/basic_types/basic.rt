@@ -1,7 +1,8 @@
 //! The basic types (ISO 9899:1990, 6.5.2).
 
 ghost use Rattle.std.specs.Prelude.{◌≡◌};
-ghost use Rattle.type_values.specs.BasicTypes.Basics.{basic_of, lines_of};
+ghost use Rattle.c_grammar.specs.Specifiers.{is_among, is_basic};
+ghost use Rattle.type_values.specs.BasicTypes.Basics.{basic_of, words_of, lines_of};
 ghost use Rattle.type_rules.specs.Specified.{basic_in, basic_type};
 
 use crate::arithmetic::Arithmetic;
@@ -16,37 +17,25 @@ pub enum Basic {
     VaList,
 }
 
-/// The basic types, each by its words in one order. They may stand in any order.
+/// The lists of words that name basic types, in the order of the standard. The words of a list may stand in any order.
 const BASIC_TYPES: &[(&[Keyword], Basic)] = &[
-    (&[Keyword::Int], Basic::Arith(Arithmetic::Int)),
-    (&[Keyword::Char], Basic::Arith(Arithmetic::Char)),
     (&[Keyword::Void], Basic::Void),
+    (&[Keyword::Char], Basic::Arith(Arithmetic::Char)),
     (
-        &[Keyword::Unsigned, Keyword::Long],
-        Basic::Arith(Arithmetic::UnsignedLong),
-    ),
-    (
-        &[Keyword::Unsigned, Keyword::Int],
-        Basic::Arith(Arithmetic::UnsignedInt),
+        &[Keyword::Signed, Keyword::Char],
+        Basic::Arith(Arithmetic::SignedChar),
     ),
     (
         &[Keyword::Unsigned, Keyword::Char],
         Basic::Arith(Arithmetic::UnsignedChar),
     ),
-    (&[Keyword::Long], Basic::Arith(Arithmetic::Long)),
-    (&[Keyword::Double], Basic::Arith(Arithmetic::Double)),
-    (&[Keyword::Unsigned], Basic::Arith(Arithmetic::UnsignedInt)),
-    (
-        &[Keyword::Signed, Keyword::Char],
-        Basic::Arith(Arithmetic::SignedChar),
-    ),
     (&[Keyword::Short], Basic::Arith(Arithmetic::Short)),
     (
-        &[Keyword::Short, Keyword::Int],
+        &[Keyword::Signed, Keyword::Short],
         Basic::Arith(Arithmetic::Short),
     ),
     (
-        &[Keyword::Signed, Keyword::Short],
+        &[Keyword::Short, Keyword::Int],
         Basic::Arith(Arithmetic::Short),
     ),
     (
@@ -61,22 +50,33 @@ const BASIC_TYPES: &[(&[Keyword], Basic)] = &[
         &[Keyword::Unsigned, Keyword::Short, Keyword::Int],
         Basic::Arith(Arithmetic::UnsignedShort),
     ),
+    (&[Keyword::Int], Basic::Arith(Arithmetic::Int)),
     (&[Keyword::Signed], Basic::Arith(Arithmetic::Int)),
     (
         &[Keyword::Signed, Keyword::Int],
         Basic::Arith(Arithmetic::Int),
+    ),
+    (&[Keyword::Unsigned], Basic::Arith(Arithmetic::UnsignedInt)),
+    (
+        &[Keyword::Unsigned, Keyword::Int],
+        Basic::Arith(Arithmetic::UnsignedInt),
+    ),
+    (&[Keyword::Long], Basic::Arith(Arithmetic::Long)),
+    (
+        &[Keyword::Signed, Keyword::Long],
+        Basic::Arith(Arithmetic::Long),
     ),
     (
         &[Keyword::Long, Keyword::Int],
         Basic::Arith(Arithmetic::Long),
     ),
     (
-        &[Keyword::Signed, Keyword::Long],
+        &[Keyword::Signed, Keyword::Long, Keyword::Int],
         Basic::Arith(Arithmetic::Long),
     ),
     (
-        &[Keyword::Signed, Keyword::Long, Keyword::Int],
-        Basic::Arith(Arithmetic::Long),
+        &[Keyword::Unsigned, Keyword::Long],
+        Basic::Arith(Arithmetic::UnsignedLong),
     ),
     (
         &[Keyword::Unsigned, Keyword::Long, Keyword::Int],
@@ -87,11 +87,11 @@ const BASIC_TYPES: &[(&[Keyword], Basic)] = &[
         Basic::Arith(Arithmetic::LongLong),
     ),
     (
-        &[Keyword::Long, Keyword::Long, Keyword::Int],
+        &[Keyword::Signed, Keyword::Long, Keyword::Long],
         Basic::Arith(Arithmetic::LongLong),
     ),
     (
-        &[Keyword::Signed, Keyword::Long, Keyword::Long],
+        &[Keyword::Long, Keyword::Long, Keyword::Int],
         Basic::Arith(Arithmetic::LongLong),
     ),
     (
@@ -111,6 +111,13 @@ const BASIC_TYPES: &[(&[Keyword], Basic)] = &[
         ],
         Basic::Arith(Arithmetic::UnsignedLongLong),
     ),
+    (&[Keyword::Float], Basic::Arith(Arithmetic::Float)),
+    (&[Keyword::Double], Basic::Arith(Arithmetic::Double)),
+    (
+        &[Keyword::Long, Keyword::Double],
+        Basic::Arith(Arithmetic::LongDouble),
+    ),
+    (&[Keyword::Bool], Basic::Arith(Arithmetic::Boolean)),
     (&[Keyword::Int128], Basic::Arith(Arithmetic::Int128)),
     (
         &[Keyword::Signed, Keyword::Int128],
@@ -120,12 +127,6 @@ const BASIC_TYPES: &[(&[Keyword], Basic)] = &[
         &[Keyword::Unsigned, Keyword::Int128],
         Basic::Arith(Arithmetic::UnsignedInt128),
     ),
-    (&[Keyword::Float], Basic::Arith(Arithmetic::Float)),
-    (
-        &[Keyword::Long, Keyword::Double],
-        Basic::Arith(Arithmetic::LongDouble),
-    ),
-    (&[Keyword::Bool], Basic::Arith(Arithmetic::Boolean)),
     (&[Keyword::Float32], Basic::Arith(Arithmetic::Float32)),
     (&[Keyword::Float32x], Basic::Arith(Arithmetic::Float32x)),
     (&[Keyword::Float64], Basic::Arith(Arithmetic::Float64)),
@@ -134,6 +135,25 @@ const BASIC_TYPES: &[(&[Keyword], Basic)] = &[
     (&[Keyword::GnuFloat128], Basic::Arith(Arithmetic::Float128)),
     (&[Keyword::BuiltinVaList], Basic::VaList),
 ];
+
+/// Whether these words are those of a line.
+fn is_among(words: &[Keyword], lines: &[(&[Keyword], Basic)]) -> bool
+    ensures { result ≡ is_among words.now (words_of lines.now) }
+{
+    for line in lines {
+        if same_words(words, line.0) {
+            return true;
+        }
+    }
+    false
+}
+
+/// Whether these words are those of a basic type.
+pub fn is_basic(words: &[Keyword]) -> bool
+    ensures { result ≡ is_basic words.now }
+{
+    is_among(words, BASIC_TYPES)
+}
 
 /// The type of the first line with these words, in any order.
 fn basic_in(words: &[Keyword], lines: &[(&[Keyword], Basic)]) -> Basic

@@ -1,6 +1,5 @@
-use Rattle.std.proofs.Common.{◌≡◌, true, nat_eq, not, ◌&&◌, get_or, map, Some, ap, ◌∙◌, sym, rules, arith}
+use Rattle.std.proofs.Common.{◌≡◌, [], nat_eq, not, ◌&&◌, get_or, map, Some, ap, ◌∙◌, sym, rules, arith}
 use Rattle.metal_tree.specs.Views.{piece_view}
-use Rattle.metal_grammar.specs.Message.{are_none_left}
 use Rattle.metal_written.proofs.InPieces.{text-good, text-bad, pieces-done, none-left}
 use Rattle.metal_written.proofs.messages.pieces_of.Goals.{then-not-behind_percent, else-not-behind_percent}
 use Rattle.metal_written.proofs.messages.pieces_of.Goals as goal
@@ -22,7 +21,7 @@ loop-byte-preserved c =
 pub returns : goal.returns
 returns c =
     let l = c.loop-byte in
-    let none : are_none_left l.left.now ≡ true = none-left l.left.now (sym c.if-not-is_empty.ensures) in
+    let none : l.left.now ≡ [] = none-left l.left.now (sym c.if-not-is_empty.ensures) in
     ap (λ ps. Some (map piece_view ps)) c.into_bump_slice.ensures
     ∙ ap Some c.in_ok-end_literal.ensures.pieces
     ∙ pieces-done l.behind_percent c.args.text.now l.left.now l.byte-index (map piece_view l.pieces.items) l.bytes.items _ (omega arith) c.if-behind_percent.false none l.invariant
