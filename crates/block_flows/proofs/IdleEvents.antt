@@ -8,7 +8,7 @@ use Rattle.state_tuples.proofs.AppliedRules.OfEvents.{global_is, object_is}
 use Rattle.state_tuples.specs.declared.applied_rules.rules.EventRules.{EventRules}
 use Rattle.state_tuples.specs.AppliedRules.Applied.{Applied}
 use Rattle.state_tuples.specs.AppliedRules.Events.{applied_of, AreOfEvent}
-use Rattle.state_tuples.specs.AppliedRules.Firsts.{first_taken, rule_taken}
+use Rattle.state_tuples.specs.Ways.Firsts.{first_taken, rule_taken}
 use Rattle.block_flows.proofs.Fires.{fire, fires}
 use Rattle.block_flows.specs.Firings.{acting, TakenHere, fire_of}
 use Rattle.block_flows.specs.IdleEvents.{is_idle, is_within, leaves_all, AreFollowed, AreLeft}

@@ -6,7 +6,7 @@ use Rattle.std.proofs.lemmas.Bool.{and_parts}
 use Rattle.state_tuples.proofs.AppliedRules.OfEvents.{global_is, object_is}
 use Rattle.state_tuples.specs.declared.applied_rules.rules.EventRules.{EventRules}
 use Rattle.state_tuples.specs.AppliedRules.Events.{applied_of, AreOfEvent}
-use Rattle.state_tuples.specs.AppliedRules.Firsts.{takes, picked, first_taken, rule_taken}
+use Rattle.state_tuples.specs.Ways.Firsts.{takes, picked, first_taken, rule_taken}
 use Rattle.block_flows.specs.Events.{AreOfEvents}
 use Rattle.block_flows.specs.Firings.{acting, ObjectActs, GlobalActs}
 use Rattle.block_flows.specs.QuietEvents.{is_silent, is_quiet, are_quiet}

@@ -4,7 +4,7 @@ use Rattle.std.specs.Prelude.{cond}
 use Rattle.indexmap.specs.IndexMap.{get}
 use Rattle.indexmap.specs.IndexSet.{contains}
 use Rattle.row_flows.specs.declared.rows.EventRow.{EventRow}
-use Rattle.block_summary.specs.Equality.{same_entered}
+use Rattle.block_summary.specs.Ways.Equality.{same_entered}
 use Rattle.block_summary.specs.Exits.{AreExits}
 use Rattle.block_summary.specs.Kept.{IsRight, held_in}
 use Rattle.block_summary.specs.contracts.keys.EnteredPartialEq.TheImpl.{eq-value as same}

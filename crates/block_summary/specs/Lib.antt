@@ -1,4 +1,4 @@
-pub mod Equality
 pub mod Exits
 pub mod Kept
 pub mod Lending
+pub mod Ways

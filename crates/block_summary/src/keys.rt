@@ -16,7 +16,7 @@ pub struct Entered {
 }
 
 impl Key for Entered {
-    ghost use Rattle.block_summary.specs.Equality.{same_entered};
+    ghost use Rattle.block_summary.specs.Ways.Equality.{same_entered};
 
     ghost same = { same_entered };
 }

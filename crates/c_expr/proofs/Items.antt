@@ -11,7 +11,7 @@ use Rattle.c_grammar.specs.Symbols.{take_symbol}
 use Rattle.c_grammar.specs.Names.{Names}
 use Rattle.c_grammar.specs.Specifiers.{Place, goes_on, types, type_words, other_types, is_among, fit}
 use Rattle.c_grammar.specs.Found.{◌>>=◌}
-use Rattle.c_grammar.specs.SpecifierSteps.{read_tag, read_item, read_items}
+use Rattle.c_grammar.specs.Ways.SpecifierSteps.{read_tag, read_item, read_items}
 use Rattle.c_grammar.specs.Nonterminal.{Specifiers}
 use Rattle.c_grammar.specs.Reading.{read}
 use Rattle.c_grammar.proofs.Steps.{read-zero, read-some, read_items-zero, read_items-some}

@@ -7,7 +7,7 @@ use Rattle.c_grammar.specs.Levels.{unary_level, cast_level, conditional_level, a
 use Rattle.c_grammar.specs.Names.{Names}
 use Rattle.c_grammar.specs.Nonterminal.{Expression}
 use Rattle.c_grammar.specs.Found.{Reader, made}
-use Rattle.c_grammar.specs.ExpressionSteps.{read_commas, read_assignment, read_conditional, read_binary, read_unary, read_postfix, read_chain, take_binary}
+use Rattle.c_grammar.specs.Ways.ExpressionSteps.{read_commas, read_assignment, read_conditional, read_binary, read_unary, read_postfix, read_chain, take_binary}
 use Rattle.c_grammar.specs.Reading.{read}
 use Rattle.c_grammar.proofs.Options.{low}
 use Rattle.c_grammar.proofs.Steps.{read-some, read_chain-some}

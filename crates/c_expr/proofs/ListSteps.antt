@@ -10,8 +10,8 @@ use Rattle.c_grammar.specs.Levels.{assignment_level}
 use Rattle.c_grammar.specs.Names.{Names, with_param}
 use Rattle.c_grammar.specs.Nonterminal.{Expression, Parameter}
 use Rattle.c_grammar.specs.Found.{◌>>=◌, Reader}
-use Rattle.c_grammar.specs.ExpressionSteps.{read_designator, read_path, read_more_arguments}
-use Rattle.c_grammar.specs.DeclaratorSteps.{begins_suffix, read_suffix, read_suffixes, read_params}
+use Rattle.c_grammar.specs.Ways.ExpressionSteps.{read_designator, read_path, read_more_arguments}
+use Rattle.c_grammar.specs.Ways.DeclaratorSteps.{begins_suffix, read_suffix, read_suffixes, read_params}
 use Rattle.c_grammar.proofs.Steps.{read_more_arguments-zero, read_more_arguments-some, read_path-zero, read_path-some, read_suffixes-zero, read_suffixes-some, read_params-zero, read_params-some}
 use Rattle.c_expr.specs.Gives.{ending_with}
 use Rattle.c_expr.specs.ParamLists.{params_after}

@@ -9,10 +9,10 @@ use Rattle.c_tree.specs.Forget.{list_view, view_all}
 use Rattle.c_tree.specs.Syntax.{Syntax}
 use Rattle.c_grammar.specs.Symbols.{begins, is_string, run_of, after_run, is_sign, after_sign}
 use Rattle.c_grammar.specs.Grammar.{is_pointer_word, is_nothing}
-use Rattle.c_grammar.specs.DeclaratorSteps.{pointers_of, after_pointers}
+use Rattle.c_grammar.specs.Ways.DeclaratorSteps.{pointers_of, after_pointers}
 use Rattle.c_grammar.specs.Names.{Names}
 use Rattle.c_grammar.specs.Found.{◌>>=◌, Reader}
-use Rattle.c_grammar.specs.ExpressionSteps.{begins_postfix, read_postfix_operators, read_cast, take_binary, read_chain, read_binary}
+use Rattle.c_grammar.specs.Ways.ExpressionSteps.{begins_postfix, read_postfix_operators, read_cast, take_binary, read_chain, read_binary}
 use Rattle.c_grammar.proofs.Steps.{read-zero, read-some, read_postfix_operators-zero, read_postfix_operators-some, read_chain-zero, read_chain-some, read_binary-zero, read_binary-some, run_of-more, after_run-more}
 use Rattle.c_grammar.proofs.Front.{is_sign-true}
 use Rattle.c_grammar.proofs.Options.{when}

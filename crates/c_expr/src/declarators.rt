@@ -8,7 +8,7 @@ ghost use Rattle.c_tree.specs.Height.{height_of, height_in};
 ghost use Rattle.c_tree.specs.Forget.{view, list_view};
 ghost use Rattle.c_grammar.specs.Symbols.{begins, run_of, after_run};
 ghost use Rattle.c_grammar.specs.Grammar.{is_bound_word, is_nothing};
-ghost use Rattle.c_grammar.specs.DeclaratorSteps as steps;
+ghost use Rattle.c_grammar.specs.Ways.DeclaratorSteps as steps;
 ghost use Rattle.c_grammar.specs.Nonterminal.{may_name, may_omit, DeclaratorIn};
 ghost use Rattle.c_grammar.specs.Found.{made};
 ghost use Rattle.c_grammar.specs.Reading.{read};

@@ -6,7 +6,7 @@ ghost use Rattle.c_tree.specs.Symbol.{Sign, Reserved, symbols_of};
 ghost use Rattle.c_tree.specs.Syntax as kinds;
 ghost use Rattle.c_tree.specs.Height.{height_of};
 ghost use Rattle.c_tree.specs.Forget.{view};
-ghost use Rattle.c_grammar.specs.ExpressionSteps as steps;
+ghost use Rattle.c_grammar.specs.Ways.ExpressionSteps as steps;
 ghost use Rattle.c_grammar.specs.Nonterminal.{Expression};
 ghost use Rattle.c_grammar.specs.Found.{made};
 ghost use Rattle.c_grammar.specs.Reading.{read};

@@ -6,7 +6,7 @@ ghost use Rattle.c_tree.specs.Forget.{view};
 ghost use Rattle.c_tree.specs.Symbol.{Sign, symbol_of, symbols_of};
 ghost use Rattle.c_tree.specs.Tokens.{binary_sign, assign_sign};
 ghost use Rattle.c_grammar.specs.Levels.{level_of, operand_level, grade, binary_of, assign_of, prefix_of};
-ghost use Rattle.c_grammar.specs.ExpressionSteps.{take_binary, take_assign, take_prefix};
+ghost use Rattle.c_grammar.specs.Ways.ExpressionSteps.{take_binary, take_assign, take_prefix};
 ghost use Rattle.c_expr.specs.Standing.{Passes, Leads};
 
 use c_tree::{AssignOp, BinaryOp, Kind, Operation, Punctuator, Token, TokenKind, Tree, UnaryOp};

@@ -7,7 +7,7 @@ ghost use Rattle.c_tree.specs.Syntax as kinds;
 ghost use Rattle.c_tree.specs.Height.{height_of};
 ghost use Rattle.c_tree.specs.Forget.{view, declarator_view};
 ghost use Rattle.c_grammar.specs.Names.{name_of, declarator_name, with_param};
-ghost use Rattle.c_grammar.specs.DeclaratorSteps as steps;
+ghost use Rattle.c_grammar.specs.Ways.DeclaratorSteps as steps;
 ghost use Rattle.c_grammar.specs.Nonterminal.{Parameter};
 ghost use Rattle.c_grammar.specs.Found.{made};
 ghost use Rattle.c_grammar.specs.Reading.{read};

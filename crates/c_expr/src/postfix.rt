@@ -6,7 +6,7 @@ ghost use Rattle.c_tree.specs.Syntax as kinds;
 ghost use Rattle.c_tree.specs.Height.{height_of, height_in};
 ghost use Rattle.c_tree.specs.Forget.{view, list_view};
 ghost use Rattle.c_grammar.specs.Symbols.{begins};
-ghost use Rattle.c_grammar.specs.ExpressionSteps as steps;
+ghost use Rattle.c_grammar.specs.Ways.ExpressionSteps as steps;
 ghost use Rattle.c_grammar.specs.Found.{made};
 ghost use Rattle.c_grammar.specs.Reading.{read};
 ghost use Rattle.c_tree.specs.declared.punctuator.Punctuator.TheVariants as marks;
@@ -15,7 +15,7 @@ ghost use Rattle.c_tree.specs.Node as nodes;
 ghost use Rattle.c_tree.specs.Views.{node_of, nodes_of};
 ghost use Rattle.c_expr.specs.Standing.{Makes, Over, OverBehind, OverArguments, Passes, IsFirst};
 ghost use Rattle.c_expr.specs.Gives.{Gives, GivesList, AsBefore, left, left_by_list, Spends};
-ghost use Rattle.c_expr.specs.Postfixes.{indexed, called, member_of, arrow_of};
+ghost use Rattle.c_expr.specs.Ways.Postfixes.{indexed, called, member_of, arrow_of};
 
 use crate::expressions::{expression_in_front, unary_of};
 use crate::fault::ExprFault;

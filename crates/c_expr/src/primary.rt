@@ -6,7 +6,7 @@ ghost use Rattle.c_tree.specs.Syntax as kinds;
 ghost use Rattle.c_tree.specs.Height.{height_of, height_in};
 ghost use Rattle.c_tree.specs.Forget.{view, list_view};
 ghost use Rattle.c_grammar.specs.Symbols.{begins, is_string, run_of, after_run};
-ghost use Rattle.c_grammar.specs.ExpressionSteps as steps;
+ghost use Rattle.c_grammar.specs.Ways.ExpressionSteps as steps;
 ghost use Rattle.c_grammar.specs.Found.{made};
 ghost use Rattle.c_grammar.specs.Reading.{read};
 ghost use Rattle.c_tree.specs.declared.keyword.Keyword.TheVariants as words;

@@ -6,7 +6,7 @@ ghost use Rattle.c_tree.specs.Symbol.{Reserved, symbol_of, symbols_of};
 ghost use Rattle.c_tree.specs.Syntax.{StructTag};
 ghost use Rattle.c_grammar.specs.Symbols.{take_symbol};
 ghost use Rattle.c_grammar.specs.Specifiers.{goes_on};
-ghost use Rattle.c_grammar.specs.SpecifierSteps as steps;
+ghost use Rattle.c_grammar.specs.Ways.SpecifierSteps as steps;
 ghost use Rattle.c_grammar.specs.Nonterminal.{Specifiers};
 ghost use Rattle.c_grammar.specs.Reading.{read};
 ghost use Rattle.c_tree.specs.declared.keyword.Keyword.TheVariants as words;

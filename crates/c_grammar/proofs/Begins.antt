@@ -20,8 +20,8 @@ use Rattle.c_grammar.specs.Specifiers.{InTypeName, InParam, begins_specifiers, g
 use Rattle.c_grammar.specs.Nonterminal.{Form, WithName, Abstract, Either, may_name, may_omit}
 use Rattle.c_grammar.specs.Grammar.{IsExpr, IsTypeName, IsDeclarator, IsParam, is_bound_word, is_taken_as_type}
 use Rattle.c_grammar.specs.Found.{◌>>=◌}
-use Rattle.c_grammar.specs.DeclaratorSteps.{begins_suffix, begins_declarator, begins_params}
-use Rattle.c_grammar.specs.ExpressionSteps.{take_prefix, after_type_paren}
+use Rattle.c_grammar.specs.Ways.DeclaratorSteps.{begins_suffix, begins_declarator, begins_params}
+use Rattle.c_grammar.specs.Ways.ExpressionSteps.{take_prefix, after_type_paren}
 use Rattle.c_grammar.proofs.Front.{after_none}
 use Rattle.c_grammar.proofs.CompleteSpecifiers.{specifiers_begin}
 

@@ -16,7 +16,7 @@ use Rattle.c_grammar.specs.Nonterminal.{Form, Abstract, Either, may_name, may_om
 use Rattle.c_grammar.specs.Grammar.{IsTag, AreItems, IsMaybeDeclarator, IsTypeName, IsDeclarator, AreSuffixes, IsSuffix, IsBound, IsParam, AreParams, IsList, ArePointers, is_bound_word, is_pointer_word}
 use Rattle.c_grammar.specs.Found.{Found, Reader}
 use Rattle.c_grammar.specs.Following.{goes_on_declaring}
-use Rattle.c_grammar.specs.DeclaratorSteps.{read_bound, read_params, after_void, read_param_list, begins_suffix, read_suffix, read_suffixes, pointers_of, after_pointers, begins_params, take_name, after_nesting, read_direct, read_declarator, begins_declarator, read_type_name, read_param}
+use Rattle.c_grammar.specs.Ways.DeclaratorSteps.{read_bound, read_params, after_void, read_param_list, begins_suffix, read_suffix, read_suffixes, pointers_of, after_pointers, begins_params, take_name, after_nesting, read_direct, read_declarator, begins_declarator, read_type_name, read_param}
 use Rattle.c_grammar.proofs.Options.{made_low, neither, or_true}
 use Rattle.c_grammar.proofs.Front.{after_none, take_symbol_here, take_symbol_none, run_of-here, after_run-here}
 use Rattle.c_grammar.proofs.Readers.{Knows}

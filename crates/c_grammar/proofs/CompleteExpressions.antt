@@ -17,7 +17,7 @@ use Rattle.c_grammar.specs.Nonterminal.{Expression, NameOfType}
 use Rattle.c_grammar.specs.Grammar.{IsExpr, IsPrimary, AreArguments, IsPath}
 use Rattle.c_grammar.specs.Found.{◌>>=◌, Found, made, Reader}
 use Rattle.c_grammar.specs.Following.{Stops}
-use Rattle.c_grammar.specs.ExpressionSteps.{read_path, read_primary, read_more_arguments, read_arguments, begins_postfix, read_postfix_operators, read_postfix, read_unary, read_cast, take_binary, read_chain, read_binary, read_conditional, read_assignment, read_commas, read_expression}
+use Rattle.c_grammar.specs.Ways.ExpressionSteps.{read_path, read_primary, read_more_arguments, read_arguments, begins_postfix, read_postfix_operators, read_postfix, read_unary, read_cast, take_binary, read_chain, read_binary, read_conditional, read_assignment, read_commas, read_expression}
 use Rattle.c_grammar.proofs.Options.{made_low, which, at_most, above, low}
 use Rattle.c_grammar.proofs.Front.{take_symbol_here, run_of-here, after_run-here, take_binary-here, take_assign-here}
 use Rattle.c_grammar.proofs.Readers.{Knows}

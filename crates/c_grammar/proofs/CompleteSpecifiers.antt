@@ -14,7 +14,7 @@ use Rattle.c_grammar.specs.Names.{Names}
 use Rattle.c_grammar.specs.Specifiers.{Place, is_tag_word, is_storage, is_inline, is_qualifier, is_type_word, is_specifier, begins_tag, goes_on, begins_specifiers, types, type_words_of, other_types_of, type_words, other_types, is_one_type, has_one_type, is_among, as_often, occurrences, storages, inlines, are_allowed, may_inline, fit}
 use Rattle.c_grammar.specs.Grammar.{IsItem, AreItems, AreSpecifiers, IsTag}
 use Rattle.c_grammar.specs.Found.{Found}
-use Rattle.c_grammar.specs.SpecifierSteps.{read_item, read_items, read_specifiers, read_tag}
+use Rattle.c_grammar.specs.Ways.SpecifierSteps.{read_item, read_items, read_specifiers, read_tag}
 use Rattle.c_grammar.proofs.Options.{made_low, neither, or_true}
 use Rattle.c_grammar.proofs.Front.{after_none, take_symbol_here, take_symbol_none}
 use Rattle.c_grammar.proofs.Longer.{count}

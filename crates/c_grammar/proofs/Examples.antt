@@ -12,9 +12,9 @@ use Rattle.c_grammar.specs.Symbols.{run_of, after_run}
 use Rattle.c_grammar.specs.Names.{Names, is_type}
 use Rattle.c_grammar.specs.Specifiers.{InTypeName, InParam, InDeclaration, type_words, other_types, storages, inlines, occurrences, as_often, is_among}
 use Rattle.c_grammar.specs.Nonterminal.{WithName, Expression, Specifiers, NameOfType, DeclaratorIn, Parameter}
-use Rattle.c_grammar.specs.SpecifierSteps.{read_items}
-use Rattle.c_grammar.specs.DeclaratorSteps.{read_params, read_suffixes}
-use Rattle.c_grammar.specs.ExpressionSteps.{read_path, read_more_arguments, read_postfix_operators, read_chain, read_binary}
+use Rattle.c_grammar.specs.Ways.SpecifierSteps.{read_items}
+use Rattle.c_grammar.specs.Ways.DeclaratorSteps.{read_params, read_suffixes}
+use Rattle.c_grammar.specs.Ways.ExpressionSteps.{read_path, read_more_arguments, read_postfix_operators, read_chain, read_binary}
 use Rattle.c_grammar.specs.Reading.{read, whole}
 
 abbrev T : Symbol

@@ -12,7 +12,7 @@ use Rattle.c_tree.specs.Tokens.{binary_sign, assign_sign}
 use Rattle.c_grammar.specs.Symbols.{is_sign, is_keyword, after, after_sign, after_keyword, begins, take_symbol, run_of, after_run, AreAll}
 use Rattle.c_grammar.specs.Levels.{level_of, binary_of, assign_of}
 use Rattle.c_grammar.specs.Found.{◌>>=◌}
-use Rattle.c_grammar.specs.ExpressionSteps.{take_binary, take_assign}
+use Rattle.c_grammar.specs.Ways.ExpressionSteps.{take_binary, take_assign}
 use Rattle.c_tree.proofs.Codes.{keyword_by_code, punctuator_by_code}
 use Rattle.c_grammar.proofs.Options.{same, when, parts, bound}
 

@@ -13,7 +13,7 @@ use Rattle.c_grammar.specs.Specifiers.{InTypeName, InParam}
 use Rattle.c_grammar.specs.Nonterminal.{Form, Abstract, Either, may_name, may_omit, Expression, Specifiers, NameOfType, DeclaratorIn, Parameter}
 use Rattle.c_grammar.specs.Grammar.{is_pointer_word, ArePointers, is_bound_word, is_nothing, is_taken_as_type, lone_void, IsList, AreSuffixes, IsSuffix, AreParams}
 use Rattle.c_grammar.specs.Found.{Reader, if_there}
-use Rattle.c_grammar.specs.DeclaratorSteps.{read_bound, read_params, after_void, read_param_list, begins_suffix, read_suffix, read_suffixes, pointers_of, after_pointers, begins_params, take_name, after_nesting, read_named, read_nested, read_unnamed, read_direct, read_declarator, begins_declarator, read_type_name, read_param}
+use Rattle.c_grammar.specs.Ways.DeclaratorSteps.{read_bound, read_params, after_void, read_param_list, begins_suffix, read_suffix, read_suffixes, pointers_of, after_pointers, begins_params, take_name, after_nesting, read_named, read_nested, read_unnamed, read_direct, read_declarator, begins_declarator, read_type_name, read_param}
 use Rattle.c_grammar.proofs.Options.{bound, chosen, unless, when, which, parts, three_parts}
 use Rattle.c_grammar.proofs.Front.{take_symbol_some, taken, taken_keyword, run-all, run-has}
 use Rattle.c_grammar.proofs.Readers.{Stands, IsSound, finish}

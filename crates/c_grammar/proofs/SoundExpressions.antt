@@ -16,7 +16,7 @@ use Rattle.c_grammar.specs.Specifiers.{begins_specifiers}
 use Rattle.c_grammar.specs.Nonterminal.{Expression, NameOfType}
 use Rattle.c_grammar.specs.Grammar.{IsExpr, AreArguments, IsPath, IsDesignator}
 use Rattle.c_grammar.specs.Found.{Reader, made}
-use Rattle.c_grammar.specs.ExpressionSteps.{read_designator, read_path, read_va_arg, read_offsetof, read_paren, read_primary, read_more_arguments, read_arguments, begins_postfix, read_postfix_operator, read_postfix_operators, read_postfix, after_type_paren, read_sizeof, take_prefix, read_unary, read_cast, take_binary, read_chain, read_binary, read_conditional, take_assign, read_assignment, read_commas, read_expression}
+use Rattle.c_grammar.specs.Ways.ExpressionSteps.{read_designator, read_path, read_va_arg, read_offsetof, read_paren, read_primary, read_more_arguments, read_arguments, begins_postfix, read_postfix_operator, read_postfix_operators, read_postfix, after_type_paren, read_sizeof, take_prefix, read_unary, read_cast, take_binary, read_chain, read_binary, read_conditional, take_assign, read_assignment, read_commas, read_expression}
 use Rattle.c_grammar.proofs.Options.{same, bound, chosen, unless, when, which, parts, made_some, at_most}
 use Rattle.c_grammar.proofs.Front.{take_symbol_some, taken, taken_keyword, run-all, run-has, take_binary-some, take_assign-some}
 use Rattle.c_grammar.proofs.Readers.{Stands, IsSound, finish}

@@ -14,7 +14,7 @@ use Rattle.c_grammar.specs.Specifiers.{Place, is_specifier, begins_tag, goes_on,
 use Rattle.c_grammar.specs.Nonterminal.{Specifiers}
 use Rattle.c_grammar.specs.Grammar.{IsItem, AreItems, AreSpecifiers, IsTag}
 use Rattle.c_grammar.specs.Found.{Found, made}
-use Rattle.c_grammar.specs.SpecifierSteps.{read_item, read_items, read_specifiers, read_struct_tag, read_enum_tag, read_tag}
+use Rattle.c_grammar.specs.Ways.SpecifierSteps.{read_item, read_items, read_specifiers, read_struct_tag, read_enum_tag, read_tag}
 use Rattle.c_grammar.proofs.Options.{bound, chosen, when, which, parts, either, made_some}
 use Rattle.c_grammar.proofs.Front.{take_symbol_some, taken_keyword}
 use Rattle.c_grammar.proofs.Readers.{Stands}

@@ -9,9 +9,9 @@ use Rattle.c_grammar.specs.Names.{Names, with_param}
 use Rattle.c_grammar.specs.Specifiers.{goes_on, types}
 use Rattle.c_grammar.specs.Nonterminal.{Nonterminal, Expression, Parameter}
 use Rattle.c_grammar.specs.Found.{◌>>=◌, if_there, Found, made, Reader}
-use Rattle.c_grammar.specs.SpecifierSteps.{read_item, read_items}
-use Rattle.c_grammar.specs.DeclaratorSteps.{read_params, begins_suffix, read_suffix, read_suffixes}
-use Rattle.c_grammar.specs.ExpressionSteps.{read_designator, read_path, read_more_arguments, begins_postfix, read_postfix_operator, read_postfix_operators, read_cast, take_binary, read_chain, read_binary}
+use Rattle.c_grammar.specs.Ways.SpecifierSteps.{read_item, read_items}
+use Rattle.c_grammar.specs.Ways.DeclaratorSteps.{read_params, begins_suffix, read_suffix, read_suffixes}
+use Rattle.c_grammar.specs.Ways.ExpressionSteps.{read_designator, read_path, read_more_arguments, begins_postfix, read_postfix_operator, read_postfix_operators, read_cast, take_binary, read_chain, read_binary}
 use Rattle.c_grammar.specs.Reading.{read_part, read}
 
 pred : (n : ℕ) → n ≡ suc n - 1

@@ -13,9 +13,9 @@ use Rattle.c_grammar.specs.Names.{Names}
 use Rattle.c_grammar.specs.Specifiers.{is_storage, is_inline, is_qualifier, is_type_word, is_tag_word, goes_on}
 use Rattle.c_grammar.specs.Nonterminal.{Form, may_name}
 use Rattle.c_grammar.specs.Grammar.{is_pointer_word}
-use Rattle.c_grammar.specs.DeclaratorSteps.{begins_suffix, begins_declarator}
+use Rattle.c_grammar.specs.Ways.DeclaratorSteps.{begins_suffix, begins_declarator}
 use Rattle.c_grammar.specs.Found.{◌>>=◌}
-use Rattle.c_grammar.specs.ExpressionSteps.{begins_postfix, take_binary, take_assign}
+use Rattle.c_grammar.specs.Ways.ExpressionSteps.{begins_postfix, take_binary, take_assign}
 use Rattle.c_grammar.specs.Following.{operator_weight, weight, Stops, goes_on_declaring}
 use Rattle.c_grammar.proofs.Options.{neither}
 use Rattle.c_grammar.proofs.Front.{binary_of-some, assign_of-some}

@@ -8,8 +8,8 @@ use Rattle.c_grammar.specs.Levels.{postfix_level, conditional_level, assignment_
 use Rattle.c_grammar.specs.Names.{Names}
 use Rattle.c_grammar.specs.Specifiers.{goes_on}
 use Rattle.c_grammar.specs.Nonterminal.{Nonterminal, Expression, Specifiers, NameOfType, DeclaratorIn, Parameter}
-use Rattle.c_grammar.specs.DeclaratorSteps.{begins_suffix}
-use Rattle.c_grammar.specs.ExpressionSteps.{begins_postfix}
+use Rattle.c_grammar.specs.Ways.DeclaratorSteps.{begins_suffix}
+use Rattle.c_grammar.specs.Ways.ExpressionSteps.{begins_postfix}
 
 abbrev pub operator_weight : Option BinaryOp → Symbol → ℕ
 operator_weight (Some op) t = level_of op

@@ -6,9 +6,9 @@ use Rattle.c_tree.specs.Syntax.{Syntax}
 use Rattle.c_grammar.specs.Names.{Names}
 use Rattle.c_grammar.specs.Nonterminal.{Nonterminal, Expression, Specifiers, NameOfType, DeclaratorIn, Parameter}
 use Rattle.c_grammar.specs.Found.{◌>>=◌, Found, Reader}
-use Rattle.c_grammar.specs.SpecifierSteps.{read_specifiers, read_tag}
-use Rattle.c_grammar.specs.DeclaratorSteps.{read_declarator, read_type_name, read_param}
-use Rattle.c_grammar.specs.ExpressionSteps.{read_expression}
+use Rattle.c_grammar.specs.Ways.SpecifierSteps.{read_specifiers, read_tag}
+use Rattle.c_grammar.specs.Ways.DeclaratorSteps.{read_declarator, read_type_name, read_param}
+use Rattle.c_grammar.specs.Ways.ExpressionSteps.{read_expression}
 
 -- a tree of height at most m, whose parts `inner` reads
 abbrev pub read_part : Reader → ℕ → Reader

@@ -4,10 +4,6 @@ pub mod Declarations
 pub mod Statements
 pub mod Control
 pub mod Grammar
-pub mod TaggedSteps
-pub mod DeclarationSteps
-pub mod StatementSteps
-pub mod ChunkSteps
 pub mod Reading
 pub mod Following
 pub mod Theorems

@@ -9,7 +9,7 @@ use Rattle.c_lexer.specs.declared.c_reading.fault.Fault.{Fault}
 use Rattle.c_lexer.specs.CReading.Pieces as pieces
 use Rattle.c_lexer.specs.CReading.Pieces.{bytes_of, beginning, behind, behind_all}
 use Rattle.c_lexer.specs.CReading.Reading.{IsNext, Cuts, Lexeme, lexeme_at, lexemes, fault_at, IsFaulty, IsReading}
-use Rattle.c_lexer.specs.CReading.Cutting.{cut}
+use Rattle.c_lexer.specs.Ways.Cutting.{cut}
 use Rattle.c_lexer.proofs.CReading.OnePiece.{cut-sound}
 use Rattle.c_lexer.proofs.CReading.Readings.{cuts-push, behind-push, lexemes-push, faulty, one_reading, no_reading, one_fault}
 use Rattle.c_lexer.specs.declared.here.Here.{Here}

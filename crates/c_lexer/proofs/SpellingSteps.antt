@@ -6,7 +6,7 @@ use Rattle.c_lexer.specs.declared.c_reading.mode.Mode.{Mode}
 use Rattle.c_lexer.specs.CReading.Bytes.{is_letter, is_word_byte}
 use Rattle.c_lexer.specs.CReading.Words.{word_kind}
 use Rattle.c_lexer.specs.CReading.Spellings.{literal_len, kind_of}
-use Rattle.c_lexer.specs.CReading.Cutting.{word_len, word_or_literal}
+use Rattle.c_lexer.specs.Ways.Cutting.{word_len, word_or_literal}
 use Rattle.c_lexer.proofs.CReading.ClassKinds.{kind-word}
 use Rattle.c_lexer.proofs.CReading.Scans.{behind_first, behind_cons}
 use Rattle.c_lexer.specs.Found.{BeginsWith}

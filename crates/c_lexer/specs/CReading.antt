@@ -1,14 +1,12 @@
 pub mod Bytes
 pub mod Runs
 pub mod Words
-pub mod WordsByLength
 pub mod Punctuators
 pub mod Constants
 pub mod Spellings
 pub mod Markers
 pub mod Pieces
 pub mod Reading
-pub mod Cutting
 pub mod Scans
 pub mod Strip
 pub mod Chunks

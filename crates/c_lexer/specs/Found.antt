@@ -6,7 +6,7 @@ use Rattle.c_lexer.specs.CReading.Punctuators.{punctuator_of}
 use Rattle.c_lexer.specs.CReading.Spellings.{kind_of}
 use Rattle.c_lexer.specs.CReading.Markers.{unescaped}
 use Rattle.c_lexer.specs.CReading.Markers as markers
-use Rattle.c_lexer.specs.CReading.Cutting.{punctuator_len, pair_len}
+use Rattle.c_lexer.specs.Ways.Cutting.{punctuator_len, pair_len}
 use Rattle.c_lexer.specs.declared.markers.Marker.{Marker}
 use Rattle.c_lexer.specs.declared.markers.Marker.TheVariants.{Skipped, Renumbers}
 use Rattle.c_lexer.specs.declared.spellings.Spelled.{Spelled}

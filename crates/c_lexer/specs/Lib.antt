@@ -8,3 +8,4 @@ pub mod Naming
 pub mod Groups
 pub mod Nests
 pub mod CReading
+pub mod Ways

@@ -7,7 +7,7 @@ use Rattle.c_lexer.specs.CReading.Spellings.{kind_of}
 use Rattle.c_lexer.specs.CReading.Markers.{marker_of}
 use Rattle.c_lexer.specs.CReading.Pieces as pieces
 use Rattle.c_lexer.specs.CReading.Reading.{fault_at, spelling_fault}
-use Rattle.c_lexer.specs.CReading.Cutting.{cut, comment_at, line_comment_at, marker_at, spelling_at}
+use Rattle.c_lexer.specs.Ways.Cutting.{cut, comment_at, line_comment_at, marker_at, spelling_at}
 use Rattle.c_lexer.specs.declared.pieces.Piece.{Piece}
 use Rattle.c_lexer.specs.declared.pieces.Piece.TheVariants.{Space, Comment, LineComment, MarkerLine, Spelling}
 use Rattle.c_lexer.specs.Found.{marker_view, following_line}

@@ -2,7 +2,7 @@
 
 ghost use Rattle.std.specs.Prelude.{◌≡◌, ◌≤◌, length, IfSome, Some, ◌∷◌};
 ghost use Rattle.c_lexer.specs.CReading.Spellings.{quoted, unprefixed_len, literal_len, literal_kind};
-ghost use Rattle.c_lexer.specs.CReading.Cutting.{closing};
+ghost use Rattle.c_lexer.specs.Ways.Cutting.{closing};
 
 use crate::bytes::{begins, is_quote};
 use c_tree::TokenKind;

@@ -4,7 +4,7 @@ ghost use Rattle.std.specs.Prelude.{◌≡◌, ◌≤◌, length};
 ghost use Rattle.c_lexer.specs.CReading.Runs.{run_len};
 ghost use Rattle.c_lexer.specs.CReading.Constants.{is_e};
 ghost use Rattle.c_lexer.specs.CReading.Spellings.{goes_on, begins_number};
-ghost use Rattle.c_lexer.specs.CReading.Cutting.{number_len};
+ghost use Rattle.c_lexer.specs.Ways.Cutting.{number_len};
 
 use crate::bytes::{is_digit, is_word_byte};
 
@@ -54,7 +54,7 @@ fn run_len(first: u8, bytes: &[u8]) -> usize
 }
 
 /// The length of the number that begins here, or 0.
-#[tactic(auto, unfolding(crate::specs::CReading::Cutting::number_len))]
+#[tactic(auto, unfolding(crate::specs::Ways::Cutting::number_len))]
 pub fn number_len(bytes: &[u8]) -> usize
     ensures count { result ≡ number_len bytes.now }
     ensures within { result ≤ length bytes.now }

@@ -3,7 +3,7 @@
 ghost use Rattle.std.specs.Prelude.{◌≡◌, ◌≤◌, ◌<◌, length, IsTrue, ◌&&◌, Some, None};
 ghost use Rattle.std.specs.Option.{option_map};
 ghost use Rattle.c_lexer.specs.CReading.Reading.{begins_comment, begins_line_comment, has_markers, spelling_fault};
-ghost use Rattle.c_lexer.specs.CReading.Cutting.{cut, comment_at, line_comment_at, marker_at, spelling_at};
+ghost use Rattle.c_lexer.specs.Ways.Cutting.{cut, comment_at, line_comment_at, marker_at, spelling_at};
 ghost use Rattle.c_lexer.specs.Pieces.{piece_view, piece_len, GivesPiece, GivesComment, GivesLineComment, GivesMarker, GivesToken};
 
 use crate::bytes::{Class, begins, front_len, is_blank, is_quote};
@@ -87,7 +87,7 @@ fn has_markers(mode: Mode) -> bool
 }
 
 /// A comment that begins with `/*`.
-#[tactic(auto, unfolding(crate::specs::CReading::Cutting::comment_at))]
+#[tactic(auto, unfolding(crate::specs::Ways::Cutting::comment_at))]
 fn comment<'a>(bytes: &'a [u8]) -> Result<Piece<'a>, Fault>
     requires { IsTrue (begins_comment bytes.now) }
     ensures { GivesComment bytes.now result }
@@ -99,7 +99,7 @@ fn comment<'a>(bytes: &'a [u8]) -> Result<Piece<'a>, Fault>
 }
 
 /// A comment that begins with `//`.
-#[tactic(auto, unfolding(crate::specs::CReading::Cutting::line_comment_at))]
+#[tactic(auto, unfolding(crate::specs::Ways::Cutting::line_comment_at))]
 fn line_comment<'a>(bytes: &'a [u8]) -> Piece<'a>
     requires { IsTrue (begins_line_comment bytes.now) }
     ensures { GivesLineComment bytes.now result }
@@ -109,7 +109,7 @@ fn line_comment<'a>(bytes: &'a [u8]) -> Piece<'a>
 }
 
 /// A marker line.
-#[tactic(auto, unfolding(crate::specs::CReading::Cutting::marker_at))]
+#[tactic(auto, unfolding(crate::specs::Ways::Cutting::marker_at))]
 fn marker_line<'a>(bytes: &'a [u8]) -> Result<Piece<'a>, Fault>
     requires { 1 ≤ length bytes.now }
     ensures { GivesMarker bytes.now result }
@@ -142,7 +142,7 @@ fn spelling_fault(bytes: &[u8]) -> Fault
 }
 
 /// A token.
-#[tactic(auto, unfolding(crate::specs::CReading::Cutting::spelling_at))]
+#[tactic(auto, unfolding(crate::specs::Ways::Cutting::spelling_at))]
 fn token<'a>(mode: Mode, bytes: &'a [u8]) -> Result<Piece<'a>, Fault>
     ensures { GivesToken mode bytes.now result }
 {
@@ -159,7 +159,7 @@ fn token<'a>(mode: Mode, bytes: &'a [u8]) -> Result<Piece<'a>, Fault>
 }
 
 /// The piece in front. `first` says whether only spaces and tabs stand before on the line, which doesn't begin inside a comment.
-#[tactic(auto, unfolding(crate::specs::CReading::Cutting::cut, crate::specs::CReading::Reading::fault_at))]
+#[tactic(auto, unfolding(crate::specs::Ways::Cutting::cut, crate::specs::CReading::Reading::fault_at))]
 pub fn cut<'a>(mode: Mode, first: bool, bytes: &'a [u8]) -> Result<Piece<'a>, Fault>
     ensures { GivesPiece mode first bytes.now result }
 {

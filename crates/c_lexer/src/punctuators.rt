@@ -127,7 +127,7 @@ fn pair_or_single(mode: Mode, first: u8, second: u8) -> Option<(usize, Punctuato
 }
 
 /// The longest punctuator in front, with its length.
-#[tactic(auto, unfolding(crate::specs::CReading::Cutting::punctuator_len))]
+#[tactic(auto, unfolding(crate::specs::Ways::Cutting::punctuator_len))]
 pub fn punctuator(mode: Mode, bytes: &[u8]) -> Option<(usize, Punctuator)>
     ensures { GivesPunctuator mode bytes.now result }
 {

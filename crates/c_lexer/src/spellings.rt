@@ -3,7 +3,7 @@
 ghost use Rattle.std.specs.Prelude.{◌≡◌, ◌<◌, IsTrue, slice_index, length, unwrap_or};
 ghost use Rattle.c_lexer.specs.CReading.Bytes.{is_letter};
 ghost use Rattle.c_lexer.specs.CReading.Spellings.{begins_number, literal_len};
-ghost use Rattle.c_lexer.specs.CReading.Cutting.{word_len, number_len, punctuator_len, word_or_literal, spelling_len};
+ghost use Rattle.c_lexer.specs.Ways.Cutting.{word_len, number_len, punctuator_len, word_or_literal, spelling_len};
 ghost use Rattle.c_lexer.specs.Found.{GivesSpelling, BeginsWith};
 ghost use Rattle.c_lexer.specs.declared.c_reading.mode.Mode.{Mode};
 
@@ -39,7 +39,7 @@ fn literal(mode: Mode, bytes: &[u8]) -> Option<Spelled>
 }
 
 /// A literal behind `L`, else a word.
-#[tactic(auto, unfolding(crate::specs::CReading::Cutting::word_len), using(crate::proofs::CReading::ClassKinds::word_kinds))]
+#[tactic(auto, unfolding(crate::specs::Ways::Cutting::word_len), using(crate::proofs::CReading::ClassKinds::word_kinds))]
 fn word_or_literal(mode: Mode, first: u8, bytes: &[u8]) -> Option<Spelled>
     requires begins { BeginsWith first bytes.now }
     requires letter { IsTrue (is_letter first) }
@@ -80,7 +80,7 @@ fn sign(mode: Mode, bytes: &[u8]) -> Option<Spelled>
 }
 
 /// The longest spelling in front.
-#[tactic(auto, unfolding(crate::specs::CReading::Cutting::spelling_len))]
+#[tactic(auto, unfolding(crate::specs::Ways::Cutting::spelling_len))]
 pub fn spelling(mode: Mode, bytes: &[u8]) -> Option<Spelled>
     ensures { GivesSpelling mode bytes.now (spelling_len mode bytes.now) result }
 {

@@ -2,7 +2,7 @@
 
 ghost use Rattle.std.specs.Prelude.{◌≡◌, unwrap_or, length, bytes_eq};
 ghost use Rattle.c_lexer.specs.CReading.Words.{find_text, word_kind, special_words};
-ghost use Rattle.c_lexer.specs.CReading.WordsByLength.{of_length, words_of};
+ghost use Rattle.c_lexer.specs.Ways.WordsByLength.{of_length, words_of};
 
 use c_tree::{Keyword, Mark, TokenKind};
 
@@ -231,7 +231,7 @@ fn of_19(text: &[u8]) -> Option<TokenKind>
 }
 
 /// What a word is, if it is more than a name.
-#[tactic(auto, unfolding(crate::specs::CReading::WordsByLength::words_of))]
+#[tactic(auto, unfolding(crate::specs::Ways::WordsByLength::words_of))]
 fn special(text: &[u8]) -> Option<TokenKind>
     ensures { result ≡ find_text text.now (words_of (length text.now)) }
 {

@@ -16,7 +16,7 @@ use Rattle.c_grammar.specs.Reading.{read as read_expressions}
 use Rattle.c_grammar.specs.UnitGrammar.Names.{declared}
 use Rattle.c_grammar.specs.UnitGrammar.Grammar.{IsParse, AreParses, IsFirstBad}
 use Rattle.c_grammar.specs.UnitGrammar.Theorems.{ParsesAreUnique, ChunksAreRead}
-use Rattle.c_grammar.specs.UnitGrammar.ChunkSteps.{read_chunk}
+use Rattle.c_grammar.specs.Ways.ChunkSteps.{read_chunk}
 use Rattle.c_grammar.specs.UnitGrammar.Reading.{read, chunk}
 use Rattle.c_expr.specs.Gives.{before}
 use Rattle.c_expr.specs.Standing.{IsFirst}

@@ -9,9 +9,9 @@ use Rattle.c_grammar.specs.Nonterminal.{WithName, DeclaratorIn}
 use Rattle.c_grammar.specs.Found.{◌>>=◌, if_there, Reader}
 use Rattle.c_grammar.specs.UnitGrammar.Names.{declared, declared_name}
 use Rattle.c_grammar.specs.UnitGrammar.Construct.{Construct, StructMember, BlockDeclaration, OneStatement, ConstructReader}
-use Rattle.c_grammar.specs.UnitGrammar.TaggedSteps.{read_enumerator, read_enumerators, read_members, read_member_declarator, read_member_declarators}
-use Rattle.c_grammar.specs.UnitGrammar.DeclarationSteps.{read_initial, read_initials, read_initialized, read_init_declarators}
-use Rattle.c_grammar.specs.UnitGrammar.StatementSteps.{begins_declaration, read_statements, read_block_items}
+use Rattle.c_grammar.specs.Ways.TaggedSteps.{read_enumerator, read_enumerators, read_members, read_member_declarator, read_member_declarators}
+use Rattle.c_grammar.specs.Ways.DeclarationSteps.{read_initial, read_initials, read_initialized, read_init_declarators}
+use Rattle.c_grammar.specs.Ways.StatementSteps.{begins_declaration, read_statements, read_block_items}
 use Rattle.c_grammar.specs.UnitGrammar.Reading.{read, read_construct}
 use Rattle.c_grammar.specs.Reading.{read as read_expressions}
 

@@ -5,7 +5,7 @@ use Rattle.std.proofs.lemmas.List.{append_assoc, append-nil}
 use Rattle.c_tree.specs.Syntax.{Syntax}
 use Rattle.c_grammar.specs.Found.{◌>>=◌}
 use Rattle.c_grammar.specs.UnitGrammar.Control.{has_name, are_different, labels, may_stand, is_controlled}
-use Rattle.c_parser.specs.Gathered.{with_label, gathered, known_if}
+use Rattle.c_parser.specs.Ways.Gathered.{with_label, gathered, known_if}
 
 pub any_name : (name : ℕ) (names : List ℕ) → list_any (nat_eq name) names ≡ has_name name names
 any_name name [] = refl

@@ -17,7 +17,7 @@ use Rattle.c_grammar.proofs.Options.{which, made_low}
 use Rattle.c_grammar.proofs.Sound.{read-sound as expressions-sound}
 use Rattle.c_grammar.specs.UnitGrammar.Names.{declared_name, with_declarators}
 use Rattle.c_grammar.specs.UnitGrammar.Construct.{BracedInitials, ConstructReader}
-use Rattle.c_grammar.specs.UnitGrammar.DeclarationSteps.{read_initial, read_initialized}
+use Rattle.c_grammar.specs.Ways.DeclarationSteps.{read_initial, read_initialized}
 use Rattle.c_grammar.specs.UnitGrammar.Reading.{read}
 use Rattle.c_grammar.proofs.UnitGrammar.Sound.{read-sound as units-sound}
 use Rattle.c_expr.specs.Gives.{Gives}

@@ -11,9 +11,9 @@ use Rattle.c_grammar.specs.Nonterminal.{WithName, DeclaratorIn}
 use Rattle.c_grammar.specs.Found.{◌>>=◌, Reader}
 use Rattle.c_grammar.specs.UnitGrammar.Names.{declared, declared_name}
 use Rattle.c_grammar.specs.UnitGrammar.Construct.{StructMember, BlockDeclaration, OneStatement, ConstructReader}
-use Rattle.c_grammar.specs.UnitGrammar.TaggedSteps.{read_enumerator, read_enumerators, read_members, read_member_declarator, read_member_declarators}
-use Rattle.c_grammar.specs.UnitGrammar.DeclarationSteps.{read_initial, read_initials, read_initialized, read_init_declarators}
-use Rattle.c_grammar.specs.UnitGrammar.StatementSteps.{begins_declaration, read_statements, read_block_items}
+use Rattle.c_grammar.specs.Ways.TaggedSteps.{read_enumerator, read_enumerators, read_members, read_member_declarator, read_member_declarators}
+use Rattle.c_grammar.specs.Ways.DeclarationSteps.{read_initial, read_initials, read_initialized, read_init_declarators}
+use Rattle.c_grammar.specs.Ways.StatementSteps.{begins_declaration, read_statements, read_block_items}
 use Rattle.c_expr.specs.Gives.{ending_with}
 use Rattle.c_expr.proofs.Items.{before-push, ending-longer}
 use Rattle.c_parser.specs.CommaLists.{commas_after}

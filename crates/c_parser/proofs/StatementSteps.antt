@@ -8,7 +8,7 @@ use Rattle.c_tree.specs.Forget.{view}
 use Rattle.c_grammar.specs.Symbols.{after_sign}
 use Rattle.c_grammar.specs.Names.{Names}
 use Rattle.c_grammar.specs.UnitGrammar.Construct.{OneStatement, ConstructReader}
-use Rattle.c_grammar.specs.UnitGrammar.StatementSteps.{begins_declaration, read_statements, read_block_items}
+use Rattle.c_grammar.specs.Ways.StatementSteps.{begins_declaration, read_statements, read_block_items}
 use Rattle.c_expr.specs.Gives.{ending_with}
 use Rattle.c_expr.proofs.Items.{before-none}
 use Rattle.c_parser.proofs.Equations.{read-zero, read-some, read_statements-zero, read_statements-some, read_block_items-zero, read_block_items-some, read_block_items-end}

@@ -19,7 +19,7 @@ use Rattle.c_grammar.proofs.Sound.{read-sound}
 use Rattle.c_grammar.specs.UnitGrammar.Construct.{SpecifiersIn, StructMember}
 use Rattle.c_grammar.specs.UnitGrammar.Names.{declared, declared_by_all}
 use Rattle.c_grammar.specs.UnitGrammar.Reading.{read}
-use Rattle.c_grammar.specs.UnitGrammar.TaggedSteps.{read_declared_members}
+use Rattle.c_grammar.specs.Ways.TaggedSteps.{read_declared_members}
 use Rattle.c_expr.specs.Gives.{Gives}
 use Rattle.c_expr.specs.declared.fault.ExprFault.{ExprFault}
 use Rattle.c_expr.specs.declared.nodes.Read.{Read}

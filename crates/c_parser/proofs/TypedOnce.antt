@@ -9,7 +9,7 @@ use Rattle.c_grammar.specs.Symbols.{take_symbol}
 use Rattle.c_grammar.specs.Names.{Names}
 use Rattle.c_grammar.specs.Specifiers.{Place, begins_tag, goes_on, types, type_words, other_types, storages, inlines, is_one_type, has_one_type, are_allowed, may_inline, fit}
 use Rattle.c_grammar.specs.Found.{◌>>=◌, if_there, Found, made}
-use Rattle.c_grammar.specs.SpecifierSteps.{read_item, read_items}
+use Rattle.c_grammar.specs.Ways.SpecifierSteps.{read_item, read_items}
 use Rattle.c_grammar.proofs.Options.{both, parts}
 use Rattle.c_grammar.specs.UnitGrammar.Construct.{SpecifiersIn, TaggedType}
 use Rattle.c_grammar.specs.UnitGrammar.Grammar.{IsTaggedTree}
@@ -18,7 +18,7 @@ use Rattle.c_grammar.specs.UnitGrammar.Reading.{read}
 use Rattle.c_grammar.proofs.UnitGrammar.Sound.{read-sound}
 use Rattle.c_expr.specs.Gives.{ending_with}
 use Rattle.c_expr.proofs.Items.{before-none, height_in-push, count_in-push, ending-longer, list_out}
-use Rattle.c_parser.specs.TypedOnce.{read_typed_once, specs_made}
+use Rattle.c_parser.specs.Ways.TypedOnce.{read_typed_once, specs_made}
 use Rattle.c_parser.proofs.Equations.{read-zero, read-some}
 
 abbrev Items : Type 0

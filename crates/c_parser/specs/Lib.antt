@@ -1,10 +1,9 @@
-pub mod Gathered
 pub mod Around
 pub mod Suffixes
 pub mod CommaLists
 pub mod Parts
-pub mod TypedOnce
 pub mod Tags
 pub mod Behind
 pub mod StatementParts
 pub mod Units
+pub mod Ways

@@ -5,7 +5,7 @@ ghost use Rattle.c_tree.specs.declared.punctuator.Punctuator.TheVariants as mark
 ghost use Rattle.c_tree.specs.declared.token.Token.{Token};
 ghost use Rattle.c_tree.specs.Symbol.{Sign, symbols_of};
 ghost use Rattle.c_grammar.specs.UnitGrammar.Construct.{FunctionBody};
-ghost use Rattle.c_grammar.specs.UnitGrammar.StatementSteps as steps;
+ghost use Rattle.c_grammar.specs.Ways.StatementSteps as steps;
 ghost use Rattle.c_grammar.specs.UnitGrammar.Reading.{read};
 ghost use Rattle.c_expr.specs.Standing.{Over, Passes, IsFirst};
 ghost use Rattle.c_expr.specs.Gives.{Gives, GivesList, AsBefore, left, left_by_list, Spends};

@@ -5,7 +5,7 @@ ghost use Rattle.c_tree.specs.Symbol.{symbol_of};
 ghost use Rattle.c_tree.specs.Forget.{view, maybe_view, list_view, statement_view, iteration_view, jump_view};
 ghost use Rattle.c_grammar.specs.Names.{name_in};
 ghost use Rattle.c_grammar.specs.UnitGrammar.Control.{labels, plain_labels, iteration_labels, else_labels, all_labels, defaults, plain_defaults, iteration_defaults, else_defaults, all_defaults, is_label_of, may_stand, plain_may_stand, iteration_may_stand, jump_may_stand, else_may_stand, all_may_stand, is_controlled};
-ghost use Rattle.c_parser.specs.Gathered.{gathered, known_if};
+ghost use Rattle.c_parser.specs.Ways.Gathered.{gathered, known_if};
 ghost use Rattle.c_parser.specs.Around.{surroundings};
 
 use crate::labels::{Labels, add_label, name_in};

@@ -12,7 +12,7 @@ ghost use Rattle.c_grammar.specs.Found.{made};
 ghost use Rattle.c_grammar.specs.Reading.{read as read_expressions};
 ghost use Rattle.c_grammar.specs.UnitGrammar.Names.{declared};
 ghost use Rattle.c_grammar.specs.UnitGrammar.Construct.{BlockDeclaration};
-ghost use Rattle.c_grammar.specs.UnitGrammar.DeclarationSteps as steps;
+ghost use Rattle.c_grammar.specs.Ways.DeclarationSteps as steps;
 ghost use Rattle.c_grammar.specs.UnitGrammar.Reading.{read};
 ghost use Rattle.c_expr.specs.Gives.{Gives, left, Spends};
 ghost use Rattle.c_expr.specs.Standing.{Makes, Over};

@@ -3,7 +3,7 @@
 ghost use Rattle.std.specs.Prelude.{◌≡◌};
 ghost use Rattle.c_tree.specs.Symbol.{symbols_of};
 ghost use Rattle.c_grammar.specs.Symbols.{is_sign, begins};
-ghost use Rattle.c_grammar.specs.UnitGrammar.StatementSteps.{begins_label, begins_declaration};
+ghost use Rattle.c_grammar.specs.Ways.StatementSteps.{begins_label, begins_declaration};
 
 use c_expr::{begins_specifiers, is_sign};
 use c_grammar::TypeNames;

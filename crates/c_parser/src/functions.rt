@@ -9,7 +9,7 @@ ghost use Rattle.c_grammar.specs.Names.{Names, with_params};
 ghost use Rattle.c_grammar.specs.Reading.{read as read_expressions};
 ghost use Rattle.c_grammar.specs.UnitGrammar.Names.{declared};
 ghost use Rattle.c_grammar.specs.UnitGrammar.Construct.{FunctionBody};
-ghost use Rattle.c_grammar.specs.UnitGrammar.ChunkSteps as steps;
+ghost use Rattle.c_grammar.specs.Ways.ChunkSteps as steps;
 ghost use Rattle.c_grammar.specs.UnitGrammar.Reading.{read};
 ghost use Rattle.c_expr.specs.Gives.{Gives, AsBefore, left, Spends};
 ghost use Rattle.c_expr.specs.Standing.{Over};

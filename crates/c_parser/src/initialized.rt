@@ -13,7 +13,7 @@ ghost use Rattle.c_grammar.specs.CPlaces.Stands.{StandsOver};
 ghost use Rattle.c_grammar.specs.Names.{name_of, declarator_name, with_name};
 ghost use Rattle.c_grammar.specs.Reading.{read as read_expressions};
 ghost use Rattle.c_grammar.specs.UnitGrammar.Names.{declared_name, with_declarators};
-ghost use Rattle.c_grammar.specs.UnitGrammar.DeclarationSteps as steps;
+ghost use Rattle.c_grammar.specs.Ways.DeclarationSteps as steps;
 ghost use Rattle.c_grammar.specs.UnitGrammar.Reading.{read};
 ghost use Rattle.c_expr.specs.Gives.{Gives, GivesList, left, left_by_list, Spends};
 ghost use Rattle.c_expr.specs.Standing.{OverBehind};

@@ -4,7 +4,7 @@ ghost use Rattle.std.specs.Prelude.{◌+◌, ◌-◌, ◌*◌, ◌<◌, ◌^◌,
 ghost use Rattle.c_tree.specs.Symbol.{symbols_of};
 ghost use Rattle.c_grammar.specs.Reading.{read as read_expressions};
 ghost use Rattle.c_grammar.specs.UnitGrammar.Construct.{BracedInitials};
-ghost use Rattle.c_grammar.specs.UnitGrammar.DeclarationSteps as steps;
+ghost use Rattle.c_grammar.specs.Ways.DeclarationSteps as steps;
 ghost use Rattle.c_grammar.specs.UnitGrammar.Reading.{read};
 ghost use Rattle.c_expr.specs.Gives.{Gives, AsBefore, left, Spends};
 ghost use Rattle.c_expr.specs.Standing.{Over};

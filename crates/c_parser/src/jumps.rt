@@ -5,7 +5,7 @@ ghost use Rattle.c_tree.specs.declared.keyword.Keyword.TheVariants as words;
 ghost use Rattle.c_tree.specs.declared.token.Token.{Token};
 ghost use Rattle.c_tree.specs.Symbol.{Reserved, symbols_of};
 ghost use Rattle.c_grammar.specs.Reading.{read as read_expressions};
-ghost use Rattle.c_grammar.specs.UnitGrammar.StatementSteps as steps;
+ghost use Rattle.c_grammar.specs.Ways.StatementSteps as steps;
 ghost use Rattle.c_expr.specs.Standing.{Over, Passes, IsFirst};
 ghost use Rattle.c_expr.specs.Gives.{Gives, AsBefore, left, Spends};
 

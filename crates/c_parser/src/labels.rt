@@ -4,7 +4,7 @@ ghost use Rattle.std.specs.Prelude.{◌≡◌, [], not, IfOk};
 ghost use Rattle.c_tree.specs.Symbol.{symbol_of};
 ghost use Rattle.c_grammar.specs.Names.{name_in};
 ghost use Rattle.c_grammar.specs.UnitGrammar.Control.{one_name, has_name};
-ghost use Rattle.c_parser.specs.Gathered.{with_label, gathered, known_if};
+ghost use Rattle.c_parser.specs.Ways.Gathered.{with_label, gathered, known_if};
 
 use c_tree::{Token, TokenKind};
 use indexmap::IndexSet;

@@ -12,7 +12,7 @@ ghost use Rattle.c_grammar.specs.UnitGrammar.Construct.{StructMember};
 ghost use Rattle.c_grammar.specs.UnitGrammar.Declarations.{is_struct_body, has_struct_body, makes_members};
 ghost use Rattle.c_grammar.specs.UnitGrammar.Names.{declared};
 ghost use Rattle.c_grammar.specs.UnitGrammar.Reading.{read};
-ghost use Rattle.c_grammar.specs.UnitGrammar.TaggedSteps as steps;
+ghost use Rattle.c_grammar.specs.Ways.TaggedSteps as steps;
 ghost use Rattle.c_expr.specs.Gives.{Gives, GivesList, AsBefore, left, left_by_list, Spends};
 ghost use Rattle.c_expr.specs.Standing.{Over, OverBehind};
 ghost use Rattle.c_parser.specs.Parts.{OverListUpTo};

@@ -6,7 +6,7 @@ ghost use Rattle.c_tree.specs.declared.punctuator.Punctuator.TheVariants as mark
 ghost use Rattle.c_tree.specs.declared.token.Token.{Token};
 ghost use Rattle.c_tree.specs.Symbol.{Reserved, Sign, symbol_of, symbols_of};
 ghost use Rattle.c_grammar.specs.Reading.{read as read_expressions};
-ghost use Rattle.c_grammar.specs.UnitGrammar.StatementSteps as steps;
+ghost use Rattle.c_grammar.specs.Ways.StatementSteps as steps;
 ghost use Rattle.c_grammar.specs.UnitGrammar.Reading.{read};
 ghost use Rattle.c_expr.specs.Standing.{Over, Passes, Keeps, IsFirst};
 ghost use Rattle.c_expr.specs.Gives.{Gives, AsBefore, left, Spends};

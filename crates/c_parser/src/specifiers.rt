@@ -6,14 +6,14 @@ ghost use Rattle.c_tree.specs.Symbol.{symbol_of, symbols_of};
 ghost use Rattle.c_tree.specs.Forget.{view, list_view};
 ghost use Rattle.c_grammar.specs.Symbols.{take_symbol};
 ghost use Rattle.c_grammar.specs.Specifiers.{begins_tag, goes_on};
-ghost use Rattle.c_grammar.specs.SpecifierSteps as steps;
+ghost use Rattle.c_grammar.specs.Ways.SpecifierSteps as steps;
 ghost use Rattle.c_grammar.specs.UnitGrammar.Construct.{SpecifiersIn, TaggedType};
 ghost use Rattle.c_grammar.specs.UnitGrammar.Names.{declared, declared_by_all};
 ghost use Rattle.c_grammar.specs.UnitGrammar.Reading.{read};
 ghost use Rattle.c_expr.specs.Gives.{Gives, GivesList, left, left_by_list, count_of, done};
 ghost use Rattle.c_expr.specs.SpecifierPlaces.{place_of};
 ghost use Rattle.c_expr.specs.Standing.{Over, OverRow};
-ghost use Rattle.c_parser.specs.TypedOnce.{read_typed_once};
+ghost use Rattle.c_parser.specs.Ways.TypedOnce.{read_typed_once};
 
 use crate::tagged::tagged_in_front;
 use c_expr::{

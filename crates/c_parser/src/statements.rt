@@ -4,7 +4,7 @@ ghost use Rattle.std.specs.Prelude.{◌≡◌, ◌+◌, ◌-◌, ◌*◌, ◌<�
 ghost use Rattle.c_tree.specs.Symbol.{Reserved, symbols_of};
 ghost use Rattle.c_grammar.specs.Reading.{read as read_expressions};
 ghost use Rattle.c_grammar.specs.UnitGrammar.Construct.{OneStatement};
-ghost use Rattle.c_grammar.specs.UnitGrammar.StatementSteps as steps;
+ghost use Rattle.c_grammar.specs.Ways.StatementSteps as steps;
 ghost use Rattle.c_grammar.specs.UnitGrammar.Reading.{read};
 ghost use Rattle.c_expr.specs.Standing.{Over, Passes};
 ghost use Rattle.c_expr.specs.Gives.{Gives, AsBefore, left, done, Spends};

@@ -14,7 +14,7 @@ ghost use Rattle.c_grammar.specs.Reading.{read as read_expressions};
 ghost use Rattle.c_grammar.specs.UnitGrammar.Construct.{TaggedType};
 ghost use Rattle.c_grammar.specs.UnitGrammar.Names.{declared, declared_by_all};
 ghost use Rattle.c_grammar.specs.UnitGrammar.Reading.{read};
-ghost use Rattle.c_grammar.specs.UnitGrammar.TaggedSteps as steps;
+ghost use Rattle.c_grammar.specs.Ways.TaggedSteps as steps;
 ghost use Rattle.c_expr.specs.Gives.{Gives, GivesList, left, left_by_list, done, Spends};
 ghost use Rattle.c_expr.specs.Standing.{Over, Passes, IsFirst};
 ghost use Rattle.c_parser.specs.CommaLists.{GivesCommaList, OverCommaList, left_by_comma_list};

@@ -8,7 +8,7 @@ use Rattle.command.specs.Due.{HasTask, IsDueFor, IsRefused}
 use Rattle.command.specs.Run.{Completes, Did, EndsIn, Gives, MayBeDue, NoReadFailed, RanAsDue, Run, called_in, rendered_in, reporters_in}
 use Rattle.command.specs.Written.{NoWriteFailed, Took, Written}
 use Rattle.command.specs.declared.status.Status.{Status}
-use Rattle.command.specs.declared.status.Status.TheVariants.{Clean, Reports, Usage, Refused, ReadFault, WriteFault, NoMemory}
+use Rattle.command.specs.declared.status.Status.TheVariants.{Refused, NoMemory}
 use Rattle.command.proofs.GivenCommands.{command_alone, one_command}
 use Rattle.command.proofs.Turns.{all_turns}
 use Rattle.command.proofs.Unique.OneDue.{determined}
@@ -60,8 +60,8 @@ module _ (run : Run) (command : Command) (given : Gives run command) (same : NoR
   -- the line of the first fault is due
   pub faulty : (l : Located) → IsFirstFault (surely_holds run.told) (checkers_of command) (sources_of command) l → RanAsDue run → Did run Refused [] (refused_line l)
   faulty l first ran =
-      let due : IsRefused (surely_holds run.told) command run.failed_before run.failed_after [] (refused_line l) = record { fault = l; first = first; none_failed = same; text_is = refl; line_is = refl } in
-      determined run.told run.words (reporters_in run) run.failed_before run.failed_after run.status run.out run.errs Refused [] (refused_line l) ran (inr (inl (record { command = command; given = given; due = due })))
+      let due : IsRefused (surely_holds run.told) command run.failed_before run.failed_after Refused [] (refused_line l) = record { fault = l; first = first; none_failed = same; status_is = refl; text_is = refl; line_is = refl } in
+      determined run.told run.words (reporters_in run) run.failed_before run.failed_after run.status run.out run.errs Refused [] (refused_line l) ran (inr (inl (record { command = command; given = given; due = inr (inl due) })))
 
   -- what is due for the command that the words give
   due_for_command : (s : Status) (text line : Bytes) (t : HasTask (may_hold run.told) run.words (called_in run) (rendered_in run) run.failed_before run.failed_after s text line)
@@ -74,39 +74,31 @@ module _ (run : Run) (command : Command) (given : Gives run command) (same : NoR
   complete contents tells fine (inl stops) no-out no-errs ne = absurd (ne stops.status)
   complete contents tells fine (inr c) no-out no-errs ne = by c.due c.written
     where
-      for : (s : Status) → IsDueFor (may_hold run.told) command (rendered_in run) run.failed_before run.failed_after s c.text c.line → run.status ≡ s → Took run.out c.text → Took run.errs c.line → Completes run command contents
-      for Clean due e o l = record { reports = due.reports; judged = told_reports run.told command contents due.reports due.accepted tells; status = inl (e, due.asked); text = c.text; text_is = due.text_is; printed = o; nothing = subst (Took run.errs) due.line_is l }
-      for Reports due e o l = record { reports = due.reports; judged = told_reports run.told command contents due.reports due.accepted tells; status = inr (e, due.asked); text = c.text; text_is = due.text_is; printed = o; nothing = subst (Took run.errs) due.line_is l }
-      for Usage due e o l = absurd due
-      for Refused due e o l = absurd (fine due.fault (first_sure run.told (checkers_of command) (sources_of command) contents tells due.fault due.first))
-      for ReadFault due e o l = absurd (longer run.failed_before due.failed.is_turn.turn.word (sym due.failed.grew ∙ same))
-      for WriteFault due e o l = absurd due
-      for NoMemory due e o l = absurd due
+      for : IsDueFor (may_hold run.told) command (rendered_in run) run.failed_before run.failed_after c.status c.text c.line → run.status ≡ c.status → Took run.out c.text → Took run.errs c.line → Completes run command contents
+      for (inl d) e o l = record { reports = d.reports; judged = told_reports run.told command contents d.reports d.accepted tells; status = e ∙ d.status_is; text = c.text; text_is = d.text_is; printed = o; nothing = subst (Took run.errs) d.line_is l }
+      for (inr (inl d)) e o l = absurd (fine d.fault (first_sure run.told (checkers_of command) (sources_of command) contents tells d.fault d.first))
+      for (inr (inr d)) e o l = absurd (longer run.failed_before d.failed.is_turn.turn.word (sym d.failed.grew ∙ same))
 
       by : MayBeDue run c.status c.text c.line → Written c.status c.text c.line run.status run.out run.errs → Completes run command contents
       by due (inr (inl w)) = absurd (no-out w.1.0)
       by due (inr (inr w)) = absurd (no-errs w.2.0)
       by (inl m) (inl w) = absurd (m.none.no_command command given)
       by (inr (inr g)) (inl w) = absurd (command_alone run.words (called_in run) command given g.count g.is_generation)
-      by (inr (inl t)) (inl w) = for c.status (due_for_command c.status c.text c.line t) w.0 w.1 w.2
+      by (inr (inl t)) (inl w) = for (due_for_command c.status c.text c.line t) w.0 w.1 w.2
 
   -- what no accepted command comes to is refused
   pub refused_where : ((reports : List Report) → AreAccepted (may_hold run.told) (checkers_of command) (sources_of command) command.depth reports → ⊥) → RanAsDue run → EndsIn run Refused
   refused_where not-accepted (inl stops) = inr (inr stops.status)
   refused_where not-accepted (inr c) = by c.due c.written
     where
-      for : (s : Status) → IsDueFor (may_hold run.told) command (rendered_in run) run.failed_before run.failed_after s c.text c.line → run.status ≡ s → EndsIn run Refused
-      for Clean due e = absurd (not-accepted due.reports due.accepted)
-      for Reports due e = absurd (not-accepted due.reports due.accepted)
-      for Usage due e = absurd due
-      for Refused due e = inl e
-      for ReadFault due e = absurd (longer run.failed_before due.failed.is_turn.turn.word (sym due.failed.grew ∙ same))
-      for WriteFault due e = absurd due
-      for NoMemory due e = absurd due
+      for : IsDueFor (may_hold run.told) command (rendered_in run) run.failed_before run.failed_after c.status c.text c.line → run.status ≡ c.status → EndsIn run Refused
+      for (inl d) e = absurd (not-accepted d.reports d.accepted)
+      for (inr (inl d)) e = inl (e ∙ d.status_is)
+      for (inr (inr d)) e = absurd (longer run.failed_before d.failed.is_turn.turn.word (sym d.failed.grew ∙ same))
 
       by : MayBeDue run c.status c.text c.line → Written c.status c.text c.line run.status run.out run.errs → EndsIn run Refused
       by due (inr (inl w)) = inr (inl w.0)
       by due (inr (inr w)) = inr (inl w.0)
       by (inl m) (inl w) = absurd (m.none.no_command command given)
       by (inr (inr g)) (inl w) = absurd (command_alone run.words (called_in run) command given g.count g.is_generation)
-      by (inr (inl t)) (inl w) = for c.status (due_for_command c.status c.text c.line t) w.0
+      by (inr (inl t)) (inl w) = for (due_for_command c.status c.text c.line t) w.0

@@ -1,15 +1,16 @@
 -- What is due for a command, by what its files came to.
-use Rattle.std.proofs.Common.{◌≡◌, inl, inr, ℕ, suc, ◌+◌, ◌≤◌, Bool, true, false, cond, List, [], ◌∷◌, filter, length, map, Option, Bor, sym, ap, subst, arith}
+use Rattle.std.proofs.Common.{◌≡◌, inl, inr, ℕ, suc, ◌+◌, ◌≤◌, Bool, true, false, cond, List, [], ◌∷◌, filter, length, map, Option, Bor, Result, Ok, Err, IfOk, OnOk, refl, sym, ap, subst, arith}
 use Rattle.std.proofs.lemmas.List.{length-map}
 use Rattle.std.proofs.lemmas.Option.{slice_get_within}
 use Rattle.report_model.specs.declared.report.Report.{Report}
 use Rattle.command_words.specs.Generation.{IsGeneration}
 use Rattle.command.specs.Commands.{Command, IsCommand, checkers_of, sources_of}
-use Rattle.command.specs.Due.{FailedInTurn, FailedInTurnOf, IsDue, IsDueFor, IsLacking, IsRefused}
-use Rattle.command.specs.Plans.{IsAmong, IsPlanOf}
+use Rattle.command.specs.Due.{FailedInTurn, FailedInTurnOf, IsDue, IsDueFor}
+use Rattle.command.specs.Ways.Plans.{IsAmong, IsPlanOf}
 use Rattle.command.specs.Ran.{CarriesOut, Leaves, ReporterStep, Spares}
 use Rattle.command.specs.Rendered.{IsPlanFor}
-use Rattle.command.specs.Tasks.{LeavesAt}
+use Rattle.command.specs.Statuses.{status_of}
+use Rattle.command.specs.Tasks.{IsEmptiedAt, LeavesAt}
 use Rattle.command.specs.Written.{Fits, SinkStep, Written}
 use Rattle.command.specs.declared.status.Status.{Status}
 use Rattle.command.specs.declared.status.Status.TheVariants as status
@@ -44,23 +45,13 @@ module _ (Holds : List ℕ → List ℕ → Type 0) (command : Command) (old new
   -- ---- the files gave reports
   pub due_for_reports : (rendered : List Report → List (List ℕ)) (reports : List Report) (s : Status) (text line : List ℕ) → AreAccepted Holds (checkers_of command) (sources_of command) command.depth reports → new ≡ old
       → IsPlanFor command.place (rendered reports) reports s text line → IsDueFor Holds command rendered old new s text line
-  due_for_reports rendered reports status.Clean text line a n p = record { reports = reports; accepted = a; none_failed = n; asked = p.0; text_is = p.1; line_is = p.2 }
-  due_for_reports rendered reports status.Reports text line a n p = record { reports = reports; accepted = a; none_failed = n; asked = p.0; text_is = p.1; line_is = p.2 }
-  due_for_reports rendered reports status.Usage text line a n p = absurd p
-  due_for_reports rendered reports status.Refused text line a n p = absurd p
-  due_for_reports rendered reports status.ReadFault text line a n p = absurd p
-  due_for_reports rendered reports status.WriteFault text line a n p = absurd p
-  due_for_reports rendered reports status.NoMemory text line a n p = absurd p
+  due_for_reports rendered reports s text line a n p = inl (record { reports = reports; accepted = a; none_failed = n; status_is = p.0; text_is = p.1; line_is = p.2 })
 
   -- ---- they gave none
   pub due_for_none : (rendered : List Report → List (List ℕ)) (u : Unjudged) (s : Status) (text line : List ℕ) → AnswersUnjudged Holds (checkers_of command) (sources_of command) old new u → IsPlanOf (checkers_of command) (sources_of command) u s text line
       → IsDueFor Holds command rendered old new s text line
-  due_for_none rendered (NotRead position) s text line a p =
-      let lacking : IsLacking Holds command old new text line = record { position = position; failed = a; text_is = p.1; line_is = p.2 a.is_turn.turn a.is_turn.is } in
-      subst (λ x. IsDueFor Holds command rendered old new x text line) (sym p.0) lacking
-  due_for_none rendered (Faulty l) s text line a p =
-      let refused : IsRefused Holds command old new text line = record { fault = located_of l; first = a.0; none_failed = a.1; text_is = p.1; line_is = p.2 } in
-      subst (λ x. IsDueFor Holds command rendered old new x text line) (sym p.0) refused
+  due_for_none rendered (NotRead position) s text line a p = inr (inr (record { position = position; failed = a; status_is = p.0; text_is = p.1; line_is = p.2 a.is_turn.turn a.is_turn.is }))
+  due_for_none rendered (Faulty l) s text line a p = inr (inl (record { fault = located_of l; first = a.0; none_failed = a.1; status_is = p.0; text_is = p.1; line_is = p.2 }))
   due_for_none rendered NoMemory s text line a p = absurd p
 
   -- whatever they came to
@@ -68,6 +59,24 @@ module _ (Holds : List ℕ → List ℕ → Type 0) (command : Command) (old new
   failed_for_none (NotRead position) a = inr (position, a)
   failed_for_none (Faulty l) a = inl a.1
   failed_for_none NoMemory a = inl a
+
+-- ---- what it leaves of the reporters, where this one is chosen
+
+-- with reports it is handed these, and is empty again
+pub leaves_for_reports : (place : Option ℕ) (before after : List (List Report)) (reports : List Report) (s : Status) → s ≡ status_of reports → IsEmptiedAt place after → LeavesAt place before after s
+leaves_for_reports place before after [] s e empty = subst (LeavesAt place before after) (sym e) empty
+leaves_for_reports place before after (report ∷ reports) s e empty = subst (LeavesAt place before after) (sym e) empty
+
+-- with none it is handed nothing
+pub leaves_for_none : (place : Option ℕ) (held : List (List Report)) (checkers sources : List (List ℕ)) (u : Unjudged) (s : Status) (text line : List ℕ) → IsPlanOf checkers sources u s text line → LeavesAt place held held s
+leaves_for_none place held checkers sources (NotRead position) s text line p = subst (LeavesAt place held held) (sym p.0) refl
+leaves_for_none place held checkers sources (Faulty l) s text line p = subst (LeavesAt place held held) (sym p.0) refl
+leaves_for_none place held checkers sources NoMemory s text line p = absurd p
+
+-- what came with all is known of each
+pub with_both : {A E : Type 0} (r : Result A E) (P Q : A → Type 0) (O : Type 0) → ((a : A) → P a → O → Q a) → IfOk r P → OnOk r O → IfOk r Q
+with_both (Ok a) P Q O by p o = by a p o
+with_both (Err e) P Q O by p o = p
 
 -- what is known of lists is known of equal ones
 pub of_both : {X : Type 0} (P : List X → List X → Type 0) (xs ys us vs : List X) → xs ≡ us → ys ≡ vs → P xs ys → P us vs
@@ -96,11 +105,7 @@ module _ (words called : List (List ℕ)) (command : Command) (given : IsCommand
   pub leaves_for_words : (rendered : List Report → List (List ℕ)) (before after : List (List Report)) (s : Status) → LeavesAt command.place before after s → Leaves words (record { called = called; rendered = rendered; before = before; after = after }) s
   leaves_for_words rendered before after status.Clean l = λ c g. subst (λ (k : Command). LeavesAt k.place before after status.Clean) (sym (only c g)) l
   leaves_for_words rendered before after status.Reports l = λ c g. subst (λ (k : Command). LeavesAt k.place before after status.Reports) (sym (only c g)) l
-  leaves_for_words rendered before after status.Usage l = l
-  leaves_for_words rendered before after status.Refused l = l
-  leaves_for_words rendered before after status.ReadFault l = l
-  leaves_for_words rendered before after status.WriteFault l = tt
-  leaves_for_words rendered before after status.NoMemory l = tt
+  leaves_for_words rendered before after _ l = l
 
 -- ---- the words ask for a generation
 
@@ -109,11 +114,7 @@ pub leaves_unasked : (words called : List (List ℕ)) (count : ℕ) (rendered : 
     → Leaves words (record { called = called; rendered = rendered; before = before; after = after }) s
 leaves_unasked words called count rendered before after status.Clean is kept = λ c given. absurd (command_alone words called c given count is)
 leaves_unasked words called count rendered before after status.Reports is kept = λ c given. absurd (command_alone words called c given count is)
-leaves_unasked words called count rendered before after status.Usage is kept = kept
-leaves_unasked words called count rendered before after status.Refused is kept = kept
-leaves_unasked words called count rendered before after status.ReadFault is kept = kept
-leaves_unasked words called count rendered before after status.WriteFault is kept = tt
-leaves_unasked words called count rendered before after status.NoMemory is kept = tt
+leaves_unasked words called count rendered before after _ is kept = kept
 
 -- ---- what is due was written
 

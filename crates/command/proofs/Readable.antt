@@ -1,5 +1,5 @@
 -- A command whose files are readable is read.
-use Rattle.std.proofs.Common.{◌≡◌, ◌≢◌, ◌⊎◌, inl, inr, ℕ, zero, suc, true, false, List, [], ◌∷◌, ◌++◌, Some, slice_get, refl, sym, ap, ◌∙◌, subst, true≢false}
+use Rattle.std.proofs.Common.{◌≡◌, ◌≢◌, inl, inr, ℕ, zero, suc, true, false, List, [], ◌∷◌, Some, slice_get, sym, ap, ◌∙◌, subst, true≢false}
 use Rattle.std.proofs.lemmas.List.{append_cancel_left}
 use Rattle.mx_io.specs.Reads.{ReadsReadable}
 use Rattle.request_files.specs.Reading.{FailedAt, at_first}
@@ -10,7 +10,7 @@ use Rattle.command.specs.Commands.{Command, turns_of}
 use Rattle.command.specs.Due.{FailedInTurn, IsDueFor}
 use Rattle.command.specs.Run.{Gives, MayBeDue, Misses, NoReadFailed, RanAsDue, Run, called_in, rendered_in}
 use Rattle.command.specs.declared.status.Status.{Status}
-use Rattle.command.specs.declared.status.Status.TheVariants.{Clean, Reports, Usage, Refused, ReadFault, WriteFault, NoMemory}
+use Rattle.command.specs.declared.status.Status.TheVariants.{ReadFault}
 use Rattle.command.proofs.Complete.{longer}
 use Rattle.command.proofs.GivenCommands.{one_command}
 use Rattle.command.proofs.Statuses.{read_fault}
@@ -37,13 +37,9 @@ module _ (run : Run) where
 
   -- at most one read failed: that of a file whose turn had come
   failed_for : (command : Command) → Gives run command → (s : Status) (text line : Bytes) → IsDueFor (may_hold run.told) command (rendered_in run) run.failed_before run.failed_after s text line → AtMostOneFailed
-  failed_for command given Clean text line due = inl due.none_failed
-  failed_for command given Reports text line due = inl due.none_failed
-  failed_for command given Usage text line due = absurd due
-  failed_for command given Refused text line due = inl due.none_failed
-  failed_for command given ReadFault text line due = inr (command, given, (due.position, due.failed))
-  failed_for command given WriteFault text line due = absurd due
-  failed_for command given NoMemory text line due = absurd due
+  failed_for command given s text line (inl d) = inl d.none_failed
+  failed_for command given s text line (inr (inl d)) = inl d.none_failed
+  failed_for command given s text line (inr (inr d)) = inr (command, given, (d.position, d.failed))
 
   failed_in_turn : RanAsDue run → AtMostOneFailed
   failed_in_turn (inl stops) = stops.turn

@@ -1,5 +1,6 @@
--- What a run is due: a status, the text for `out` and the line for `errs`. Which bytes stand in a file is said by a word that is handed in.
-use Rattle.std.specs.Prelude.{◌≡◌, ◌≢◌, ◌⊎◌, ℕ, List, [], ◌∷◌, ◌++◌, codes}
+-- What a run is due: a status, the text for `out` and the line for `errs`. There are five causes, each with what is due by it. Which bytes stand in a
+-- file is said by a word that is handed in.
+use Rattle.std.specs.Prelude.{◌≡◌, ◌⊎◌, ℕ, List, [], ◌∷◌, ◌++◌, codes}
 use Rattle.report_model.specs.declared.report.Report.{Report}
 use Rattle.command_words.specs.Generation.{IsGeneration}
 use Rattle.mx_io.specs.Bytes.{Bytes, Words}
@@ -7,7 +8,8 @@ use Rattle.command.specs.Commands.{Command, IsCommand, GiveNone, checkers_of, so
 use Rattle.command.specs.Measured.{IsMeasured, measure_line}
 use Rattle.command.specs.Rendered.{IsText}
 use Rattle.command.specs.declared.status.Status.{Status}
-use Rattle.command.specs.declared.status.Status.TheVariants.{Clean, Reports, Usage, Refused, ReadFault, WriteFault, NoMemory}
+use Rattle.command.specs.declared.status.Status.TheVariants.{Usage, Refused, ReadFault}
+use Rattle.command.specs.Statuses.{status_of}
 use Rattle.command.specs.JudgedFiles.FirstFault.{IsFirstFault}
 use Rattle.command.specs.JudgedFiles.Judged.{AreAccepted}
 use Rattle.request_files.specs.Faults.{Located, refused_line}
@@ -26,57 +28,41 @@ FailedInTurnOf Holds command old new = (new ≡ old) ⊎ ((position : ℕ) × Fa
 abbrev pub FailedInTurn : (Bytes → Bytes → Type 0) → Words → Words → Words → Words → Type 0
 FailedInTurn Holds words called old new = (new ≡ old) ⊎ ((command : Command) × IsCommand words called command × ((position : ℕ) × FailedAt Holds at_first (turns_of command) old new position))
 
--- the files of the command were read without a fault, and these are their reports, of the kind that is asked
-pub record IsReported (Holds : Bytes → Bytes → Type 0) (command : Command) (rendered : List Report → List Bytes) (old new : Words) (text line : Bytes) (IsAsked : List Report → Type 0) : Type 0 where
+-- ---- THE FIVE CAUSES
+
+-- the files of the command were read without a fault, and these are their reports
+pub record IsReported (Holds : Bytes → Bytes → Type 0) (command : Command) (rendered : List Report → List Bytes) (old new : Words) (status : Status) (text line : Bytes) : Type 0 where
   pub reports : List Report
   pub accepted : AreAccepted Holds (checkers_of command) (sources_of command) command.depth reports
   pub none_failed : new ≡ old
-  pub asked : IsAsked reports
+  pub status_is : status ≡ status_of reports
   pub text_is : IsText command.place (rendered reports) reports text
   pub line_is : line ≡ []
 
 -- a file has the first fault, or linking has it, and no read failed before
-pub record IsRefused (Holds : Bytes → Bytes → Type 0) (command : Command) (old new : Words) (text line : Bytes) : Type 0 where
+pub record IsRefused (Holds : Bytes → Bytes → Type 0) (command : Command) (old new : Words) (status : Status) (text line : Bytes) : Type 0 where
   pub fault : Located
   pub first : IsFirstFault Holds (checkers_of command) (sources_of command) fault
   pub none_failed : new ≡ old
+  pub status_is : status ≡ Refused
   pub text_is : text ≡ []
   pub line_is : line ≡ refused_line fault
 
 -- a read failed
-pub record IsLacking (Holds : Bytes → Bytes → Type 0) (command : Command) (old new : Words) (text line : Bytes) : Type 0 where
+pub record IsLacking (Holds : Bytes → Bytes → Type 0) (command : Command) (old new : Words) (status : Status) (text line : Bytes) : Type 0 where
   pub position : ℕ
   pub failed : FailedAt Holds at_first (turns_of command) old new position
+  pub status_is : status ≡ ReadFault
   pub text_is : text ≡ []
   pub line_is : line ≡ not_read_line failed.is_turn.turn.word
 
--- what is due for a command
-abbrev pub IsDueFor : (Bytes → Bytes → Type 0) → Command → (List Report → List Bytes) → Words → Words → Status → Bytes → Bytes → Type 0
-IsDueFor Holds command rendered old new Clean text line = IsReported Holds command rendered old new text line (λ reports. reports ≡ [])
-IsDueFor Holds command rendered old new Reports text line = IsReported Holds command rendered old new text line (λ reports. reports ≢ [])
-IsDueFor Holds command rendered old new Usage text line = ⊥
-IsDueFor Holds command rendered old new Refused text line = IsRefused Holds command old new text line
-IsDueFor Holds command rendered old new ReadFault text line = IsLacking Holds command old new text line
-IsDueFor Holds command rendered old new WriteFault text line = ⊥
-IsDueFor Holds command rendered old new NoMemory text line = ⊥
-
--- the generated program of a number was judged, and this is the line of its reports, which are of the kind that is asked
-pub record IsMeasuredAs (count : ℕ) (text line : Bytes) (IsAsked : List Report → Type 0) : Type 0 where
+-- the generated program of a number was judged, and these are its reports
+pub record IsMeasuredAs (count : ℕ) (status : Status) (text line : Bytes) : Type 0 where
   pub reports : List Report
   pub measured : IsMeasured count reports
-  pub asked : IsAsked reports
+  pub status_is : status ≡ status_of reports
   pub text_is : text ≡ measure_line count reports
   pub line_is : line ≡ []
-
--- what is due for a generation
-abbrev pub IsDueForCount : ℕ → Status → Bytes → Bytes → Type 0
-IsDueForCount count Clean text line = IsMeasuredAs count text line (λ reports. reports ≡ [])
-IsDueForCount count Reports text line = IsMeasuredAs count text line (λ reports. reports ≢ [])
-IsDueForCount count Usage text line = ⊥
-IsDueForCount count Refused text line = ⊥
-IsDueForCount count ReadFault text line = ⊥
-IsDueForCount count WriteFault text line = ⊥
-IsDueForCount count NoMemory text line = ⊥
 
 -- the words give no command and ask for no generation, and nothing was read
 pub record IsMisused (words called old new : Words) (status : Status) (text line : Bytes) : Type 0 where
@@ -85,6 +71,13 @@ pub record IsMisused (words called old new : Words) (status : Status) (text line
   pub status_is : status ≡ Usage
   pub text_is : text ≡ []
   pub line_is : line ≡ usage_line
+
+-- ---- WHICH OF THEM THERE IS
+
+-- what is due for a command
+abbrev pub IsDueFor : (Bytes → Bytes → Type 0) → Command → (List Report → List Bytes) → Words → Words → Status → Bytes → Bytes → Type 0
+IsDueFor Holds command rendered old new status text line =
+    IsReported Holds command rendered old new status text line ⊎ (IsRefused Holds command old new status text line ⊎ IsLacking Holds command old new status text line)
 
 -- the words give a command, and this is due for it
 pub record HasTask (Holds : Bytes → Bytes → Type 0) (words called : Words) (rendered : List Report → List Bytes) (old new : Words) (status : Status) (text line : Bytes) : Type 0 where
@@ -97,7 +90,7 @@ pub record HasGeneration (words old new : Words) (status : Status) (text line : 
   pub count : ℕ
   pub is_generation : IsGeneration words count
   pub none_failed : new ≡ old
-  pub due : IsDueForCount count status text line
+  pub due : IsMeasuredAs count status text line
 
 -- WHAT A RUN IS DUE
 abbrev pub IsDue : (Bytes → Bytes → Type 0) → Words → Words → (List Report → List Bytes) → Words → Words → Status → Bytes → Bytes → Type 0

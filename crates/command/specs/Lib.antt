@@ -3,7 +3,6 @@ pub mod Commands
 pub mod Due
 pub mod Handed
 pub mod Measured
-pub mod Plans
 pub mod Ran
 pub mod Rendered
 pub mod Requests
@@ -14,3 +13,4 @@ pub mod Written
 pub mod GeneratedProgram
 pub mod CheckerReports
 pub mod JudgedFiles
+pub mod Ways

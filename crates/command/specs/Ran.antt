@@ -1,12 +1,13 @@
 -- What a run does: it stops for want of memory before the first write, or carries out what it is due.
-use Rattle.std.specs.Prelude.{◌≡◌, ℕ, ◌⊎◌, List}
+use Rattle.std.specs.Prelude.{◌≡◌, ℕ, ◌⊎◌, MatchBool, List}
 use Rattle.report_model.specs.declared.report.Report.{Report}
 use Rattle.command_words.specs.Generation.{IsGeneration}
 use Rattle.mx_io.specs.Bytes.{Bytes, Words}
 use Rattle.command.specs.Commands.{Command, IsCommand}
 use Rattle.command.specs.Due.{IsDue, FailedInTurn}
 use Rattle.command.specs.declared.status.Status.{Status}
-use Rattle.command.specs.declared.status.Status.TheVariants.{Clean, Reports, Usage, Refused, ReadFault, WriteFault, NoMemory}
+use Rattle.command.specs.declared.status.Status.TheVariants.{NoMemory}
+use Rattle.command.specs.Statuses.{is_of_reports}
 use Rattle.command.specs.Tasks.{IsEmptiedAt}
 use Rattle.command.specs.Written.{Fits, SinkStep, Written}
 
@@ -28,15 +29,9 @@ reporter_step called rendered before after = record { called = called; rendered 
 abbrev pub IsEmptied : Words → ReporterStep → Type 0
 IsEmptied words r = (command : Command) → IsCommand words r.called command → IsEmptiedAt command.place r.after
 
--- what holds of the reporters by what is due: none was handed a report, or the chosen one was and is empty again
+-- what holds of the reporters by what is due: the chosen one was handed the reports and is empty again, or none was handed anything
 abbrev pub Leaves : Words → ReporterStep → Status → Type 0
-Leaves words r Clean = IsEmptied words r
-Leaves words r Reports = IsEmptied words r
-Leaves words r Usage = r.after ≡ r.before
-Leaves words r Refused = r.after ≡ r.before
-Leaves words r ReadFault = r.after ≡ r.before
-Leaves words r WriteFault = Unit {0}
-Leaves words r NoMemory = Unit {0}
+Leaves words r status = MatchBool (is_of_reports status) (IsEmptied words r) (r.after ≡ r.before)
 
 -- no reporter was handed anything, where the words ask for a generation
 abbrev pub Spares : Words → ReporterStep → Type 0

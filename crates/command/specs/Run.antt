@@ -15,6 +15,7 @@ use Rattle.command.specs.JudgedFiles.Judged.{AreJudged, AreLinked}
 use Rattle.command.specs.Measured.{IsMeasured, measure_line}
 use Rattle.command.specs.Ran.{DidAs, IsEmptied, Ran, RanHanding, ReporterStep, Stops, reporter_step}
 use Rattle.command.specs.Rendered.{IsText}
+use Rattle.command.specs.Statuses.{status_of}
 use Rattle.command.specs.Written.{Fits, IsStill, NoWriteFailed, SinkStep, Took, WriteFailed}
 use Rattle.command.specs.declared.status.Status.{Status}
 use Rattle.command.specs.declared.status.Status.TheVariants.{Clean, Reports, Usage, Refused, ReadFault, WriteFault, NoMemory}
@@ -113,7 +114,8 @@ pub record Prints (run : Run) (IsAsked : List Report → Type 0) : Type 0 where
   pub command : Command
   pub given : Gives run command
   pub text : Bytes
-  pub cause : IsReported (may_hold run.told) command (rendered_in run) run.failed_before run.failed_after text [] IsAsked
+  pub cause : IsReported (may_hold run.told) command (rendered_in run) run.failed_before run.failed_after run.status text []
+  pub asked : IsAsked cause.reports
   pub writes : Writes run text []
   pub empty : IsEmptied run.words (reporters_in run)
 
@@ -122,7 +124,8 @@ pub record Measures (run : Run) (IsAsked : List Report → Type 0) : Type 0 wher
   pub count : ℕ
   pub is_generation : IsGeneration run.words count
   pub text : Bytes
-  pub cause : IsMeasuredAs count text [] IsAsked
+  pub cause : IsMeasuredAs count run.status text []
+  pub asked : IsAsked cause.reports
   pub none_failed : NoReadFailed run
   pub writes : Writes run text []
   pub kept : NoReporterTook run
@@ -133,7 +136,7 @@ Answers run IsAsked = Prints run IsAsked ⊎ Measures run IsAsked
 
 -- the words give no command and ask for no generation, no read failed, and the line on the use of the command was written
 pub record Misuses (run : Run) : Type 0 where
-  pub cause : IsMisused run.words (called_in run) run.failed_before run.failed_after Usage [] usage_line
+  pub cause : IsMisused run.words (called_in run) run.failed_before run.failed_after run.status [] usage_line
   pub writes : Writes run [] usage_line
   pub kept : NoReporterTook run
 
@@ -142,7 +145,7 @@ pub record Refuses (run : Run) : Type 0 where
   pub command : Command
   pub given : Gives run command
   pub line : Bytes
-  pub cause : IsRefused (may_hold run.told) command run.failed_before run.failed_after [] line
+  pub cause : IsRefused (may_hold run.told) command run.failed_before run.failed_after run.status [] line
   pub writes : Writes run [] line
   pub kept : NoReporterTook run
 
@@ -151,7 +154,7 @@ pub record Misses (run : Run) : Type 0 where
   pub command : Command
   pub given : Gives run command
   pub line : Bytes
-  pub cause : IsLacking (may_hold run.told) command run.failed_before run.failed_after [] line
+  pub cause : IsLacking (may_hold run.told) command run.failed_before run.failed_after run.status [] line
   pub writes : Writes run [] line
   pub kept : NoReporterTook run
 
@@ -163,7 +166,7 @@ StopsFirst run = Stops (may_hold run.told) run.words (reporters_in run) run.fail
 pub record Completes (run : Run) (command : Command) (contents : List Bytes) : Type 0 where
   pub reports : List Report
   pub judged : AreJudged (checkers_of command) (sources_of command) contents command.depth reports
-  pub status : ((run.status ≡ Clean) × (reports ≡ [])) ⊎ ((run.status ≡ Reports) × (reports ≢ []))
+  pub status : run.status ≡ status_of reports
   pub text : Bytes
   pub text_is : IsText command.place (rendered_in run reports) reports text
   pub printed : Took run.out text
@@ -173,7 +176,7 @@ pub record Completes (run : Run) (command : Command) (contents : List Bytes) : T
 pub record CompletesMeasure (run : Run) (count : ℕ) : Type 0 where
   pub reports : List Report
   pub measured : IsMeasured count reports
-  pub status : ((run.status ≡ Clean) × (reports ≡ [])) ⊎ ((run.status ≡ Reports) × (reports ≢ []))
+  pub status : run.status ≡ status_of reports
   pub printed : Took run.out (measure_line count reports)
   pub nothing : Took run.errs []
 

@@ -1,9 +1,9 @@
 -- The command that the program keeps, and what it leaves of the reporters.
-use Rattle.std.specs.Prelude.{◌≡◌, ℕ, List, [], map, slice_get, string_bytes, Option, Some, IfSome}
+use Rattle.std.specs.Prelude.{◌≡◌, ℕ, MatchBool, List, [], map, slice_get, string_bytes, Option, Some, IfSome}
 use Rattle.report_model.specs.declared.report.Report.{Report}
 use Rattle.command.specs.Commands.{Command}
 use Rattle.command.specs.declared.status.Status.{Status}
-use Rattle.command.specs.declared.status.Status.TheVariants.{Clean, Reports, Usage, Refused, ReadFault, WriteFault, NoMemory}
+use Rattle.command.specs.Statuses.{is_of_reports}
 use Rattle.command.specs.declared.words.Task.{Task}
 
 abbrev pub command_of : Task → Command
@@ -15,10 +15,4 @@ IsEmptiedAt place after = IfSome place (λ k. slice_get after k ≡ Some [])
 
 -- what holds of the reporters by what is due, where this one is chosen
 abbrev pub LeavesAt : Option ℕ → List (List Report) → List (List Report) → Status → Type 0
-LeavesAt place before after Clean = IsEmptiedAt place after
-LeavesAt place before after Reports = IsEmptiedAt place after
-LeavesAt place before after Usage = after ≡ before
-LeavesAt place before after Refused = after ≡ before
-LeavesAt place before after ReadFault = after ≡ before
-LeavesAt place before after WriteFault = Unit {0}
-LeavesAt place before after NoMemory = Unit {0}
+LeavesAt place before after status = MatchBool (is_of_reports status) (IsEmptiedAt place after) (after ≡ before)

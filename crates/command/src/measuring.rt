@@ -7,15 +7,16 @@ ghost use Rattle.command.specs.Measured.{IsMeasure};
 use crate::generated_program::write_program;
 use crate::lines::append_all;
 use crate::reported::program_reports;
+use crate::status::{Status, status_of};
 use itoa::Buffer;
 use mx_base::Text;
 use std::alloc::{AllocError, Global};
 
-/// The line of a generated program, and whether there are reports.
+/// The line of a generated program, and the status of its reports.
 #[derive(Drop)]
 pub(crate) struct Measured {
     pub line: Text,
-    pub has_reports: bool,
+    pub status: Status,
 }
 
 /// `functions F, bytes B, reports R`.
@@ -49,14 +50,12 @@ fn line_with(
 pub(crate) fn measure(alloc: Global, count: u32) -> Result<Measured, AllocError>
     requires least { 1 ≤ count }
     requires most { count ≤ 9999 }
-    ensures { IfOk result (λ m. IsMeasure count m.line m.has_reports) }
+    ensures { IfOk result (λ m. IsMeasure count m.line m.status) }
 {
     let mut program = Text::new(alloc);
     write_program(count, &mut program)?;
     let reports = program_reports(alloc, program.as_bytes())?;
     let line = line_with(alloc, count + 2, program.len(), reports.len())?;
-    Ok(Measured {
-        line,
-        has_reports: !reports.is_empty(),
-    })
+    let status = status_of(&reports);
+    Ok(Measured { line, status })
 }

@@ -4,7 +4,7 @@ ghost use Rattle.std.specs.Prelude.{◌≡◌, ◌≢◌, ◌≤◌, ◌<◌, �
 ghost use Rattle.command_words.specs.Generation.{IsGeneration};
 ghost use Rattle.command.specs.Commands.{GiveNone, IsOther};
 ghost use Rattle.command.specs.Due.{FailedInTurn, FailedInTurnOf, IsDue, IsDueFor};
-ghost use Rattle.command.specs.Plans.{IsAmong, IsPlanOf};
+ghost use Rattle.command.specs.Ways.Plans.{IsAmong, IsPlanOf};
 ghost use Rattle.command.specs.Ran.{Leaves, Spares, reporter_step};
 ghost use Rattle.command.specs.Tasks.{LeavesAt, command_of};
 ghost use Rattle.mx_io.specs.Reads.{ReadsReadable};

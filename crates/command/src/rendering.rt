@@ -4,7 +4,7 @@ ghost use Rattle.std.specs.Prelude.{◌≡◌, ◌≢◌, ◌<◌, ℕ, [], map,
 ghost use Rattle.command.specs.Rendered.{IsPlanFor, IsText};
 
 use crate::lines::write_lines;
-use crate::status::Status;
+use crate::status::{Status, status_of};
 use mx_base::Text;
 use report_model::{Report, Reporter, render_at};
 use std::alloc::{AllocError, Global};
@@ -52,17 +52,7 @@ pub(crate) fn plan_reports(
     ensures plan { IfOk result (λ plan. IsPlanFor place (map (λ b. rendered b reports.now) reporters.old.items) reports.now plan.status plan.text.items plan.line) }
 {
     let text = render(alloc, place, reporters, reports)?;
+    let status = status_of(reports);
     let line = Text::new(alloc);
-    if reports.is_empty() {
-        return Ok(Plan {
-            status: Status::Clean,
-            text,
-            line,
-        });
-    }
-    Ok(Plan {
-        status: Status::Reports,
-        text,
-        line,
-    })
+    Ok(Plan { status, text, line })
 }

@@ -1,7 +1,9 @@
 //! How a run ends.
 
 ghost use Rattle.std.specs.Prelude.{◌≡◌};
-ghost use Rattle.command.specs.Statuses.{exit_status};
+ghost use Rattle.command.specs.Statuses.{exit_status, status_of};
+
+use report_model::Report;
 
 /// The status of a run. Its number is the program's exit status.
 #[derive(Clone, Copy, Debug, PartialEq, Eq)]
@@ -28,5 +30,15 @@ impl Status {
         ensures { result ≡ exit_status self }
     {
         self as u8
+    }
+}
+
+/// The status of a list of reports: whether there are any.
+pub(crate) fn status_of(reports: &[Report]) -> Status
+    ensures { result ≡ status_of reports.now }
+{
+    match reports {
+        [] => Status::Clean,
+        _ => Status::Reports,
     }
 }

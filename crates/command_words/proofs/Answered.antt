@@ -1,14 +1,15 @@
 -- What the program has read of words, or that it has read nothing, is what they stand for.
 use Rattle.std.specs.Prelude.{IfSome}
 use Rattle.std.specs.Option.{option_map}
-use Rattle.std.proofs.Common.{◌≡◌, ℕ, List, Option, None, Some, ap, is_some, true≢false}
+use Rattle.std.proofs.Common.{◌≡◌, Option, None, Some, ap, is_some, true≢false}
+use Rattle.mx_io.specs.Bytes.{Words}
 use Rattle.command_words.specs.declared.asked.Asked.{Asked}
 use Rattle.command_words.specs.Words.{Request, IsRequest}
-use Rattle.command_words.specs.Reading.{reading, nothing_chosen}
+use Rattle.command_words.specs.Ways.Reading.{reading, nothing_chosen}
 use Rattle.command_words.specs.Views.{request_of}
 use Rattle.command_words.proofs.Sound.{found, refused, one_request}
 
-module _ (words : List (List ℕ)) where
+module _ (words : Words) where
   pub asked_found : (o : Option Asked) → option_map request_of o ≡ reading nothing_chosen words → IfSome o (λ asked. IsRequest words (request_of asked))
   asked_found None h = tt
   asked_found (Some asked) h = found words (request_of asked) h

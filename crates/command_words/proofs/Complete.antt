@@ -1,10 +1,11 @@
 -- The words of a request are read as it.
 use Rattle.std.proofs.Common.{◌≡◌, ℕ, ◌-◌, Bool, true, false, cond, not, ◌&&◌, ◌||◌, List, [], ◌∷◌, ◌++◌, Option, None, Some, codes, ap, refl, sym, ◌∙◌, true≢false}
 use Rattle.std.specs.List.{list_any, list_all, flat_map}
+use Rattle.mx_io.specs.Bytes.{Bytes, Words}
 use Rattle.command_words.specs.declared.given.Waits.TheVariants.{ForOption, ForDepth, ForFormat}
 use Rattle.command_words.specs.Words.{Setting, DepthApart, DepthJoined, FormatApart, FormatJoined, Stats, spelled, is_setting, is_depth_digit, is_option, starts_with_minus, are_few, depths, formats, marks, IsOnly, depth_or_usual, is_marked, divider, Request, IsRequest}
-use Rattle.command_words.specs.Reading.{Chosen, chosen, turned, turn_of, depth_turn, format_turn, option_turn, reading, asked, finished, plainly_finished, nothing_chosen}
-use Rattle.command_words.specs.Reading as steps
+use Rattle.command_words.specs.Ways.Reading.{Chosen, chosen, turned, turn_of, depth_turn, format_turn, option_turn, reading, asked, finished, plainly_finished, nothing_chosen}
+use Rattle.command_words.specs.Ways.Reading as steps
 
 -- what was set before, as a list
 abbrev pub listed : {A : Type 0} → Option A → List A
@@ -35,14 +36,14 @@ flag_end : (before : Bool) (mark : Option Bool) → IsOnly (flag before ++ []) m
 flag_end false mark h = sym (ap is_marked h)
 flag_end true mark h = sym (ap is_marked h)
 
-finished_here : (d : Option ℕ) (f : Option (List ℕ)) (s : Bool) (files : List (List ℕ)) (n : ℕ) (o : Option (List ℕ)) (t : Bool) → are_few files ≡ true → depth_or_usual d ≡ n → f ≡ o → s ≡ t
+finished_here : (d : Option ℕ) (f : Option Bytes) (s : Bool) (files : Words) (n : ℕ) (o : Option Bytes) (t : Bool) → are_few files ≡ true → depth_or_usual d ≡ n → f ≡ o → s ≡ t
     → finished (chosen ForOption d f s) files ≡ Some (asked n o t files)
 finished_here d f s files n o t few a b c =
     ap (λ q. cond q (Some (asked (depth_or_usual d) f s files)) None) few
     ∙ ap (λ x. Some (asked x f s files)) a ∙ ap (λ x. Some (asked n x s files)) b ∙ ap (λ x. Some (asked n o x files)) c
 
 -- the files alone
-files_here : (divided : Bool) (d : Option ℕ) (f : Option (List ℕ)) (s : Bool) (files : List (List ℕ)) (r : Request) → are_few files ≡ true
+files_here : (divided : Bool) (d : Option ℕ) (f : Option Bytes) (s : Bool) (files : Words) (r : Request) → are_few files ≡ true
     → (divided ≡ false → list_any is_option files ≡ false) → finished (chosen ForOption d f s) files ≡ Some r
     → reading (chosen ForOption d f s) (divider divided ++ files) ≡ Some r
 files_here true d f s files r few plain h = h
@@ -51,9 +52,9 @@ files_here false d f s (w ∷ ws) r few plain h =
     ap (λ b. turned (λ m. reading m ws) (chosen ForOption d f s) w ws (cond b (option_turn d f s w) steps.File)) (both_false (is_option w) (list_any is_option ws) (plain refl))
     ∙ ap (λ b. cond b None (finished (chosen ForOption d f s) (w ∷ ws))) (plain refl) ∙ h
 
-module _ (divided : Bool) (files : List (List ℕ)) (n : ℕ) (o : Option (List ℕ)) (t : Bool) (cd : Option ℕ) (cm : Option Bool)
+module _ (divided : Bool) (files : Words) (n : ℕ) (o : Option Bytes) (t : Bool) (cd : Option ℕ) (cm : Option Bool)
     (plain : divided ≡ false → list_any is_option files ≡ false) (few : are_few files ≡ true) (depth : n ≡ depth_or_usual cd) (stats : t ≡ is_marked cm) where
-  pub read_whole : (settings : List Setting) (d : Option ℕ) (f : Option (List ℕ)) (s : Bool) → list_all is_setting settings ≡ true
+  pub read_whole : (settings : List Setting) (d : Option ℕ) (f : Option Bytes) (s : Bool) → list_all is_setting settings ≡ true
       → IsOnly (listed d ++ depths settings) cd → IsOnly (listed f ++ formats settings) o → IsOnly (flag s ++ marks settings) cm
       → reading (chosen ForOption d f s) (flat_map spelled settings ++ (divider divided ++ files)) ≡ Some (asked n o t files)
   read_whole [] d f s right a b c =
@@ -83,7 +84,7 @@ module _ (divided : Bool) (files : List (List ℕ)) (n : ℕ) (o : Option (List 
   read_whole (Stats ∷ settings) d f false right a b c = read_whole settings d f true right a b c
 
 -- where words stand for a request, it is read
-pub read_as : (words : List (List ℕ)) (r : Request) → IsRequest words r → reading nothing_chosen words ≡ Some r
+pub read_as : (words : Words) (r : Request) → IsRequest words r → reading nothing_chosen words ≡ Some r
 read_as words r q =
     ap (reading nothing_chosen) q.whole
     ∙ read_whole q.divided r.files r.depth r.format r.stats q.chosen_depth q.chosen_mark q.plain q.few q.depth q.stats q.settings None None false q.right q.one_depth q.format q.one_mark

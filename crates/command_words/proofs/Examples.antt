@@ -1,15 +1,16 @@
 -- What some lists of words stand for.
-use Rattle.std.specs.Prelude.{ℕ, List, [], ◌∷◌, ◌++◌, true, false, None, Some, codes, replicate}
+use Rattle.std.specs.Prelude.{[], ◌∷◌, ◌++◌, true, false, None, Some, codes, replicate}
 use Rattle.std.proofs.Common.{refl}
+use Rattle.mx_io.specs.Bytes.{Words}
 use Rattle.command_words.specs.Words.{Request, IsRequest}
-use Rattle.command_words.specs.Reading.{asked}
+use Rattle.command_words.specs.Ways.Reading.{asked}
 use Rattle.command_words.proofs.Sound.{found, refused}
 
-abbrev a_c : List (List ℕ)
+abbrev a_c : Words
 a_c = codes "a.c" ∷ []
 
 -- there is no request for these words
-abbrev NoRequest : List (List ℕ) → Type 0
+abbrev NoRequest : Words → Type 0
 NoRequest words = (r : Request) → IsRequest words r → ⊥
 
 depth_in_a_word : IsRequest (codes "--depth" ∷ codes "4" ∷ a_c) (asked 4 None false a_c)

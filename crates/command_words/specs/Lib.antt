@@ -1,4 +1,4 @@
 pub mod Generation
-pub mod Reading
 pub mod Views
 pub mod Words
+pub mod Ways

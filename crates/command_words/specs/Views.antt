@@ -6,7 +6,7 @@ use Rattle.command_words.specs.declared.given.Given.{Given}
 use Rattle.command_words.specs.declared.given.Turn as turn_type
 use Rattle.command_words.specs.declared.given.Turn.TheVariants as turns
 use Rattle.command_words.specs.Words.{Request}
-use Rattle.command_words.specs.Reading.{Chosen, chosen, Turn, Next, File, End, Wrong, asked}
+use Rattle.command_words.specs.Ways.Reading.{Chosen, chosen, Turn, Next, File, End, Wrong, asked}
 
 abbrev pub request_of : Asked → Request
 request_of a = asked a.depth (option_copied a.format) a.stats (map string_bytes a.files.now)

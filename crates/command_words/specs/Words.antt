@@ -2,22 +2,23 @@
 use Rattle.std.specs.Prelude.{◌≡◌, ℕ, ◌+◌, ◌-◌, Bool, true, false, ◌&&◌, not, cond, nat_le, List, [], ◌∷◌, ◌++◌, length, drop, ◌==◌, codes, Option, None, Some, unwrap_or}
 use Rattle.std.specs.List.{list_any, list_all, flat_map}
 use Rattle.std.specs.Str.{bytes_eq}
+use Rattle.mx_io.specs.Bytes.{Bytes, Words}
 
-abbrev pub starts_with_minus : List ℕ → Bool
+abbrev pub starts_with_minus : Bytes → Bool
 starts_with_minus [] = false
 starts_with_minus (b ∷ _) = b == 45
 
 -- it begins with a minus sign, and isn't that alone
-abbrev pub is_option : List ℕ → Bool
+abbrev pub is_option : Bytes → Bool
 is_option [] = false
 is_option (b ∷ []) = false
 is_option (b ∷ _ ∷ _) = b == 45
 
 -- a word whose last six bytes are `.metal` names a checker; every other names a C file
-abbrev pub is_checker_word : List ℕ → Bool
+abbrev pub is_checker_word : Bytes → Bool
 is_checker_word word = nat_le 6 (length word) && bytes_eq (drop (length word - 6) word) (codes ".metal")
 
-abbrev pub is_source_word : List ℕ → Bool
+abbrev pub is_source_word : Bytes → Bool
 is_source_word word = not (is_checker_word word)
 
 -- at most 16 checkers, and 1 to 64 C files
@@ -25,22 +26,22 @@ abbrev pub are_counts : ℕ → ℕ → Bool
 are_counts checkers sources = nat_le checkers 16 && (nat_le 1 sources && nat_le sources 64)
 
 -- how many of the words pass the test
-abbrev pub counted : (List ℕ → Bool) → List (List ℕ) → ℕ
+abbrev pub counted : (Bytes → Bool) → Words → ℕ
 counted test [] = 0
 counted test (word ∷ words) = cond (test word) 1 0 + counted test words
 
-abbrev pub are_few : List (List ℕ) → Bool
+abbrev pub are_few : Words → Bool
 are_few files = are_counts (counted is_checker_word files) (counted is_source_word files)
 
 -- what can be set, with how it is spelled: the value in a word of its own, or behind a `=`; a depth by its digit
 pub data Setting : Type 0 where
   DepthApart : ℕ → Setting
   DepthJoined : ℕ → Setting
-  FormatApart : List ℕ → Setting
-  FormatJoined : List ℕ → Setting
+  FormatApart : Bytes → Setting
+  FormatJoined : Bytes → Setting
   Stats : Setting
 
-abbrev pub spelled : Setting → List (List ℕ)
+abbrev pub spelled : Setting → Words
 spelled (DepthApart digit) = codes "--depth" ∷ (digit ∷ []) ∷ []
 spelled (DepthJoined digit) = (codes "--depth=" ++ (digit ∷ [])) ∷ []
 spelled (FormatApart name) = codes "--format" ∷ name ∷ []
@@ -69,7 +70,7 @@ depths (FormatJoined name ∷ settings) = depths settings
 depths (Stats ∷ settings) = depths settings
 
 -- the formats that are set, one for each time
-abbrev pub formats : List Setting → List (List ℕ)
+abbrev pub formats : List Setting → List Bytes
 formats [] = []
 formats (DepthApart digit ∷ settings) = formats settings
 formats (DepthJoined digit ∷ settings) = formats settings
@@ -101,20 +102,20 @@ is_marked None = false
 is_marked (Some mark) = mark
 
 -- what stands between the settings and the files
-abbrev pub divider : Bool → List (List ℕ)
+abbrev pub divider : Bool → Words
 divider true = codes "--" ∷ []
 divider false = []
 
 -- what words ask for: how deep, in which format by its name, with statistics or not, and of which files
 pub record Request : Type 0 where
   pub depth : ℕ
-  pub format : Option (List ℕ)
+  pub format : Option Bytes
   pub stats : Bool
-  pub files : List (List ℕ)
+  pub files : Words
 
 -- the words stand for the request: they are the spellings of settings, each kind set at most once, then `--` or nothing, then the files, of which
 -- none is an option unless `--` stands before them
-pub record IsRequest (words : List (List ℕ)) (request : Request) : Type 0 where
+pub record IsRequest (words : Words) (request : Request) : Type 0 where
   pub settings : List Setting
   pub divided : Bool
   pub whole : words ≡ flat_map spelled settings ++ (divider divided ++ request.files)

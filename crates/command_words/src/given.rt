@@ -2,7 +2,7 @@
 
 ghost use Rattle.std.specs.Prelude.{◌≡◌};
 ghost use Rattle.std.specs.Option.{option_copied};
-ghost use Rattle.command_words.specs.Reading.{behind, depth_of, depth_turn, format_turn, stats_turn, joined_turn, option_turn, turn_for, turn_of, nothing_chosen};
+ghost use Rattle.command_words.specs.Ways.Reading.{behind, depth_of, depth_turn, format_turn, stats_turn, joined_turn, option_turn, turn_for, turn_of, nothing_chosen};
 ghost use Rattle.command_words.specs.Views.{chosen_in, turn_in};
 
 use crate::words::{is_option, starts_with_minus};

@@ -4,7 +4,7 @@ ghost use Rattle.std.specs.Prelude.{◌≡◌, ◌+◌, ◌<◌, ◌^◌, List, 
 ghost use Rattle.std.specs.List.{list_any};
 ghost use Rattle.std.specs.Option.{option_map};
 ghost use Rattle.command_words.specs.Words.{is_option, are_few, Request, IsRequest};
-ghost use Rattle.command_words.specs.Reading.{finished, plainly_finished, reading, nothing_chosen};
+ghost use Rattle.command_words.specs.Ways.Reading.{finished, plainly_finished, reading, nothing_chosen};
 ghost use Rattle.command_words.specs.Views.{chosen_in, request_of};
 
 use crate::asked::Asked;

@@ -11,7 +11,7 @@ use Rattle.type_rules.specs.Options.{◌>?◌}
 use Rattle.hole_matcher.specs.HoleBindings.Bindings.{behind}
 use Rattle.hole_matcher.proofs.WalkSteps.{then-some, then-same, one_matched, two_matched, front_matched}
 use Rattle.hole_matcher.specs.declared.seat.Seat as code_seat
-use Rattle.hole_matcher.specs.Walks.{matched_opened, seat_of}
+use Rattle.hole_matcher.specs.Ways.Walks.{matched_opened, seat_of}
 use Rattle.hole_matching.specs.Holes.{Setting}
 use Rattle.hole_matching.specs.Matched.{matched, matched_all}
 use Rattle.hole_matching.specs.Matching.{Binding, Elsewhere, first_seat, next_seat}

@@ -8,7 +8,7 @@ use Rattle.c_tree.specs.Forget.{view, view_all, syntaxes_of}
 use Rattle.c_tree.specs.Views.{node_of, nodes_in}
 use Rattle.type_rules.specs.Options.{◌>?◌}
 use Rattle.hole_matcher.proofs.WalkSteps.{rest_behind, list-rest, list-end, list-step}
-use Rattle.hole_matcher.specs.Walks.{behind_it}
+use Rattle.hole_matcher.specs.Ways.Walks.{behind_it}
 use Rattle.hole_matching.specs.Holes.{Setting}
 use Rattle.hole_matching.specs.Matched.{bound, rest_hole, matched, matched_all}
 use Rattle.hole_matching.specs.Matching.{Many, Binding, Seat, next_seat}

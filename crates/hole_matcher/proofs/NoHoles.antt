@@ -2,7 +2,7 @@
 use Rattle.std.proofs.Common.{◌≡◌, None, refl}
 use Rattle.c_tree.specs.Syntax.{OperationSyntax, InitializerSyntax, SpecifierSyntax, PartSyntax}
 use Rattle.c_tree.specs.Syntax as syntax
-use Rattle.hole_matcher.specs.Walks.{hole_in}
+use Rattle.hole_matcher.specs.Ways.Walks.{hole_in}
 use Rattle.hole_matching.specs.Written.{operation_pattern, initializer_pattern, specifier_pattern, part_pattern}
 
 pub no_operation : (k : OperationSyntax) → hole_in (operation_pattern k) ≡ None

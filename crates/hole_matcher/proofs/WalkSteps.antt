@@ -12,7 +12,7 @@ use Rattle.tree_comparison.specs.declared.tree_levels.heads.Two.TheVariants as t
 use Rattle.tree_comparison.specs.declared.tree_levels.heads.Front.{Front}
 use Rattle.tree_comparison.specs.declared.tree_levels.heads.Front.TheVariants as front
 use Rattle.tree_comparison.specs.TreeLevels.Levels.{Opened, opened, one_head, two_head, front_head}
-use Rattle.hole_matcher.specs.Walks.{hole_in, matched_opened, seat_of, behind_it}
+use Rattle.hole_matcher.specs.Ways.Walks.{hole_in, matched_opened, seat_of, behind_it}
 use Rattle.hole_matcher.specs.declared.seat.Seat as code
 use Rattle.hole_matcher.specs.declared.seat.Seat.TheVariants as seats
 use Rattle.hole_matching.specs.Holes.{Setting, may_take, takes_rest}

@@ -1,4 +1,4 @@
 pub mod Items
-pub mod Walks
 pub mod HoleBindings
 pub mod HoleMessages
+pub mod Ways

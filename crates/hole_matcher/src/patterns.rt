@@ -3,7 +3,7 @@
 ghost use Rattle.std.specs.Prelude.{◌≡◌};
 ghost use Rattle.c_tree.specs.Forget.{view, primary_view};
 ghost use Rattle.hole_matcher.specs.HoleBindings.Settings.{setting_in};
-ghost use Rattle.hole_matcher.specs.Walks.{hole_in, seat_of, behind_it};
+ghost use Rattle.hole_matcher.specs.Ways.Walks.{hole_in, seat_of, behind_it};
 ghost use Rattle.hole_matching.specs.Matched.{rest_hole};
 ghost use Rattle.hole_matching.specs.Matching.{Argument};
 ghost use Rattle.hole_matching.specs.Pattern.{no_more};

@@ -9,7 +9,7 @@ ghost use Rattle.c_tree.specs.declared.operator.UnaryOp.TheVariants as unary;
 ghost use Rattle.type_rules.specs.Options.{◌>?◌};
 ghost use Rattle.hole_matcher.specs.HoleBindings.Bindings.{binding_of, behind};
 ghost use Rattle.hole_matcher.specs.HoleBindings.Settings.{setting_in};
-ghost use Rattle.hole_matcher.specs.Walks.{matched_opened, seat_of};
+ghost use Rattle.hole_matcher.specs.Ways.Walks.{matched_opened, seat_of};
 ghost use Rattle.hole_matching.specs.Matched.{matched, matched_all};
 ghost use Rattle.hole_matching.specs.Matching.{Binding as Seen};
 ghost use Rattle.hole_matching.specs.Matching.{Elsewhere, first_seat, next_seat};

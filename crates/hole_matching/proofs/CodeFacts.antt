@@ -10,7 +10,7 @@ use Rattle.c_tree.specs.declared.operator.UnaryOp.{UnaryOp}
 use Rattle.c_tree.specs.declared.operator.UnaryOp.TheVariants as unary
 use Rattle.type_rules.specs.Arithmetic.{Arithmetic}
 use Rattle.type_rules.specs.Arithmetic as kind
-use Rattle.hole_matching.specs.Codes.{unary_code, binary_code, assign_code, which_code, arithmetic_code}
+use Rattle.hole_matching.specs.Ways.Codes.{unary_code, binary_code, assign_code, which_code, arithmetic_code}
 
 number-same : (n m : ℕ) → nat_eq n m ≡ true → n ≡ m
 number-same n m h = grind arith

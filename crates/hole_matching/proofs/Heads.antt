@@ -1,6 +1,6 @@
 -- Types, heads and patterns that are found the same are equal, and each is the same as itself.
 use Rattle.std.proofs.Common.{arith, ◌≡◌, ℕ, List, [], ◌∷◌, Bool, true, false, Option, None, Some, refl, ◌∙◌, ap, nat_eq, ◌&&◌}
-use Rattle.hole_matching.specs.Codes.{unary_code, binary_code, assign_code, which_code, arithmetic_code}
+use Rattle.hole_matching.specs.Ways.Codes.{unary_code, binary_code, assign_code, which_code, arithmetic_code}
 use Rattle.hole_matching.specs.MatchedTypes.{MatchedType, Void, Arith, VaList, Pointer, Array, Func, Tagged, same_tag, same_type}
 use Rattle.hole_matching.specs.Pattern.{Head, Identifier, Integer, Spelled, Strings, VaArg, Offsetof, Index, Call, Member, CompoundLit, Unary, SizeofType, Cast, Binary, Cond, Assign, Named, MemberDesignator, IndexDesignator, Braces, Designated, Pattern, hole, likewise, other, Patterns, no_more, more, same_names, same_head, same_pattern, same_patterns}
 use Rattle.hole_matching.proofs.CodeFacts.{unary-same, binary-same, assign-same, which-same, arithmetic-same}

@@ -1,4 +1,3 @@
-pub mod Codes
 pub mod MatchedTypes
 pub mod Pattern
 pub mod Written
@@ -13,3 +12,4 @@ pub mod MachineMatches
 pub mod Message
 pub mod Plain
 pub mod Theorems
+pub mod Ways

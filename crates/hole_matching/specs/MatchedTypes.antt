@@ -8,7 +8,7 @@ use Rattle.type_rules.specs.Arithmetic.{Arithmetic}
 use Rattle.type_rules.specs.Specified.{basic_type}
 use Rattle.type_rules.specs.Types.{CType}
 use Rattle.type_rules.specs.Types as types
-use Rattle.hole_matching.specs.Codes.{which_code, arithmetic_code}
+use Rattle.hole_matching.specs.Ways.Codes.{which_code, arithmetic_code}
 
 pub data MatchedType : Type 0 where
   Void : MatchedType

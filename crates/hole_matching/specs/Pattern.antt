@@ -3,7 +3,7 @@ use Rattle.std.specs.Prelude.{ℕ, nat_eq, Bool, true, false, ◌&&◌, List, []
 use Rattle.c_tree.specs.declared.operator.AssignOp.{AssignOp}
 use Rattle.c_tree.specs.declared.operator.BinaryOp.{BinaryOp}
 use Rattle.c_tree.specs.declared.operator.UnaryOp.{UnaryOp}
-use Rattle.hole_matching.specs.Codes.{unary_code, binary_code, assign_code}
+use Rattle.hole_matching.specs.Ways.Codes.{unary_code, binary_code, assign_code}
 use Rattle.hole_matching.specs.MatchedTypes.{MatchedType, same_type}
 
 -- An identifier is its spelling, an integer constant its value, every other constant its spelling, a string the spellings of

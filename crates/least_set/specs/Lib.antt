@@ -3,4 +3,4 @@ pub mod Found
 pub mod Indexes
 pub mod OnePremise
 pub mod TwoPremises
-pub mod Same
+pub mod Ways

@@ -22,13 +22,13 @@ impl Key for usize {
 }
 
 impl<A: Key, B: Key> Key for (A, B) {
-    ghost use Rattle.least_set.specs.Same.{same_pair};
+    ghost use Rattle.least_set.specs.Ways.Same.{same_pair};
 
     ghost same = { same_pair A.PartialEq.eq B.PartialEq.eq A.same B.same };
 }
 
 impl<A: Key> Key for Option<A> {
-    ghost use Rattle.least_set.specs.Same.{same_option};
+    ghost use Rattle.least_set.specs.Ways.Same.{same_option};
 
     ghost same = { same_option A.PartialEq.eq A.same };
 }

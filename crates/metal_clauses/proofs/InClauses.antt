@@ -5,9 +5,9 @@ use Rattle.c_grammar.specs.Found.{◌>>=◌}
 use Rattle.metal_grammar.specs.Words.{Spelling}
 use Rattle.metal_grammar.specs.Written.{Content, Clause}
 use Rattle.metal_grammar.specs.Grammar.{Before, is_head, is_content}
-use Rattle.metal_grammar.specs.Steps.{read_content}
+use Rattle.metal_grammar.specs.Ways.Steps.{read_content}
 use Rattle.metal_grammar.specs.Reading.{read_head, after_closing, if_at_end, read_clause}
-use Rattle.metal_clauses.specs.MetalParts.Steps.{is_nothing}
+use Rattle.metal_clauses.specs.Ways.Steps.{is_nothing}
 
 abbrev clause_with : Bool → Option (ℕ × ℕ) → Content → Clause
 clause_with is_last head content = record { head = head; content = content; closing = is_last }

@@ -9,7 +9,7 @@ ghost use Rattle.metal_clauses.specs.MetalParts.Given.{Finds, IsReady, KeepsRead
 ghost use Rattle.metal_clauses.specs.Read.{GivesBetween, GivesClause, ReadsAll, IsUnread};
 ghost use Rattle.metal_written.specs.Sizes.{HasSizes, ClausesHaveSizes, size_of_all};
 ghost use Rattle.metal_written.specs.Written.{maybe_head_view};
-ghost use Rattle.metal_clauses.specs.MetalParts.Steps.{is_nothing};
+ghost use Rattle.metal_clauses.specs.Ways.Steps.{is_nothing};
 
 use crate::contents::read_content;
 use crate::cuts::{clause_len, tokens_behind};

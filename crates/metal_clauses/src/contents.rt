@@ -2,7 +2,7 @@
 
 ghost use Rattle.std.specs.Prelude.{◌≡◌, ◌<◌, ◌^◌, length, IfOk};
 ghost use Rattle.c_tree.specs.Symbol.{symbols_of};
-ghost use Rattle.metal_grammar.specs.Steps as steps;
+ghost use Rattle.metal_grammar.specs.Ways.Steps as steps;
 ghost use Rattle.metal_clauses.specs.MetalParts.Given.{Gives, IsReady, StaysReady};
 ghost use Rattle.metal_written.specs.Sizes.{HasSizes};
 ghost use Rattle.metal_written.specs.Written.{content_view};

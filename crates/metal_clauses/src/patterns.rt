@@ -3,10 +3,10 @@
 ghost use Rattle.std.specs.Prelude.{◌≡◌, ◌<◌, ◌≤◌, [], length, suc, IfOk, IfSome};
 ghost use Rattle.c_tree.specs.Symbol.{symbols_of};
 ghost use Rattle.c_tree.specs.declared.punctuator.Punctuator.TheVariants as marks;
-ghost use Rattle.metal_grammar.specs.Steps as steps;
+ghost use Rattle.metal_grammar.specs.Ways.Steps as steps;
 ghost use Rattle.metal_clauses.specs.MetalParts.Given.{Gives, Finds, IsReady, StaysReady};
 ghost use Rattle.metal_written.specs.Written.{item_view, alternative_view, alternatives_row};
-ghost use Rattle.metal_clauses.specs.MetalParts.Steps.{special_item};
+ghost use Rattle.metal_clauses.specs.Ways.Steps.{special_item};
 
 use crate::metal_parts::{behind_sign, has_sign, read_callout, take_word};
 use bumpalo::collections::into_bump_slice;

@@ -7,7 +7,7 @@ use Rattle.c_tree.specs.declared.token.Token.{Token}
 use Rattle.c_tree.specs.Symbol.{Symbol, Word, Reserved, Sign, IntLiteral, FloatLiteral, CharLiteral, StringLiteral, symbol_of, symbols_of}
 use Rattle.c_grammar.specs.Specifiers.{is_type_word, is_basic, is_among, as_often, occurrences}
 use Rattle.metal_grammar.specs.Grammar.{are_type_words}
-use Rattle.metal_grammar.specs.Steps.{is_type_symbol, keyword_in}
+use Rattle.metal_grammar.specs.Ways.Steps.{is_type_symbol, keyword_in}
 use Rattle.metal_tree.specs.MetalMachines.Kept.{all_of}
 use Rattle.metal_written.proofs.Nodes.{symbols_drop, symbols_end}
 

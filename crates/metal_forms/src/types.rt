@@ -4,7 +4,7 @@ ghost use Rattle.std.specs.Prelude.{◌≡◌, ◌&&◌, ◌++◌, ◌∷◌, Li
 ghost use Rattle.c_tree.specs.Symbol.{Symbol, symbol_of, symbols_of};
 ghost use Rattle.c_grammar.specs.Specifiers.{is_basic, is_type_word};
 ghost use Rattle.metal_grammar.specs.Grammar.{are_type_words, is_type};
-ghost use Rattle.metal_grammar.specs.Steps.{is_type_symbol, keyword_in};
+ghost use Rattle.metal_grammar.specs.Ways.Steps.{is_type_symbol, keyword_in};
 ghost use Rattle.metal_tree.specs.MetalMachines.Kept.{all_of};
 ghost use Rattle.metal_written.specs.TypeWords.{has_type_words};
 ghost use Rattle.metal_written.specs.Written.{type_view};

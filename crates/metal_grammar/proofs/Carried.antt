@@ -9,7 +9,7 @@ use Rattle.c_grammar.proofs.Options.{same, parts}
 use Rattle.c_grammar.proofs.Front.{is_sign-true}
 use Rattle.metal_grammar.specs.Words.{Literal}
 use Rattle.metal_grammar.specs.Phrases.{sign_if}
-use Rattle.metal_grammar.specs.Steps.{Step, take_word, take_literal, has_sign, behind_sign}
+use Rattle.metal_grammar.specs.Ways.Steps.{Step, take_word, take_literal, has_sign, behind_sign}
 
 -- the value stands in front of r, and its patterns are expressions
 abbrev pub Stands : {A : Type 0} → (A → Phrase) → (A → Type 0) → List Symbol → A → List Symbol → Type 0

@@ -10,7 +10,7 @@ use Rattle.metal_grammar.specs.Written.{Row, lone, row, WrittenType, KindOfHole,
 use Rattle.metal_grammar.specs.Phrases.{word, row_phrase, maybe_phrase, sign_if, type_phrase, declaration_phrase, state_phrase, rule_phrase, content_phrase, head_phrase, clause_tokens}
 use Rattle.metal_grammar.specs.Holes.{hole_type}
 use Rattle.metal_grammar.specs.Grammar.{Before, EachIs, IsContent, is_type, may_have, spelled_if, is_declaration, is_head, is_content, may_contain, IsClause}
-use Rattle.metal_grammar.specs.Steps.{take_word, read_declared, read_declaration, has_sign, is_colon_or_dot, begins_section, is_type_symbol, read_content}
+use Rattle.metal_grammar.specs.Ways.Steps.{take_word, read_declared, read_declaration, has_sign, is_colon_or_dot, begins_section, is_type_symbol, read_content}
 use Rattle.metal_grammar.specs.Reading.{read_head, after_closing, read_clause}
 use Rattle.metal_grammar.proofs.CompleteParts.{Knows, row_longer, row-complete, type-complete, no_words}
 use Rattle.metal_grammar.proofs.CompleteRules.{section-complete}

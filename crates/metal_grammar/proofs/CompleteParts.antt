@@ -15,7 +15,7 @@ use Rattle.metal_grammar.specs.Words.{Spelling, Literal}
 use Rattle.metal_grammar.specs.Written.{Row, lone, row, WrittenType, KindOfHole, BasicType, TagType, StateName, OfMachine, OfVariable, Argument, Name, Text, WrittenCallout, Digit, Asked}
 use Rattle.metal_grammar.specs.Phrases.{row_phrase, stars, type_phrase, state_phrase, argument_phrase, text_phrase, callout_phrase}
 use Rattle.metal_grammar.specs.Grammar.{each, EachIs, are_type_words, is_type, is_callout}
-use Rattle.metal_grammar.specs.Steps.{Step, read_row, is_type_symbol, keyword_in, read_type, read_state, read_argument, read_text, read_callout}
+use Rattle.metal_grammar.specs.Ways.Steps.{Step, read_row, is_type_symbol, keyword_in, read_type, read_state, read_argument, read_text, read_callout}
 
 -- the step reads each value of which this holds, where what follows is of this kind
 abbrev pub Knows : {A : Type 0} → Step A → (A → Phrase) → (A → Type 0) → (List Symbol → Type 0) → Type 0

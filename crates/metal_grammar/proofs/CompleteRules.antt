@@ -16,7 +16,7 @@ use Rattle.metal_grammar.specs.Written.{Row, lone, row, OfMachine, OfVariable, W
 use Rattle.metal_grammar.specs.Phrases.{row_phrase, each_phrase, maybe_phrase, sign_if, state_phrase, callout_phrase, literals_phrase, item_phrase, alternative_phrase, destination_phrase, identifier_phrase, action_phrase, rule_phrase, section_phrase}
 use Rattle.metal_grammar.specs.Holes.{DeclaredHole}
 use Rattle.metal_grammar.specs.Grammar.{each, EachIs, IsItem, IsAlternative, IsRule, is_item, is_callout, is_alternative, is_destination, is_action, is_rule}
-use Rattle.metal_grammar.specs.Steps.{has_sign, behind_sign, read_pattern, read_item, read_alternative, read_destination, read_literals, read_identifiers, read_maybe_action, read_rule, read_section}
+use Rattle.metal_grammar.specs.Ways.Steps.{has_sign, behind_sign, read_pattern, read_item, read_alternative, read_destination, read_literals, read_identifiers, read_maybe_action, read_rule, read_section}
 use Rattle.metal_grammar.proofs.CompleteParts.{Knows, each_both, row_longer, row-complete, state-complete, callout-complete}
 
 -- a `;` before a closing brace, where it is there

@@ -3,11 +3,11 @@ use Rattle.std.proofs.Common.{◌≡◌, [], ◌∷◌, ◌++◌, refl}
 use Rattle.c_grammar.specs.Symbols.{run_of, after_run}
 use Rattle.c_grammar.specs.Names.{is_type}
 use Rattle.c_grammar.specs.Specifiers.{type_words, other_types, storages, inlines, occurrences, as_often, is_among}
-use Rattle.c_grammar.specs.SpecifierSteps.{read_items}
-use Rattle.c_grammar.specs.DeclaratorSteps.{read_params, read_suffixes}
-use Rattle.c_grammar.specs.ExpressionSteps.{read_path, read_more_arguments, read_postfix_operators, read_chain, read_binary}
+use Rattle.c_grammar.specs.Ways.SpecifierSteps.{read_items}
+use Rattle.c_grammar.specs.Ways.DeclaratorSteps.{read_params, read_suffixes}
+use Rattle.c_grammar.specs.Ways.ExpressionSteps.{read_path, read_more_arguments, read_postfix_operators, read_chain, read_binary}
 use Rattle.c_grammar.specs.Reading.{read}
-use Rattle.metal_grammar.specs.Steps.{read_row, read_identifiers}
+use Rattle.metal_grammar.specs.Ways.Steps.{read_row, read_identifiers}
 use Rattle.metal_grammar.specs.FirstFault.{SyntaxAt, TooMany, Variables, Twice, UnknownCallout, TwoVariables, BadSplit, BadSource, VariableMissing, BadFormat}
 use Rattle.metal_grammar.specs.Reading.{Accepted, Refused, read_machine}
 use Rattle.metal_grammar.proofs.Vocabulary.{spelling, a, any_expr, any_scalar, b, begun, both, brace, c, colon, comma, d, decl, dollar, dot, e, end_brace, end_of_path, end_paren, equals, err, f, false_word, g, h, i, m, mc_big, mc_is_local, paren, semicolon, sm, start, state, stop, text_1, to, true_word, v, w, x}

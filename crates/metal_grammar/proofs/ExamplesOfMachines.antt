@@ -9,11 +9,11 @@ use Rattle.c_tree.specs.Syntax.{Syntax, Primary, Operation, Specifier, Declarato
 use Rattle.c_grammar.specs.Symbols.{run_of, after_run}
 use Rattle.c_grammar.specs.Names.{is_type}
 use Rattle.c_grammar.specs.Specifiers.{type_words, other_types, storages, inlines, occurrences, as_often, is_among}
-use Rattle.c_grammar.specs.SpecifierSteps.{read_items}
-use Rattle.c_grammar.specs.DeclaratorSteps.{read_params, read_suffixes}
-use Rattle.c_grammar.specs.ExpressionSteps.{read_path, read_more_arguments, read_postfix_operators, read_chain, read_binary}
+use Rattle.c_grammar.specs.Ways.SpecifierSteps.{read_items}
+use Rattle.c_grammar.specs.Ways.DeclaratorSteps.{read_params, read_suffixes}
+use Rattle.c_grammar.specs.Ways.ExpressionSteps.{read_path, read_more_arguments, read_postfix_operators, read_chain, read_binary}
 use Rattle.c_grammar.specs.Reading.{read}
-use Rattle.metal_grammar.specs.Steps.{read_row, read_identifiers}
+use Rattle.metal_grammar.specs.Ways.Steps.{read_row, read_identifiers}
 use Rattle.metal_tree.specs.MetalMachines.Machine.{IsConst, IsLocal, NameIs, InFunction, NeverHolds, AlwaysHolds, AnyExpr, AnyPointer, AnyArguments, AnyFnCall, Named, Basic, Tag, Pointer, Bytes, HoleText, FromGlobal, FromObject, ToGlobal, ToObject, ToUnknown, Always, ByTruth, Base, Holds, EndOfPath}
 use Rattle.metal_grammar.specs.Reading.{Accepted, read_machine}
 use Rattle.metal_grammar.proofs.Vocabulary.{spelling, a, any_arguments, any_expr, any_fn_call, any_pointer, b, bar, begun, both, brace, bracket, c, c_int, c_struct, cli, colon, comma, d, decl, digits_0, digits_1, dollar, dot, either, end_brace, end_bracket, end_of_path, end_paren, equals, err, f, false_word, free_checker, freed, g, irq, kfree, l, lock, lock_checker, locked, m, mc_identifier, mc_in_function, mc_is_const, mc_is_local, mc_name_is, negation, off, paren, s, semicolon, sm, star, start, state, sti, stop, text_10, text_11, text_12, text_13, text_14, text_15, text_2, text_7, text_8, text_9, to, true_word, trylock, unlock, v, x, y}

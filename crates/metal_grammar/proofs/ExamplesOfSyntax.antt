@@ -3,11 +3,11 @@ use Rattle.std.proofs.Common.{◌≡◌, [], ◌∷◌, ◌++◌, refl}
 use Rattle.c_grammar.specs.Symbols.{run_of, after_run}
 use Rattle.c_grammar.specs.Names.{is_type}
 use Rattle.c_grammar.specs.Specifiers.{type_words, other_types, storages, inlines, occurrences, as_often, is_among}
-use Rattle.c_grammar.specs.SpecifierSteps.{read_items}
-use Rattle.c_grammar.specs.DeclaratorSteps.{read_params, read_suffixes}
-use Rattle.c_grammar.specs.ExpressionSteps.{read_path, read_more_arguments, read_postfix_operators, read_chain, read_binary}
+use Rattle.c_grammar.specs.Ways.SpecifierSteps.{read_items}
+use Rattle.c_grammar.specs.Ways.DeclaratorSteps.{read_params, read_suffixes}
+use Rattle.c_grammar.specs.Ways.ExpressionSteps.{read_path, read_more_arguments, read_postfix_operators, read_chain, read_binary}
 use Rattle.c_grammar.specs.Reading.{read}
-use Rattle.metal_grammar.specs.Steps.{read_row, read_identifiers}
+use Rattle.metal_grammar.specs.Ways.Steps.{read_row, read_identifiers}
 use Rattle.metal_grammar.specs.FirstFault.{SyntaxAt, Twice}
 use Rattle.metal_grammar.specs.Reading.{Refused, read_machine}
 use Rattle.metal_grammar.proofs.Vocabulary.{spelling, a, any, any_arguments, any_expr, any_fn_call, b, begun, both, brace, c_const, c_enum, c_float, c_int, c_long, c_sizeof, colon, comma, decl, digits_00, digits_2, dollar, dot, e, end, end_brace, end_of_path, end_paren, equals, f, false_word, g, m, paren, semicolon, sm, start, state, stop, text_2, to, true_word, v, x}

@@ -10,7 +10,7 @@ use Rattle.metal_grammar.specs.Words.{Spelling, is_spelled}
 use Rattle.metal_grammar.specs.Written.{Declaration, Content, Nothing, Declares, Rules, Clause}
 use Rattle.metal_grammar.specs.Phrases.{word, row_phrase, maybe_phrase, sign_if, type_phrase, declaration_phrase, content_phrase, head_phrase}
 use Rattle.metal_grammar.specs.Grammar.{Before, IsContent, is_head, is_content, may_contain, IsClause}
-use Rattle.metal_grammar.specs.Steps.{take_word, read_row, read_type, read_declared, read_declaration, read_section, has_sign, begins_section, read_content}
+use Rattle.metal_grammar.specs.Ways.Steps.{take_word, read_row, read_type, read_declared, read_declaration, read_section, has_sign, begins_section, read_content}
 use Rattle.metal_grammar.specs.Reading.{read_head, after_closing, if_at_end, read_clause}
 use Rattle.metal_grammar.proofs.Carried.{IsSound, carried, taken_word}
 use Rattle.metal_grammar.proofs.SoundParts.{row-sound, type-sound}

@@ -15,7 +15,7 @@ use Rattle.metal_grammar.specs.Words.{Literal}
 use Rattle.metal_grammar.specs.Written.{Row, lone, row, WrittenType, KindOfHole, BasicType, TagType, StateName, OfMachine, OfVariable, Argument, Name, Text, WrittenCallout, Digit, Asked}
 use Rattle.metal_grammar.specs.Phrases.{row_phrase, stars, type_phrase, state_phrase, argument_phrase, text_phrase, callout_phrase}
 use Rattle.metal_grammar.specs.Grammar.{EachIs}
-use Rattle.metal_grammar.specs.Steps.{Step, take_word, take_literal, read_row, is_type_symbol, keyword_in, type_with_stars, read_tag_type, read_type, read_state, read_argument, read_text, is_integer, read_callout}
+use Rattle.metal_grammar.specs.Ways.Steps.{Step, take_word, take_literal, read_row, is_type_symbol, keyword_in, type_with_stars, read_tag_type, read_type, read_state, read_argument, read_text, is_integer, read_callout}
 use Rattle.metal_grammar.proofs.Carried.{IsSound, Stands, carried, taken_word, taken_literal}
 
 pub row-sound : {A : Type 0} (step : Step A) (phrase : A → Phrase) (Is : A → Type 0) (between : Punctuator) (f : ℕ) (ts : List Symbol) (xs : Row A) (r : List Symbol)

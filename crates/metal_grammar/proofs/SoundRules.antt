@@ -15,7 +15,7 @@ use Rattle.metal_grammar.specs.Words.{Literal}
 use Rattle.metal_grammar.specs.Written.{Row, lone, row, WrittenItem, Pattern, Callout, Dollars, Destination, To, Split, WrittenAction, WrittenRule, Section}
 use Rattle.metal_grammar.specs.Phrases.{row_phrase, each_phrase, maybe_phrase, sign_if, state_phrase, callout_phrase, literals_phrase, item_phrase, alternative_phrase, destination_phrase, identifier_phrase, action_phrase, rule_phrase, section_phrase}
 use Rattle.metal_grammar.specs.Grammar.{IsItem, IsAlternative, IsRule, EachIs}
-use Rattle.metal_grammar.specs.Steps.{take_word, has_sign, behind_sign, read_row, read_state, read_callout, read_pattern, read_asked, read_dollars, read_item, read_alternative, read_split, read_destination, more_literals, read_literals, read_identifier, read_identifiers, read_action, read_maybe_action, read_rule, read_section}
+use Rattle.metal_grammar.specs.Ways.Steps.{take_word, has_sign, behind_sign, read_row, read_state, read_callout, read_pattern, read_asked, read_dollars, read_item, read_alternative, read_split, read_destination, more_literals, read_literals, read_identifier, read_identifiers, read_action, read_maybe_action, read_rule, read_section}
 use Rattle.metal_grammar.proofs.Carried.{IsSound, Stands, carried, taken_word, sign_split}
 use Rattle.metal_grammar.proofs.SoundParts.{row-sound, state-sound, callout-sound}
 

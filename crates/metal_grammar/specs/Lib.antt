@@ -13,6 +13,6 @@ pub mod Faults
 pub mod FirstFault
 pub mod Meaning
 pub mod Definition
-pub mod Steps
 pub mod Reading
 pub mod Theorems
+pub mod Ways

@@ -11,7 +11,7 @@ use Rattle.metal_grammar.specs.Grammar.{Before, nothing_before, behind_content, 
 use Rattle.metal_tree.specs.MetalMachines.Machine.{Machine}
 use Rattle.metal_grammar.specs.FirstFault.{Fault, SyntaxAt, fault_of}
 use Rattle.metal_grammar.specs.Meaning.{machine_of}
-use Rattle.metal_grammar.specs.Steps.{Step, take_word, read_content}
+use Rattle.metal_grammar.specs.Ways.Steps.{Step, take_word, read_content}
 
 -- the head of the first clause
 abbrev pub read_head : Bool → Step (Option (ℕ × ℕ))

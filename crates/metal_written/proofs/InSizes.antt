@@ -10,7 +10,7 @@ use Rattle.metal_grammar.specs.Written as text
 use Rattle.metal_grammar.specs.Grammar.{Before}
 use Rattle.metal_grammar.specs.Rules.{size}
 use Rattle.metal_grammar.specs.Phrases.{word, maybe_phrase, sign_if, row_phrase, type_phrase, head_phrase, state_phrase, rule_phrase, section_phrase, clause_tokens}
-use Rattle.metal_grammar.specs.Steps.{read_type, read_rule}
+use Rattle.metal_grammar.specs.Ways.Steps.{read_type, read_rule}
 use Rattle.metal_grammar.specs.Reading.{read_clause}
 use Rattle.metal_grammar.proofs.SoundParts.{type-sound}
 use Rattle.metal_grammar.proofs.SoundRules.{rule-sound}

@@ -3,7 +3,7 @@ use Rattle.std.specs.Prelude.{Bool, true, false, List}
 use Rattle.c_tree.specs.Symbol.{Symbol, symbols_of}
 use Rattle.c_tree.specs.Syntax.{Syntax, Specifier, Specs, Syntaxes, no_more, more}
 use Rattle.metal_grammar.specs.Patterns.{are_plain_words, are_stars}
-use Rattle.metal_grammar.specs.Steps.{is_type_symbol}
+use Rattle.metal_grammar.specs.Ways.Steps.{is_type_symbol}
 use Rattle.metal_tree.specs.MetalMachines.Kept.{all_of}
 use Rattle.metal_written.specs.declared.written.WrittenType.{WrittenType}
 use Rattle.metal_written.specs.declared.written.WrittenType.TheVariants as types

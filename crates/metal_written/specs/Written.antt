@@ -4,7 +4,7 @@ use Rattle.std.specs.Borrow.{Bor}
 use Rattle.std.specs.Option.{option_map}
 use Rattle.c_tree.specs.Forget.{view}
 use Rattle.c_tree.specs.Symbol.{symbol_of, symbols_of}
-use Rattle.metal_grammar.specs.Steps.{keyword_in}
+use Rattle.metal_grammar.specs.Ways.Steps.{keyword_in}
 use Rattle.metal_grammar.specs.Words as words
 use Rattle.metal_grammar.specs.Written as text
 use Rattle.metal_written.specs.declared.written.Literal.{Literal}

@@ -10,7 +10,7 @@ use Rattle.command.specs.Ran.{IsEmptied, Leaves, RanHanding, ReporterStep, repor
 use Rattle.command.specs.Run.{HandsAsDue, Promise, Run, reporter_state, reporters_in}
 use Rattle.command.specs.Tasks.{IsEmptiedAt}
 use Rattle.command.specs.declared.status.Status.{Status}
-use Rattle.command.specs.declared.status.Status.TheVariants.{Clean, Reports, Usage, Refused, ReadFault, WriteFault, NoMemory}
+use Rattle.command.specs.declared.status.Status.TheVariants.{Clean, Reports, ReadFault, NoMemory}
 use Rattle.report_model.specs.declared.report.Report.{Report}
 use Rattle.report_model.specs.OfReporters.Styles.{json_of, report_table}
 use Rattle.metalcheck.specs.Styles.{AreOfBothStyles, both_styles}
@@ -43,11 +43,7 @@ emptied words command given = by command.place given.request.format given.place
 leaves : (words : Words) (s : Status) → Leaves words both_step s
 leaves words Clean = emptied words
 leaves words Reports = emptied words
-leaves words Usage = refl
-leaves words Refused = refl
-leaves words ReadFault = refl
-leaves words WriteFault = tt
-leaves words NoMemory = tt
+leaves words _ = refl
 
 -- a run with reporters of these styles that are gone behind it
 abbrev pub styled : Run → Run

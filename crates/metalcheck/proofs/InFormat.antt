@@ -29,10 +29,9 @@ text-in None place reports text p h = subst (λ (o : Option ℕ). IsText o (styl
 text-in (Some name) place reports text p h = rendered-in name p.0 reports text p.2 (subst (λ (o : Option ℕ). IsText o (styles reports) reports text) p.1 h)
 
 module _ (run : Run) (request : Request) (is : IsRequest run.words request) where
-  printed-as-asked : (IsAsked : List Report → Type 0) → ((reports : List Report) → IsAsked reports → ((run.status ≡ Clean) × (reports ≡ [])) ⊎ ((run.status ≡ Reports) × (reports ≢ [])))
-      → Answers (styled run) IsAsked → PrintsAsAsked (styled run) request
-  printed-as-asked IsAsked status (inr m) = absurd (no_request run.words m.count m.is_generation request is)
-  printed-as-asked IsAsked status (inl p) =
+  printed-as-asked : (IsAsked : List Report → Type 0) → Answers (styled run) IsAsked → PrintsAsAsked (styled run) request
+  printed-as-asked IsAsked (inr m) = absurd (no_request run.words m.count m.is_generation request is)
+  printed-as-asked IsAsked (inl p) =
       let same : p.given.request ≡ request = one_request run.words p.given.request request p.given.is_request is in
       let files : p.command.files ≡ request.files = p.given.files ∙ ap (λ (r : Request). r.files) same in
       let depth : p.command.depth ≡ request.depth = p.given.depth ∙ ap (λ (r : Request). r.depth) same in
@@ -42,7 +41,7 @@ module _ (run : Run) (request : Request) (is : IsRequest run.words request) wher
         reports = reports;
         accepted = subst (λ (d : ℕ). AreAccepted (may_hold run.told) (filter is_checker_word request.files) (filter is_source_word request.files) d reports) depth
             (subst (λ (fs : Words). AreAccepted (may_hold run.told) (filter is_checker_word fs) (filter is_source_word fs) p.command.depth reports) files p.cause.accepted);
-        status = status reports p.cause.asked;
+        status = p.cause.status_is;
         text = p.text;
         text_is = subst (λ (f : Option Bytes). IsTextIn f reports p.text) format (text-in p.given.request.format p.command.place reports p.text p.given.place p.cause.text_is);
         printed = p.writes.text_taken;
@@ -52,8 +51,8 @@ module _ (run : Run) (request : Request) (is : IsRequest run.words request) wher
   -- of a run that ends in one of the two
   in-format : (run.status ≡ Clean → Answers (styled run) (λ reports. reports ≡ [])) → (run.status ≡ Reports → Answers (styled run) (λ reports. reports ≢ [])) → (run.status ≡ Clean) ⊎ (run.status ≡ Reports)
       → PrintsAsAsked (styled run) request
-  in-format clean some (inl e) = printed-as-asked (λ reports. reports ≡ []) (λ reports none. inl (e, none)) (clean e)
-  in-format clean some (inr e) = printed-as-asked (λ reports. reports ≢ []) (λ reports there. inr (e, there)) (some e)
+  in-format clean some (inl e) = printed-as-asked (λ reports. reports ≡ []) (clean e)
+  in-format clean some (inr e) = printed-as-asked (λ reports. reports ≢ []) (some e)
 
 -- what every run with two such reporters promises, in their styles
 pub in_styles : {Files : Type 0} (before after : Files) (Hands : Bytes → Bytes → Type 0) (run : Run) → Promise before after Hands run → AreOfBothStyles run.reporters_before → PromiseInStyles before after Hands (styled run)

@@ -1,9 +1,10 @@
 -- WHAT THE PROGRAM PROMISES: what `run` does (`command`: `Run`) with a reporter of each style that `--format` can choose, and that the text is
 -- in the style that the words name.
-use Rattle.std.specs.Prelude.{◌≡◌, ◌≢◌, ◌⊎◌, List, [], ◌∷◌, filter, map, Option, None, Some, codes}
+use Rattle.std.specs.Prelude.{◌≡◌, ◌⊎◌, List, [], ◌∷◌, filter, map, Option, None, Some, codes}
 use Rattle.mx_io.specs.Bytes.{Bytes}
 use Rattle.command.specs.Handed.{AreAccepted, may_hold}
 use Rattle.command.specs.Run.{Promise, ReporterState, Run, reporter_state}
+use Rattle.command.specs.Statuses.{status_of}
 use Rattle.command.specs.Written.{Took}
 use Rattle.command.specs.declared.status.Status.TheVariants.{Clean, Reports}
 use Rattle.command_words.specs.Words.{IsRequest, Request, is_checker_word, is_source_word}
@@ -29,7 +30,7 @@ IsTextIn (Some name) reports text = ((name ≡ codes "table") × (text ≡ repor
 pub record PrintsAsAsked (run : Run) (request : Request) : Type 0 where
   pub reports : List Report
   pub accepted : AreAccepted (may_hold run.told) (filter is_checker_word request.files) (filter is_source_word request.files) request.depth reports
-  pub status : ((run.status ≡ Clean) × (reports ≡ [])) ⊎ ((run.status ≡ Reports) × (reports ≢ []))
+  pub status : run.status ≡ status_of reports
   pub text : Bytes
   pub text_is : IsTextIn request.format reports text
   pub printed : Took run.out text

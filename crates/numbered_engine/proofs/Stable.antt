@@ -7,10 +7,10 @@ use Rattle.std.proofs.lemmas.Bool.{eq-eqb, eqb-true}
 use Rattle.std.proofs.lemmas.List.Elements.{Contains-append_cases}
 use Rattle.std.proofs.lemmas.Map.Views.{Contains-from_any}
 use Rattle.least_set.specs.Logs.{IsExactly}
-use Rattle.least_set.specs.Same.{both}
+use Rattle.least_set.specs.Ways.Same.{both}
 use Rattle.least_set.proofs.Growing.{nothing}
 use Rattle.row_flows.proofs.Lists.{the_one}
-use Rattle.row_flows.specs.Equality.{same_numbers}
+use Rattle.row_flows.specs.Ways.Equality.{same_numbers}
 use Rattle.row_flows.specs.contracts.behind.FiringPartialEq.TheImpl.{eq-value as firings_agree}
 use Rattle.row_flows.specs.contracts.tuples.NumberedTuplePartialEq.TheImpl.{eq-value as tuples_agree}
 use Rattle.row_flows.specs.declared.behind.Firing.{Firing}

@@ -12,7 +12,7 @@ pub struct NumberedContext {
 }
 
 impl Key for NumberedContext {
-    ghost use Rattle.numbered_engine.specs.Equality.{same_context};
+    ghost use Rattle.numbered_engine.specs.Ways.Equality.{same_context};
 
     ghost same = { same_context };
 }
@@ -27,7 +27,7 @@ pub struct NumberedEdge {
 }
 
 impl Key for NumberedEdge {
-    ghost use Rattle.numbered_engine.specs.Equality.{same_edge};
+    ghost use Rattle.numbered_engine.specs.Ways.Equality.{same_edge};
 
     ghost same = { same_edge };
 }

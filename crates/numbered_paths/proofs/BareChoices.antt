@@ -4,7 +4,7 @@ use Rattle.std.specs.Prelude.{option_and_then, position, slice_get}
 use Rattle.std.specs.Option.{option_map_or}
 use Rattle.std.proofs.lemmas.List.Quantifiers.{position-Some}
 use Rattle.std.proofs.lemmas.Option.{get_or_from_slice_get}
-use Rattle.least_set.specs.Same.{both}
+use Rattle.least_set.specs.Ways.Same.{both}
 use Rattle.path_theory.proofs.SmallFacts.{none_known}
 use Rattle.row_flows.specs.Choices.{bare, begins_globally, is_asked, leads_globally, next_state, state_behind, taken_place, takes}
 use Rattle.row_flows.specs.declared.rows.Applied.{Applied}

@@ -10,7 +10,7 @@ use Rattle.c_tree.specs.declared.expression.Primary as primary
 use Rattle.c_tree.specs.declared.expression.Operation as operation
 use Rattle.c_tree.specs.Node.{PrimaryShape, OperationShape, node, Primary, Operation, Ident, Paren, Index, Member, Arrow, Unary, Cast}
 use Rattle.c_tree.specs.Views.{node_of, shape_of, primary_shape, operation_shape}
-use Rattle.objects.specs.Addresses.{primary_address, operation_address}
+use Rattle.objects.specs.Ways.Addresses.{primary_address, operation_address}
 
 by_primary : (u : Facts) (d i : ℕ) (p : Place) (k : PrimaryShape) → primary_address u d i k ≡ address_object u d (node i p (Primary k))
 by_primary u d i p (Ident name) = refl

@@ -7,7 +7,7 @@ use Rattle.std.specs.Hash.{u8, u16, u32, u64, bool}
 use Rattle.c_objects.proofs.Vars.{same_var-true, same_var-refl, same_selector-true, same_selector-refl}
 use Rattle.c_objects.specs.Objects.{Selector, Deref, Field, At, AtVar, Object, same_var, same_selector}
 use Rattle.type_rules.specs.Vars.{CVar, Extern, FileStatic, LocalStatic, Param, Local, Result, Called}
-use Rattle.least_set.specs.Same.{both, same_list}
+use Rattle.least_set.specs.Ways.Same.{both, same_list}
 use Rattle.objects.specs.Selectors.{selector_of}
 use Rattle.objects.specs.declared.selector.Selector as code
 use mathlib.Core.Bool.{beq}

@@ -3,4 +3,4 @@ pub mod Units
 pub mod Origins
 pub mod Equality
 pub mod Pieces
-pub mod Addresses
+pub mod Ways

@@ -10,7 +10,7 @@ ghost use Rattle.c_tree.specs.Views.{node_of, primary_shape, operation_shape};
 ghost use Rattle.type_rules.specs.Options.{◌>?◌};
 ghost use Rattle.type_rules.specs.Types.{is_integer};
 ghost use Rattle.type_values.specs.Vars.{cvar_of};
-ghost use Rattle.objects.specs.Addresses.{primary_address, operation_address};
+ghost use Rattle.objects.specs.Ways.Addresses.{primary_address, operation_address};
 ghost use Rattle.objects.specs.Selectors.{selector_of, selectors_of};
 ghost use Rattle.objects.specs.Units.{facts_in};
 ghost use Rattle.typed_unit.specs.Places.{is_identifier};

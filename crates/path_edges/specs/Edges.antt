@@ -1,10 +1,8 @@
 -- WHAT AN ENGINE'S VALUES STAND FOR.
-use Rattle.std.specs.Prelude.{ℕ, List, [], Option, None, Some}
+use Rattle.std.specs.Prelude.{ℕ, List, [], None}
 use Rattle.c_objects.specs.Objects.{Object}
 use Rattle.flow_graph.specs.CPaths.Building.{Graph}
-use Rattle.c_tree.specs.Node.{Node}
-use Rattle.type_rules.specs.Options.{if_there, ◌>?◌}
-use Rattle.std.specs.Prelude.{slice_get}
+use Rattle.type_rules.specs.Options.{if_there}
 use Rattle.masked_paths.specs.Masked.{SiteIn}
 use Rattle.path_model.specs.CheckerGraphs.Ends.{call_at}
 use Rattle.path_model.specs.CheckerGraphs.Graphs.{function_at, graph_at}

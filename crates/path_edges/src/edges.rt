@@ -13,7 +13,7 @@ pub struct Context {
 }
 
 impl Key for Context {
-    ghost use Rattle.path_edges.specs.Equality.{same_context};
+    ghost use Rattle.path_edges.specs.Ways.Equality.{same_context};
 
     ghost same = { same_context };
 }
@@ -29,7 +29,7 @@ pub struct Edge {
 }
 
 impl Key for Edge {
-    ghost use Rattle.path_edges.specs.Equality.{same_edge};
+    ghost use Rattle.path_edges.specs.Ways.Equality.{same_edge};
 
     ghost same = { same_edge };
 }

@@ -20,5 +20,5 @@ pub use checker_model::{
 };
 pub use checker_programs::{
     calls_hand_back_what_becomes, followed_objects_are_closed, followed_objects_are_relevant,
-    relevant_objects_are_closed, relevant_objects_are_objects,
+    relevant_objects_are_closed, relevant_objects_are_objects, roots_are_uncalled_or_remain,
 };

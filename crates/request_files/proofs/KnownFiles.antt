@@ -15,7 +15,7 @@ use Rattle.request_files.specs.FrontEnd.Faults.{of_typing, place_of}
 use Rattle.request_files.specs.FrontEnd.Checkers.{HasNoMachine}
 use Rattle.request_files.specs.FrontEnd.Found.{line_of_first, stands_at}
 use Rattle.request_files.specs.Faults.{without_dropped, HasNoUnitAt}
-use Rattle.request_files.specs.Stages.{IsNamed, AreNamed, AreKnown}
+use Rattle.request_files.specs.Ways.Stages.{IsNamed, AreNamed, AreKnown}
 
 tokens_named : (number : ℕ) (names : List (List ℕ)) (before : ℕ) (ls : List Lexeme) (ts : List Token) → AreTokens number names before ls ts → AreNamed names ts
 tokens_named number names before [] [] a = tt

@@ -11,7 +11,7 @@ use Rattle.typed_unit.specs.declared.typed_unit.TypedUnit.{TypedUnit}
 use Rattle.request_files.specs.Faults.{Before, HasFault, before_file}
 use Rattle.request_files.specs.InTurn.{AreReadCheckers, AreReadSources}
 use Rattle.request_files.specs.Reading.{AreSound, FailedAt, FaultyAt}
-use Rattle.request_files.specs.Stages.{AnswersStopped, HasLoadedChecker, HasLoadedSource, failed_after_stop}
+use Rattle.request_files.specs.Ways.Stages.{AnswersStopped, HasLoadedChecker, HasLoadedSource, failed_after_stop}
 use Rattle.request_files.specs.Telling.{may_hold}
 use Rattle.request_files.specs.Turns.{Kind, numbered}
 use Rattle.request_files.specs.Views.{located_of, machines_of, text_of, texts_of, words_of}

@@ -18,7 +18,7 @@ use Rattle.request_files.specs.FrontEnd.Sources.{HasNoTrees, HasNoTypes}
 use Rattle.request_files.specs.Lexed.{AreTokensOf}
 use Rattle.request_files.specs.Meanings.{AreCheckerTokens, IsChecker}
 use Rattle.request_files.specs.Faults.{HasFault, HasFaultIn, HasNoMeaning, HasNoUnitAt, Located, before_file, file_limit, mode_of}
-use Rattle.request_files.specs.Stages.{AnswersStopped, AreKnown, IsAtStart, IsKnown, IsLocated, IsRefused, HasNoUnit, IsUnread}
+use Rattle.request_files.specs.Ways.Stages.{AnswersStopped, AreKnown, IsAtStart, IsKnown, IsLocated, IsRefused, HasNoUnit, IsUnread}
 use Rattle.request_files.specs.Turns.{Kind, CheckerFile, SourceFile, Turn}
 use Rattle.request_files.specs.Views.{located_of}
 use Rattle.request_files.specs.declared.fault.Fault.TheVariants as faults

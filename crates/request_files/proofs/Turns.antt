@@ -9,7 +9,7 @@ use Rattle.request_files.specs.Faults.{Before, Located, HasFault, before_file}
 use Rattle.request_files.specs.InTurn.{AreReadCheckers, AreReadSources}
 use Rattle.request_files.specs.Meanings.{HaveMachines, HaveTexts, IsChecker, IsSource}
 use Rattle.request_files.specs.Reading.{Agree, AreSoundFrom, AreSound, FailedAt, FaultyAt, IsSound, IsTurn}
-use Rattle.request_files.specs.Stages.{HasLoadedChecker, HasLoadedSource}
+use Rattle.request_files.specs.Ways.Stages.{HasLoadedChecker, HasLoadedSource}
 use Rattle.request_files.specs.Telling.{may_hold}
 use Rattle.request_files.specs.Turns.{Kind, CheckerFile, SourceFile, Turn, numbered}
 

@@ -5,6 +5,6 @@ pub mod Faults
 pub mod Reading
 pub mod Telling
 pub mod Views
-pub mod Stages
 pub mod InTurn
 pub mod FrontEnd
+pub mod Ways

@@ -9,7 +9,7 @@ ghost use Rattle.mx_io.specs.Reads.{ReadsReadable};
 ghost use Rattle.request_files.specs.InTurn.{AnswersUnread, AreReadCheckers};
 ghost use Rattle.request_files.specs.Faults.{before_file};
 ghost use Rattle.request_files.specs.Meanings.{IsChecker};
-ghost use Rattle.request_files.specs.Stages.{AnswersStopped, HasLoadedChecker, IsUnread, failed_after_stop};
+ghost use Rattle.request_files.specs.Ways.Stages.{AnswersStopped, HasLoadedChecker, IsUnread, failed_after_stop};
 ghost use Rattle.request_files.specs.Telling.{may_hold};
 ghost use Rattle.request_files.specs.Turns.{CheckerFile, checker_turn, numbered};
 ghost use Rattle.request_files.specs.Views.{machines_of, words_of};

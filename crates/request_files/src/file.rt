@@ -2,7 +2,7 @@
 
 ghost use Rattle.std.specs.Prelude.{◌≡◌, ◌≤◌};
 ghost use Rattle.mx_io.specs.Reads.{ReadsReadable};
-ghost use Rattle.request_files.specs.Stages.{AnswersFile, failed_after_file};
+ghost use Rattle.request_files.specs.Ways.Stages.{AnswersFile, failed_after_file};
 
 use mx_io::{FileFault, Files};
 

@@ -10,7 +10,7 @@ ghost use Rattle.request_files.specs.Faults.{before_file};
 ghost use Rattle.request_files.specs.FrontEnd.Sources.{AreTypedTrees};
 ghost use Rattle.request_files.specs.InTurn.{AnswersUnread, AreReadSources};
 ghost use Rattle.request_files.specs.Meanings.{IsSource};
-ghost use Rattle.request_files.specs.Stages.{AnswersStopped, AreKnown, HasLoadedSource, HasNoUnit, IsUnread, failed_after_stop};
+ghost use Rattle.request_files.specs.Ways.Stages.{AnswersStopped, AreKnown, HasLoadedSource, HasNoUnit, IsUnread, failed_after_stop};
 ghost use Rattle.request_files.specs.Telling.{may_hold};
 ghost use Rattle.request_files.specs.Turns.{SourceFile, numbered, source_turn};
 ghost use Rattle.request_files.specs.Views.{text_of, texts_of, words_of};

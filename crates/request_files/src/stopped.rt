@@ -1,6 +1,6 @@
 //! Why a file gave nothing.
 
-ghost use Rattle.request_files.specs.Stages.{IsAtStart, IsKnown, IsNamed, IsRefused, IsThere};
+ghost use Rattle.request_files.specs.Ways.Stages.{IsAtStart, IsKnown, IsNamed, IsRefused, IsThere};
 
 use crate::fault::{Fault, LocatedFault};
 use crate::front_end::Refusal;

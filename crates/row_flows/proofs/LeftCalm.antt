@@ -4,7 +4,7 @@ use Rattle.std.proofs.lemmas.Bool.{le-ltb}
 use Rattle.std.specs.Prelude.{cond, flat_map, map, option_and_then, position, slice_get}
 use Rattle.std.specs.List.{list_all, list_any, position_or_len, prefix_len}
 use Rattle.std.specs.Option.{option_map_or}
-use Rattle.least_set.specs.Same.{both}
+use Rattle.least_set.specs.Ways.Same.{both}
 use Rattle.row_flows.specs.Behind.{behind, chosen, fired, firings, given, if_kept, moved, noted_at, touches, with_object}
 use Rattle.row_flows.specs.Calm.{begins_in_object, is_calm, leaves, spares}
 use Rattle.row_flows.specs.Concerns.{all_calm}

@@ -4,7 +4,7 @@ use Rattle.std.specs.Prelude.{flat_map}
 use Rattle.std.specs.List.{list_all}
 use Rattle.std.proofs.lemmas.List.Elements.{Contains-append_left, Contains-append_right, Contains-append_cases}
 use Rattle.least_set.specs.Logs.{IsExactly, SomeGives}
-use Rattle.least_set.specs.Same.{both}
+use Rattle.least_set.specs.Ways.Same.{both}
 use Rattle.least_set.proofs.Growing.{nothing}
 use Rattle.row_flows.specs.Behind.{behind, firings}
 use Rattle.row_flows.specs.Calm.{are_calm, is_calm}

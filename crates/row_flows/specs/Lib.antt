@@ -1,7 +1,7 @@
-pub mod Equality
 pub mod Numbers
 pub mod Choices
 pub mod Behind
 pub mod Calm
 pub mod Crossing
 pub mod Concerns
+pub mod Ways

@@ -14,7 +14,7 @@ pub struct NumberedTuple {
 }
 
 impl Key for NumberedTuple {
-    ghost use Rattle.row_flows.specs.Equality.{same_numbers};
+    ghost use Rattle.row_flows.specs.Ways.Equality.{same_numbers};
 
     ghost same = { same_numbers };
 }

@@ -19,7 +19,7 @@ use Rattle.path_model.specs.CheckerPrograms.Texts.{tokens_of, happening}
 use Rattle.typed_unit.specs.Texts.{Text}
 use Rattle.saturation.proofs.OwnFiles.{StandInOwnFiles}
 use Rattle.hole_matching.specs.Message.{from_place, is_at}
-use Rattle.least_set.specs.Same.{both}
+use Rattle.least_set.specs.Ways.Same.{both}
 use Rattle.metal_tree.specs.MetalMachines.Machine.{Piece}
 use Rattle.path_theory.specs.Paths.{Reported, ReportOf, ReportOfGlobal, after}
 use Rattle.report_model.specs.declared.report.Report.{Report}

@@ -1,5 +1,4 @@
 pub mod Applied
 pub mod Events
-pub mod Firsts
 pub mod Takers
 pub mod Bound

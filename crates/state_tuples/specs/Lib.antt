@@ -1,7 +1,7 @@
 pub mod Values
 pub mod Numbers
 pub mod Tuples
-pub mod Equality
 pub mod RuleChoices
 pub mod AppliedRules
 pub mod TransitionReports
+pub mod Ways

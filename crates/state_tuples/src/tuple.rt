@@ -18,7 +18,7 @@ pub struct Tuple {
 }
 
 impl Key for Tuple {
-    ghost use Rattle.state_tuples.specs.Equality.{same_tuple};
+    ghost use Rattle.state_tuples.specs.Ways.Equality.{same_tuple};
 
     ghost same = { same_tuple };
 }

@@ -1,2 +1,2 @@
-pub mod TreeYields
 pub mod TreeEquality
+pub mod Ways

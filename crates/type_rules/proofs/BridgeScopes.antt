@@ -7,7 +7,7 @@ use Rattle.type_rules.specs.Moves.{opened, opened_block, closed}
 use Rattle.type_rules.specs.Parts.{Slot, plain, callee, same, specs_of, item_of, declared_by, defined_by, formal_by, member_by, beside_name, toward, beside, inside, body, Parts, none, part, flat, parts, maybe, each, first_in, primary_parts, operation_parts, initializer_parts, specifier_parts, declarator_parts, part_parts, outer_parts, statement_parts, iteration_parts, jump_parts}
 use Rattle.type_rules.specs.Roles.{Role, Plain, Callee, Defines, Body, inner_role, specs_role, given}
 use Rattle.type_rules.specs.Scopes.{Scopes, Enums, deeper}
-use Rattle.type_rules.specs.ScopesByCase.{scoped, within, scoped_maybe, scoped_each, scoped_beside, within_primary, within_operation, within_initializer, within_specifier, within_declarator, within_part, within_outer, within_statement, within_iteration, within_jump}
+use Rattle.type_rules.specs.Ways.ScopesByCase.{scoped, within, scoped_maybe, scoped_each, scoped_beside, within_primary, within_operation, within_initializer, within_specifier, within_declarator, within_part, within_outer, within_statement, within_iteration, within_jump}
 use Rattle.type_rules.specs.Specified.{specified_type, storage_of}
 use Rattle.type_rules.specs.Tags.{sort_of, body_opened}
 

@@ -10,9 +10,9 @@ use Rattle.type_rules.specs.Parts.{Slot, plain, callee, same, specs_of, item_of,
 use Rattle.type_rules.specs.Roles.{Role, Plain, Callee, Defines, Body, inner_role, specs_role, given}
 use Rattle.type_rules.specs.Rows.{keeps, var_of}
 use Rattle.type_rules.specs.Scopes.{Scopes, Enums, deeper}
-use Rattle.type_rules.specs.ScopesByCase.{scoped, scoped_maybe, scoped_each}
+use Rattle.type_rules.specs.Ways.ScopesByCase.{scoped, scoped_maybe, scoped_each}
 use Rattle.type_rules.specs.Specified.{specified_type, storage_of}
-use Rattle.type_rules.specs.TablesByCase.{filled, filled_shape, filled_maybe, filled_each, filled_beside, filled_primary, filled_operation, filled_initializer, filled_specifier, filled_declarator, filled_part, filled_outer, filled_statement, filled_iteration, filled_jump}
+use Rattle.type_rules.specs.Ways.TablesByCase.{filled, filled_shape, filled_maybe, filled_each, filled_beside, filled_primary, filled_operation, filled_initializer, filled_specifier, filled_declarator, filled_part, filled_outer, filled_statement, filled_iteration, filled_jump}
 use Rattle.type_rules.specs.Tags.{sort_of, body_opened}
 use Rattle.type_rules.specs.Types.{CType}
 use Rattle.type_rules.proofs.BridgeScopes.{scoped-flat, within-flat}

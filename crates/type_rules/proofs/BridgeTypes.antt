@@ -13,11 +13,11 @@ use Rattle.type_rules.specs.Roles.{Role, Plain, Callee, Declares, Defines, Forma
 use Rattle.type_rules.specs.Roles as roles
 use Rattle.type_rules.specs.Rows.{member, unary_row, if_lvalue, members_row, declarator_row, name_row, primary_row, operation_row, initializer_row}
 use Rattle.type_rules.specs.Scopes.{Scopes, Enums, deeper}
-use Rattle.type_rules.specs.ScopesByCase.{scoped, scoped_maybe, scoped_each}
+use Rattle.type_rules.specs.Ways.ScopesByCase.{scoped, scoped_maybe, scoped_each}
 use Rattle.type_rules.specs.Specified.{specified_type, storage_of}
 use Rattle.type_rules.specs.Tags.{sort_of, body_opened, body_fault}
 use Rattle.type_rules.specs.Types.{CType, Void, size, indexed, called, element, combined, chosen}
-use Rattle.type_rules.specs.TypesByCase.{typed, typed_shape, typed_maybe, typed_each, typed_beside, typed_primary, typed_operation, typed_initializer, typed_specifier, typed_declarator, typed_part, typed_outer, typed_statement, typed_iteration, typed_jump}
+use Rattle.type_rules.specs.Ways.TypesByCase.{typed, typed_shape, typed_maybe, typed_each, typed_beside, typed_primary, typed_operation, typed_initializer, typed_specifier, typed_declarator, typed_part, typed_outer, typed_statement, typed_iteration, typed_jump}
 use Rattle.type_rules.proofs.BridgeScopes.{scoped-flat, within-flat}
 
 after-part : (a : Result CType Fault) (b : Result (List CType) Fault) (k : List CType → Result CType Fault) → (a >>= λ t. b >>= λ ts. k (t ∷ ts)) ≡ ((a >>= λ t. b >>= λ ts. Ok (t ∷ ts)) >>= k)

@@ -6,7 +6,7 @@ use Rattle.type_rules.specs.Options.{if_there}
 use Rattle.type_rules.specs.Parts.{plain, none}
 use Rattle.type_rules.specs.Roles.{Plain}
 use Rattle.type_rules.specs.Scopes.{Scopes, at_start}
-use Rattle.type_rules.specs.ScopesByCase.{scoped, scoped_each}
+use Rattle.type_rules.specs.Ways.ScopesByCase.{scoped, scoped_each}
 use Rattle.type_rules.specs.Unit.{plainly}
 use Rattle.type_rules.proofs.BridgeScopes.{scoped-flat, each-flat}
 

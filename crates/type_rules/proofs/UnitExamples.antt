@@ -15,7 +15,7 @@ use Rattle.type_rules.specs.Functions.{functions_of, tag_of}
 use Rattle.type_rules.specs.Types.{CType, Void, Arith, Pointer, Array, Func, Struct, Union, int, size}
 use Rattle.type_rules.specs.Roles.{Plain}
 use Rattle.type_rules.specs.Scopes.{at_start}
-use Rattle.type_rules.specs.TablesByCase.{filled_each}
+use Rattle.type_rules.specs.Ways.TablesByCase.{filled_each}
 use Rattle.type_rules.specs.Vars.{CVar, Extern, Param}
 use Rattle.type_rules.proofs.Building.{at, word, token, list, name, star, keyword, enumerated, tag, tagged_body, body, specs, ints, chars, voids, type_in, member, declarator, plain, pointer, nested, bound, no_params, params, param, declaration, function, f_with, block, statement, type_behind, fault_behind, fault_of}
 

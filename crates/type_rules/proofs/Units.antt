@@ -8,10 +8,10 @@ use Rattle.type_rules.specs.Order.{visited_all, fill_all}
 use Rattle.type_rules.specs.Parts.{plain, Visit, none}
 use Rattle.type_rules.specs.Roles.{Role, Plain}
 use Rattle.type_rules.specs.Scopes.{Scopes, at_start}
-use Rattle.type_rules.specs.TablesByCase.{filled_each}
+use Rattle.type_rules.specs.Ways.TablesByCase.{filled_each}
 use Rattle.type_rules.specs.Theorems.{UnitByCase}
 use Rattle.type_rules.specs.Types.{CType, Void}
-use Rattle.type_rules.specs.TypesByCase.{typed_each}
+use Rattle.type_rules.specs.Ways.TypesByCase.{typed_each}
 use Rattle.type_rules.specs.Unit.{visits_of, plainly, places_of, AreNumbered, IsTyping, IsFirstFault}
 use Rattle.type_rules.proofs.BridgeTables as tables
 use Rattle.type_rules.proofs.BridgeTypes.{each-flat}

@@ -11,7 +11,7 @@ use Rattle.type_rules.specs.Options.{if_there}
 use Rattle.type_rules.specs.Parts.{flat}
 use Rattle.type_rules.specs.Roles.{Plain}
 use Rattle.type_rules.specs.Scopes.{Scopes, Entry, at_start}
-use Rattle.type_rules.specs.ScopesByCase.{scoped}
+use Rattle.type_rules.specs.Ways.ScopesByCase.{scoped}
 use Rattle.type_rules.specs.Specified.{Storage, keyword_in, storage_of}
 use Rattle.type_rules.specs.Specified as stored
 use Rattle.type_rules.specs.Types.{CType, Struct, Union}

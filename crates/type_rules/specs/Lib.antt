@@ -14,10 +14,8 @@ pub mod Moves
 pub mod Rows
 pub mod Definition
 pub mod Order
-pub mod ScopesByCase
-pub mod TypesByCase
-pub mod TablesByCase
 pub mod Unit
 pub mod Functions
 pub mod Stays
 pub mod Theorems
+pub mod Ways

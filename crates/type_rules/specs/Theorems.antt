@@ -11,11 +11,11 @@ use Rattle.type_rules.specs.Order.{visited, fill}
 use Rattle.type_rules.specs.Parts.{Visit, flat}
 use Rattle.type_rules.specs.Roles.{Role, Plain}
 use Rattle.type_rules.specs.Scopes.{Scopes, at_start}
-use Rattle.type_rules.specs.ScopesByCase.{scoped, scoped_each}
+use Rattle.type_rules.specs.Ways.ScopesByCase.{scoped, scoped_each}
 use Rattle.type_rules.specs.Stays.{Stays}
-use Rattle.type_rules.specs.TablesByCase.{filled, filled_each}
+use Rattle.type_rules.specs.Ways.TablesByCase.{filled, filled_each}
 use Rattle.type_rules.specs.Types.{CType}
-use Rattle.type_rules.specs.TypesByCase.{typed, typed_each}
+use Rattle.type_rules.specs.Ways.TypesByCase.{typed, typed_each}
 use Rattle.type_rules.specs.Unit.{places_of, AreNumbered, IsTyping, IsFirstFault}
 
 -- a unit that is typed has no fault

@@ -4,3 +4,4 @@ pub mod Places
 pub mod Texts
 pub mod TokenSearch
 pub mod UnitPlaces
+pub mod Ways

@@ -7,10 +7,10 @@ use Rattle.type_rules.specs.Order.{put_kept}
 use Rattle.type_rules.specs.Roles.{Role}
 use Rattle.type_rules.specs.Rows.{keeps, var_of}
 use Rattle.type_rules.specs.Scopes.{Scopes}
-use Rattle.type_rules.specs.ScopesByCase.{within, within_primary}
-use Rattle.type_rules.specs.TablesByCase.{filled_shape, filled_primary}
+use Rattle.type_rules.specs.Ways.ScopesByCase.{within, within_primary}
+use Rattle.type_rules.specs.Ways.TablesByCase.{filled_shape, filled_primary}
 use Rattle.type_rules.specs.Types.{CType}
-use Rattle.type_rules.specs.TypesByCase.{typed_shape, typed_primary}
+use Rattle.type_rules.specs.Ways.TypesByCase.{typed_shape, typed_primary}
 use Rattle.type_rules.specs.Vars.{CVar}
 
 pub primary-kept : (v : Scopes) (r : Role) (i : ℕ) (p : Place) (s : Shape) (k : PrimaryShape) (old mid new : Table) (ty : CType) (var : Option CVar)

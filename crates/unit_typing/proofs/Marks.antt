@@ -6,7 +6,7 @@ use Rattle.c_tree.specs.Node.{Node, MaybeNode, absent, present, Nodes}
 use Rattle.type_rules.specs.Moves.{opened_block, left_params}
 use Rattle.type_rules.specs.Roles.{Role, Plain, Callee, Alone, Declares, Defines, Formal, Member, Inside, Formals, Body}
 use Rattle.type_rules.specs.Scopes.{Scopes, deeper, leave, leave_formals}
-use Rattle.type_rules.specs.ScopesByCase.{scoped, scoped_maybe, scoped_each}
+use Rattle.type_rules.specs.Ways.ScopesByCase.{scoped, scoped_maybe, scoped_each}
 use Rattle.type_rules.specs.Stays.{Begins, Stays}
 use Rattle.type_rules.specs.Theorems.{ScopesStay}
 use Rattle.unit_typing.specs.declared.scopes.Mark.{Mark}

@@ -13,11 +13,11 @@ use Rattle.type_rules.specs.Functions.{Defined, defined_each, defined_in}
 use Rattle.type_rules.specs.Options.{if_there, ◌>>=◌}
 use Rattle.type_rules.specs.Roles.{Plain}
 use Rattle.type_rules.specs.Scopes.{Scopes, at_start}
-use Rattle.type_rules.specs.ScopesByCase.{scoped, scoped_each}
-use Rattle.type_rules.specs.TablesByCase.{filled, filled_each}
+use Rattle.type_rules.specs.Ways.ScopesByCase.{scoped, scoped_each}
+use Rattle.type_rules.specs.Ways.TablesByCase.{filled, filled_each}
 use Rattle.type_rules.specs.Theorems.{NumbersDiffer, UnitsByCase}
 use Rattle.type_rules.specs.Types.{CType}
-use Rattle.type_rules.specs.TypesByCase.{typed, typed_each}
+use Rattle.type_rules.specs.Ways.TypesByCase.{typed, typed_each}
 use Rattle.type_rules.specs.Unit.{IsTyping, places_of}
 use Rattle.type_values.specs.declared.types.Ty.{Ty}
 use Rattle.typed_unit.specs.Places.{StandOver}

@@ -1,6 +1,6 @@
 use Rattle.std.proofs.Common.{◌-◌, ◌<◌, refl, ◌∙◌, sym, subst, arith, ap, length, rules}
 use Rattle.c_tree.specs.Symbol.{symbols_of}
-use Rattle.c_grammar.specs.ExpressionSteps.{read_more_arguments, read_path}
+use Rattle.c_grammar.specs.Ways.ExpressionSteps.{read_more_arguments, read_path}
 use Rattle.c_grammar.specs.Reading.{read}
 use Rattle.c_expr.specs.Gives.{Gives}
 use Rattle.c_grammar.specs.CPlaces.Stands.{OfBoth, OfNothing}
@@ -11,7 +11,7 @@ use Rattle.c_tree.specs.Height.{height_in}
 use Rattle.c_expr.proofs.Items.{height_pushed, count_pushed}
 use Rattle.c_expr.proofs.StandingParts.{ending-start, list-done, params-start, height-start, list-start, params_behind, kept_length, something, row-done, count-start}
 use Rattle.c_expr.proofs.ListSteps.{arguments-next, path-next, params-next, suffixes-next}
-use Rattle.c_grammar.specs.DeclaratorSteps.{read_params, read_suffixes}
+use Rattle.c_grammar.specs.Ways.DeclaratorSteps.{read_params, read_suffixes}
 use Rattle.c_tree.specs.declared.keyword.Keyword.TheVariants as words
 use Rattle.c_expr.proofs.Levels.{at_conditional, at_unary, at_postfix, gives-fails, chain-next}
 use Rattle.c_expr.proofs.+read.Goals as goal

@@ -5,12 +5,12 @@ use Rattle.c_tree.specs.Forget.{view, view_all}
 use Rattle.c_tree.specs.Views.{node_of, nodes_in}
 use Rattle.c_grammar.specs.CPlaces.Stands.{StandsOver, Stands}
 use Rattle.c_grammar.specs.Reading.{read}
-use Rattle.c_grammar.specs.ExpressionSteps.{read_binary, read_chain, read_postfix_operators, read_postfix, read_more_arguments, read_path}
+use Rattle.c_grammar.specs.Ways.ExpressionSteps.{read_binary, read_chain, read_postfix_operators, read_postfix, read_more_arguments, read_path}
 use Rattle.c_tree.specs.declared.token.Token.{Token}
 use Rattle.c_expr.specs.Gives.{ending_with, count_in}
 use Rattle.c_expr.proofs.Standing.{led_line}
 use Rattle.c_grammar.specs.CPlaces.Lines.{row_line}
-use Rattle.c_grammar.specs.DeclaratorSteps.{read_params, read_suffixes}
+use Rattle.c_grammar.specs.Ways.DeclaratorSteps.{read_params, read_suffixes}
 use Rattle.c_expr.specs.ParamLists.{params_after}
 use Rattle.c_expr.proofs.+read.Given as goal
 

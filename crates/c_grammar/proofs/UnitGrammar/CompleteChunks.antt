@@ -11,7 +11,7 @@ use Rattle.c_grammar.specs.Names.{Names, name_of, with_name, with_params, params
 use Rattle.c_grammar.specs.Specifiers.{InDeclaration, goes_on}
 use Rattle.c_grammar.specs.Nonterminal.{WithName, DeclaratorIn}
 use Rattle.c_grammar.specs.Found.{◌>>=◌, Found, Reader, made}
-use Rattle.c_grammar.specs.DeclaratorSteps.{begins_declarator}
+use Rattle.c_grammar.specs.Ways.DeclaratorSteps.{begins_declarator}
 use Rattle.c_grammar.specs.Following.{goes_on_declaring}
 use Rattle.c_grammar.specs.Reading.{read as read_expressions}
 use Rattle.c_grammar.proofs.Options.{made_low, same}
@@ -23,7 +23,7 @@ use Rattle.c_grammar.specs.UnitGrammar.Construct.{SpecifiersIn, FunctionBody, Co
 use Rattle.c_grammar.specs.UnitGrammar.Declarations.{IsInitDeclarator}
 use Rattle.c_grammar.specs.UnitGrammar.Control.{is_controlled}
 use Rattle.c_grammar.specs.UnitGrammar.Grammar.{may_define, IsBody, IsChunk, IsParse}
-use Rattle.c_grammar.specs.UnitGrammar.ChunkSteps.{read_function, read_chunk}
+use Rattle.c_grammar.specs.Ways.ChunkSteps.{read_function, read_chunk}
 use Rattle.c_grammar.specs.UnitGrammar.Reading.{read, chunk}
 use Rattle.c_grammar.proofs.UnitGrammar.Readers.{Knows}
 use Rattle.c_grammar.proofs.UnitGrammar.Fronts.{front_no_sign, front_none, full_specifiers_begin, named_begins, init_declarator_begins}

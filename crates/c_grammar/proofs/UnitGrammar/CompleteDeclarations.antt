@@ -13,7 +13,7 @@ use Rattle.c_grammar.specs.Specifiers.{InDeclaration, goes_on}
 use Rattle.c_grammar.specs.Nonterminal.{WithName, Expression, DeclaratorIn}
 use Rattle.c_grammar.specs.Grammar.{IsDeclarator}
 use Rattle.c_grammar.specs.Found.{◌>>=◌, Found, Reader}
-use Rattle.c_grammar.specs.DeclaratorSteps.{begins_declarator}
+use Rattle.c_grammar.specs.Ways.DeclaratorSteps.{begins_declarator}
 use Rattle.c_grammar.specs.Following.{Stops, goes_on_declaring}
 use Rattle.c_grammar.proofs.Options.{made_low}
 use Rattle.c_grammar.proofs.Readers.{Knows as KnowsBelow}
@@ -23,7 +23,7 @@ use Rattle.c_grammar.specs.UnitGrammar.Names.{declared, declared_name, makes_typ
 use Rattle.c_grammar.specs.UnitGrammar.Construct.{SpecifiersIn, BracedInitials, ConstructReader}
 use Rattle.c_grammar.specs.UnitGrammar.Declarations.{IsInitial, AreInitials, IsNameTree, IsInitDeclarator, AreInitDeclarators, IsDeclaration}
 use Rattle.c_grammar.specs.UnitGrammar.Grammar.{IsBracesTree}
-use Rattle.c_grammar.specs.UnitGrammar.DeclarationSteps.{read_initial, read_initials, read_braces, read_initialized, read_init_declarators, read_declaration_rest, read_declaration}
+use Rattle.c_grammar.specs.Ways.DeclarationSteps.{read_initial, read_initials, read_braces, read_initialized, read_init_declarators, read_declaration_rest, read_declaration}
 use Rattle.c_grammar.proofs.UnitGrammar.Readers.{Knows}
 use Rattle.c_grammar.proofs.UnitGrammar.Fronts.{front_no_sign, front_none, init_declarator_begins, begins_initial, initial_begins}
 

@@ -28,7 +28,7 @@ use Rattle.c_grammar.specs.UnitGrammar.Construct.{BlockDeclaration, OneStatement
 use Rattle.c_grammar.specs.UnitGrammar.Statements.{IsMaybeExpr, IsStatement, IsElse, takes_else, AreBlockItems, AreStatements}
 use Rattle.c_grammar.specs.UnitGrammar.Grammar.{IsBlock}
 use Rattle.c_grammar.specs.UnitGrammar.Following.{LeavesNoElse}
-use Rattle.c_grammar.specs.UnitGrammar.StatementSteps.{begins_label, read_statements, read_block_items, read_block_rest, read_block, read_maybe_expr, read_condition, read_expression_statement, read_statement}
+use Rattle.c_grammar.specs.Ways.StatementSteps.{begins_label, read_statements, read_block_items, read_block_rest, read_block, read_maybe_expr, read_condition, read_expression_statement, read_statement}
 use Rattle.c_grammar.proofs.UnitGrammar.Readers.{Knows}
 use Rattle.c_grammar.proofs.UnitGrammar.Fronts.{front_none, declaration_begins, expression_no_label, begins_statement, statement_begins, statement_no_declaration, statements_no_else}
 use Rattle.c_grammar.proofs.UnitGrammar.Longer.{longer_items}

@@ -16,8 +16,8 @@ use Rattle.c_grammar.specs.Specifiers.{Place, InTypeName, begins_tag, goes_on, t
 use Rattle.c_grammar.specs.Nonterminal.{WithName, Expression, DeclaratorIn}
 use Rattle.c_grammar.specs.Grammar.{IsItem, AreItems}
 use Rattle.c_grammar.specs.Found.{Reader}
-use Rattle.c_grammar.specs.DeclaratorSteps.{begins_declarator}
-use Rattle.c_grammar.specs.SpecifierSteps.{read_specifiers}
+use Rattle.c_grammar.specs.Ways.DeclaratorSteps.{begins_declarator}
+use Rattle.c_grammar.specs.Ways.SpecifierSteps.{read_specifiers}
 use Rattle.c_grammar.specs.Following.{Stops, goes_on_declaring}
 use Rattle.c_grammar.proofs.Options.{made_low}
 use Rattle.c_grammar.proofs.Front.{after_none, take_symbol_here}
@@ -29,7 +29,7 @@ use Rattle.c_grammar.specs.UnitGrammar.Names.{declared}
 use Rattle.c_grammar.specs.UnitGrammar.Construct.{SpecifiersIn, TaggedType, StructMember, ConstructReader}
 use Rattle.c_grammar.specs.UnitGrammar.Declarations.{has_any, IsMaybeConstant, IsMaybeTag, IsEnumerator, AreEnumerators, IsMemberDeclarator, AreMemberDeclarators, makes_members, AreFullSpecifiers, AreFullItems, IsFullItem, IsMember, AreMembers}
 use Rattle.c_grammar.specs.UnitGrammar.Grammar.{IsTaggedTree}
-use Rattle.c_grammar.specs.UnitGrammar.TaggedSteps.{read_enumerator, read_enumerators, read_enum_body, read_enum, read_members, read_struct_body, read_struct, read_tagged, read_member_declarator, read_member_declarators, read_declared_members, read_member}
+use Rattle.c_grammar.specs.Ways.TaggedSteps.{read_enumerator, read_enumerators, read_enum_body, read_enum, read_members, read_struct_body, read_struct, read_tagged, read_member_declarator, read_member_declarators, read_declared_members, read_member}
 use Rattle.c_grammar.proofs.UnitGrammar.Readers.{Knows}
 use Rattle.c_grammar.proofs.UnitGrammar.Fronts.{front_no_sign, front_none, full_specifiers_begin, begins_member, member_begins, enumerator_begins, begins_member_declarator, member_declarator_begins, named_begins}
 use Rattle.c_grammar.proofs.UnitGrammar.Longer.{longer_members}

@@ -10,16 +10,16 @@ use Rattle.c_tree.specs.Syntax.{Syntax, Primary, Operation, Initializer, Specifi
 use Rattle.c_grammar.specs.Symbols.{run_of, after_run}
 use Rattle.c_grammar.specs.Names.{Names, is_type}
 use Rattle.c_grammar.specs.Specifiers.{type_words, other_types, storages, inlines, occurrences, as_often, is_among}
-use Rattle.c_grammar.specs.SpecifierSteps.{read_items}
-use Rattle.c_grammar.specs.DeclaratorSteps.{read_params, read_suffixes}
-use Rattle.c_grammar.specs.ExpressionSteps.{read_path, read_more_arguments, read_postfix_operators, read_chain, read_binary}
+use Rattle.c_grammar.specs.Ways.SpecifierSteps.{read_items}
+use Rattle.c_grammar.specs.Ways.DeclaratorSteps.{read_params, read_suffixes}
+use Rattle.c_grammar.specs.Ways.ExpressionSteps.{read_path, read_more_arguments, read_postfix_operators, read_chain, read_binary}
 use Rattle.c_grammar.specs.Reading.{read as read_expressions}
 use Rattle.c_grammar.specs.UnitGrammar.Names.{has_typedef, declared}
 use Rattle.c_grammar.specs.UnitGrammar.Control.{are_different}
 use Rattle.c_grammar.specs.UnitGrammar.Construct.{OneStatement}
-use Rattle.c_grammar.specs.UnitGrammar.TaggedSteps.{read_enumerators, read_members, read_member_declarators}
-use Rattle.c_grammar.specs.UnitGrammar.DeclarationSteps.{read_initials, read_init_declarators}
-use Rattle.c_grammar.specs.UnitGrammar.StatementSteps.{read_statements, read_block_items}
+use Rattle.c_grammar.specs.Ways.TaggedSteps.{read_enumerators, read_members, read_member_declarators}
+use Rattle.c_grammar.specs.Ways.DeclarationSteps.{read_initials, read_init_declarators}
+use Rattle.c_grammar.specs.Ways.StatementSteps.{read_statements, read_block_items}
 use Rattle.c_grammar.specs.UnitGrammar.Reading.{read, chunk}
 
 abbrev T : Symbol

@@ -20,14 +20,14 @@ use Rattle.c_grammar.specs.Names.{Names}
 use Rattle.c_grammar.specs.Specifiers.{Place, begins_tag, goes_on, begins_specifiers}
 use Rattle.c_grammar.specs.Nonterminal.{WithName}
 use Rattle.c_grammar.specs.Grammar.{IsExpr, IsDeclarator}
-use Rattle.c_grammar.specs.DeclaratorSteps.{begins_declarator}
+use Rattle.c_grammar.specs.Ways.DeclaratorSteps.{begins_declarator}
 use Rattle.c_grammar.proofs.Front.{after_none, is_sign-true, is_keyword-true}
 use Rattle.c_grammar.proofs.Begins.{differ, wider, begins_with, begins_expression, expression_begins, expression_no_specifier, declarator_begins}
 use Rattle.c_grammar.proofs.CompleteSpecifiers.{fit_typed}
 use Rattle.c_grammar.specs.UnitGrammar.Names.{declared, makes_types}
 use Rattle.c_grammar.specs.UnitGrammar.Declarations.{IsEnumerator, IsMemberDeclarator, AreFullSpecifiers, AreFullItems, IsFullItem, IsMember, IsInitial, IsInitDeclarator, AreInitDeclarators, IsDeclaration}
 use Rattle.c_grammar.specs.UnitGrammar.Statements.{IsStatement, AreStatements}
-use Rattle.c_grammar.specs.UnitGrammar.StatementSteps.{begins_label, begins_declaration}
+use Rattle.c_grammar.specs.Ways.StatementSteps.{begins_label, begins_declaration}
 use Rattle.c_grammar.proofs.UnitGrammar.Readers.{or_first}
 
 -- What has this property isn't that punctuator, which hasn't.

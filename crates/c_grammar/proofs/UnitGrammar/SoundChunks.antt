@@ -21,7 +21,7 @@ use Rattle.c_grammar.specs.UnitGrammar.Construct.{SpecifiersIn, FunctionBody, Co
 use Rattle.c_grammar.specs.UnitGrammar.Declarations.{AreFullSpecifiers, IsDeclaration}
 use Rattle.c_grammar.specs.UnitGrammar.Control.{is_controlled}
 use Rattle.c_grammar.specs.UnitGrammar.Grammar.{may_define, IsBlock, IsBody, IsChunk, IsParse}
-use Rattle.c_grammar.specs.UnitGrammar.ChunkSteps.{read_function, read_definition, read_chunk}
+use Rattle.c_grammar.specs.Ways.ChunkSteps.{read_function, read_definition, read_chunk}
 use Rattle.c_grammar.specs.UnitGrammar.Reading.{read, chunk}
 use Rattle.c_grammar.proofs.UnitGrammar.Readers.{IsSound}
 use Rattle.c_grammar.proofs.UnitGrammar.SoundDeclarations.{declaration_rest-sound}

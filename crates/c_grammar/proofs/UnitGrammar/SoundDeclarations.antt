@@ -18,7 +18,7 @@ use Rattle.c_grammar.specs.UnitGrammar.Names.{declared, declared_name, makes_typ
 use Rattle.c_grammar.specs.UnitGrammar.Construct.{SpecifiersIn, BracedInitials, BlockDeclaration, ConstructReader}
 use Rattle.c_grammar.specs.UnitGrammar.Declarations.{has_any, AreFullSpecifiers, IsInitial, AreInitials, IsNameTree, IsInitDeclarator, AreInitDeclarators}
 use Rattle.c_grammar.specs.UnitGrammar.Grammar.{IsBracesTree}
-use Rattle.c_grammar.specs.UnitGrammar.DeclarationSteps.{read_initial, read_initials, read_braces, read_initialized, read_init_declarators, read_declaration_rest, read_declaration}
+use Rattle.c_grammar.specs.Ways.DeclarationSteps.{read_initial, read_initials, read_braces, read_initialized, read_init_declarators, read_declaration_rest, read_declaration}
 use Rattle.c_grammar.proofs.UnitGrammar.Readers.{Stands, IsSound, finish, found, with_comma, Separated, separated, Listed, listed, or_first}
 
 expression_initial : (names : Names) (e : Syntax) → IsOfBelow (Expression assignment_level) names e → IsInitial names e

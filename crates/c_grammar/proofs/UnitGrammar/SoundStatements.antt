@@ -20,7 +20,7 @@ use Rattle.c_grammar.proofs.Readers.{IsSound as IsSoundBelow}
 use Rattle.c_grammar.specs.UnitGrammar.Names.{declared}
 use Rattle.c_grammar.specs.UnitGrammar.Construct.{BlockDeclaration, OneStatement, FunctionBody, ConstructReader}
 use Rattle.c_grammar.specs.UnitGrammar.Statements.{IsMaybeExpr, takes_else, AreBlockItems, AreStatements}
-use Rattle.c_grammar.specs.UnitGrammar.StatementSteps.{begins_declaration, read_statements, read_block_items, read_block_rest, read_block, read_maybe_expr, read_condition, read_expression_statement, read_label, read_if, read_switch, read_case, read_default, read_while, read_do, read_for, read_goto, read_return, read_by_keyword, read_statement}
+use Rattle.c_grammar.specs.Ways.StatementSteps.{begins_declaration, read_statements, read_block_items, read_block_rest, read_block, read_maybe_expr, read_condition, read_expression_statement, read_label, read_if, read_switch, read_case, read_default, read_while, read_do, read_for, read_goto, read_return, read_by_keyword, read_statement}
 use Rattle.c_grammar.proofs.UnitGrammar.Readers.{Stands, IsSound, finish, Row, row}
 
 statements-sound : (inner : ConstructReader) (n : ℕ) (names : Names) (f : ℕ) (ts : List Symbol) (es : Syntaxes) (r : List Symbol)

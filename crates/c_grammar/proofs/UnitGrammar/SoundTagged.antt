@@ -15,7 +15,7 @@ use Rattle.c_grammar.specs.Specifiers.{Place, InTypeName, types}
 use Rattle.c_grammar.specs.Nonterminal.{WithName, Expression, DeclaratorIn}
 use Rattle.c_grammar.specs.Grammar.{IsItem, AreItems, AreSpecifiers, IsDeclarator}
 use Rattle.c_grammar.specs.Found.{Reader}
-use Rattle.c_grammar.specs.SpecifierSteps.{read_specifiers}
+use Rattle.c_grammar.specs.Ways.SpecifierSteps.{read_specifiers}
 use Rattle.c_grammar.proofs.Options.{bound, chosen, when}
 use Rattle.c_grammar.proofs.Front.{take_symbol_some, taken, taken_keyword}
 use Rattle.c_grammar.proofs.Readers.{IsSound as IsSoundBelow}
@@ -24,7 +24,7 @@ use Rattle.c_grammar.specs.UnitGrammar.Names.{declared}
 use Rattle.c_grammar.specs.UnitGrammar.Construct.{SpecifiersIn, TaggedType, StructMember, ConstructReader}
 use Rattle.c_grammar.specs.UnitGrammar.Declarations.{has_any, IsMaybeTag, IsEnumerator, AreEnumerators, IsMemberDeclarator, AreMemberDeclarators, makes_members, AreFullSpecifiers, AreFullItems, IsFullItem, AreMembers}
 use Rattle.c_grammar.specs.UnitGrammar.Grammar.{IsTaggedTree}
-use Rattle.c_grammar.specs.UnitGrammar.TaggedSteps.{read_enumerator, read_enumerators, read_enum_body, read_enum, read_members, read_struct_body, read_struct, read_tagged, read_member_declarator, read_member_declarators, read_declared_members, read_member}
+use Rattle.c_grammar.specs.Ways.TaggedSteps.{read_enumerator, read_enumerators, read_enum_body, read_enum, read_members, read_struct_body, read_struct, read_tagged, read_member_declarator, read_member_declarators, read_declared_members, read_member}
 use Rattle.c_grammar.proofs.UnitGrammar.Readers.{Stands, IsSound, finish, found, with_comma, Row, row, Separated, separated, Listed, listed, or_first}
 
 enumerator-sound : (reader : Reader) (n : ℕ) (names : Names) (ts : List Symbol) (e : Syntax) (r : List Symbol)

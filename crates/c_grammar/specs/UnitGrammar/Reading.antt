@@ -4,13 +4,13 @@ use Rattle.c_tree.specs.Symbol.{Symbol}
 use Rattle.c_tree.specs.Syntax.{Syntax}
 use Rattle.c_grammar.specs.Names.{Names}
 use Rattle.c_grammar.specs.Found.{◌>>=◌, Reader}
-use Rattle.c_grammar.specs.SpecifierSteps.{read_specifiers}
+use Rattle.c_grammar.specs.Ways.SpecifierSteps.{read_specifiers}
 use Rattle.c_grammar.specs.Reading.{read as read_expressions, ended}
 use Rattle.c_grammar.specs.UnitGrammar.Construct.{SpecifiersIn, TaggedType, StructMember, BracedInitials, BlockDeclaration, OneStatement, FunctionBody, ConstructReader}
-use Rattle.c_grammar.specs.UnitGrammar.TaggedSteps.{read_tagged, read_member}
-use Rattle.c_grammar.specs.UnitGrammar.DeclarationSteps.{read_braces, read_declaration}
-use Rattle.c_grammar.specs.UnitGrammar.StatementSteps.{read_block, read_statement}
-use Rattle.c_grammar.specs.UnitGrammar.ChunkSteps.{read_chunk}
+use Rattle.c_grammar.specs.Ways.TaggedSteps.{read_tagged, read_member}
+use Rattle.c_grammar.specs.Ways.DeclarationSteps.{read_braces, read_declaration}
+use Rattle.c_grammar.specs.Ways.StatementSteps.{read_block, read_statement}
+use Rattle.c_grammar.specs.Ways.ChunkSteps.{read_chunk}
 
 -- a tree of height at most m, whose expressions and declarators `reader` reads and whose other parts `inner`
 abbrev pub read_construct : Reader → ConstructReader → ℕ → ConstructReader

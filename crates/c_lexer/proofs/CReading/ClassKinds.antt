@@ -9,7 +9,7 @@ use Rattle.c_lexer.specs.CReading.Words.{word_kind}
 use Rattle.c_lexer.specs.CReading.Punctuators.{punctuator_of}
 use Rattle.c_lexer.specs.CReading.Constants.{number_kind}
 use Rattle.c_lexer.specs.CReading.Spellings.{is_word, is_number, is_literal, begins_number, literal_len, literal_kind, kind_of}
-use Rattle.c_lexer.specs.CReading.Cutting.{word_len, number_len}
+use Rattle.c_lexer.specs.Ways.Cutting.{word_len, number_len}
 use Rattle.c_lexer.proofs.CReading.Tests.{cases}
 use Rattle.c_lexer.proofs.CReading.ByteFacts.{letter_no_number, number_no_letter, quote_no_number, quote_no_word_byte}
 use Rattle.c_lexer.proofs.CReading.Classes.{word-taken, number_begins, number-taken, number-some, literal-there, literal-taken, PlainFirst, punctuator_first}

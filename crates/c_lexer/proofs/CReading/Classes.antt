@@ -11,7 +11,7 @@ use Rattle.c_tree.specs.declared.punctuator.Punctuator.{Punctuator}
 use Rattle.c_lexer.specs.CReading.Words.{find_text}
 use Rattle.c_lexer.specs.CReading.Punctuators.{punctuator_of, punctuators, singles, pairs, triples}
 use Rattle.c_lexer.specs.CReading.Spellings.{is_word, is_number, is_literal, goes_on, begins_number, literal_len}
-use Rattle.c_lexer.specs.CReading.Cutting.{word_len, number_len, punctuator_len, single_len, pair_len, triple_len}
+use Rattle.c_lexer.specs.Ways.Cutting.{word_len, number_len, punctuator_len, single_len, pair_len, triple_len}
 use Rattle.c_lexer.proofs.CReading.Tests.{cases, both, either, not_true, same, same_true}
 use Rattle.c_lexer.proofs.CReading.Runs.{prefix_passes, prefix_of_passes, run_goes, run_of_goes, run_len-le}
 use Rattle.c_lexer.proofs.CReading.Literals.{literal-append, literal-front}

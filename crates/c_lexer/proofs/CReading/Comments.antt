@@ -2,7 +2,7 @@
 use Rattle.std.proofs.Common.{◌≡◌, ℕ, true, false, ◌&&◌, eqb, List, [], ◌∷◌, ◌++◌, length, Some, inl, inr, refl, ap, sym, ◌∙◌, arith}
 use Rattle.c_lexer.specs.CReading.Bytes.{begins}
 use Rattle.c_lexer.specs.CReading.Reading.{ends_comment}
-use Rattle.c_lexer.specs.CReading.Cutting.{closing}
+use Rattle.c_lexer.specs.Ways.Cutting.{closing}
 use Rattle.c_lexer.proofs.CReading.Tests.{both, chosen, mapped, some_is, same}
 
 one_long : (xs : List ℕ) → length xs ≡ 1 → (x : ℕ) × (xs ≡ x ∷ [])

@@ -17,7 +17,7 @@ use Rattle.c_lexer.specs.CReading.Spellings.{is_word, is_number, quoted, is_lite
 use Rattle.c_lexer.specs.CReading.Markers.{Skipped, Renumbers, unescaped, behind_number, numbered, after_line_word, marker_of}
 use Rattle.c_lexer.specs.CReading.Pieces.{Space, Comment, LineComment, MarkerLine, Spelling, beginning, behind_all}
 use Rattle.c_lexer.specs.CReading.Reading.{fault_at, spelling_fault}
-use Rattle.c_lexer.specs.CReading.Cutting.{word_len, punctuator_len, spelling_len, spelling_at, comment_at, cut}
+use Rattle.c_lexer.specs.Ways.Cutting.{word_len, punctuator_len, spelling_len, spelling_at, comment_at, cut}
 use Rattle.c_lexer.specs.CReading.Strip.{group_end, group_len, asm_len, dropped_with, stripped_behind, stripped}
 use Rattle.c_lexer.specs.CReading.Chunks.{depth_at, begins_body}
 

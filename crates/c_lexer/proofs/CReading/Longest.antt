@@ -7,7 +7,7 @@ use Rattle.c_lexer.specs.CReading.Spellings.{is_word, is_number, is_literal, is_
 use Rattle.c_lexer.specs.CReading.Punctuators.{punctuator_of}
 use Rattle.c_lexer.specs.CReading.Scans.{plus}
 use Rattle.c_lexer.specs.CReading.Reading.{IsLongest}
-use Rattle.c_lexer.specs.CReading.Cutting.{word_len, number_len, punctuator_len, word_or_literal, spelling_len}
+use Rattle.c_lexer.specs.Ways.Cutting.{word_len, number_len, punctuator_len, word_or_literal, spelling_len}
 use Rattle.c_lexer.proofs.CReading.Tests.{cases, both, either, chosen, taken, mapped, same, not_zero}
 use Rattle.c_lexer.proofs.CReading.ByteFacts.{letter_no_quote, number_no_letter, quote_no_number, quote_no_word_byte}
 use Rattle.c_lexer.proofs.CReading.Classes.{word-bound, word-taken, word-le, word_first, number-bound, number-taken, number-le, number-some, number_begins-append, literal-there, literal-taken, punctuator_first, punctuator-bound, punctuator-taken}

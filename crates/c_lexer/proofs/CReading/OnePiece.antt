@@ -12,7 +12,7 @@ use Rattle.c_lexer.specs.CReading.Spellings.{is_word, is_number, is_literal, is_
 use Rattle.c_lexer.specs.CReading.Markers.{marker_of}
 use Rattle.c_lexer.specs.CReading.Pieces.{Piece, Space, Comment, LineComment, MarkerLine, Spelling, bytes_of}
 use Rattle.c_lexer.specs.CReading.Reading.{begins_comment, begins_line_comment, ends_comment, is_comment, is_one_line, at_line_end, has_markers, IsLongest, IsNext}
-use Rattle.c_lexer.specs.CReading.Cutting.{spelling_len, spelling_at, closing, comment_at, line_comment_at, marker_line, marker_at, cut}
+use Rattle.c_lexer.specs.Ways.Cutting.{spelling_len, spelling_at, closing, comment_at, line_comment_at, marker_line, marker_at, cut}
 use Rattle.c_lexer.proofs.CReading.Tests.{cases, both, either, taken, passed, same, not_true, not_zero, some_is}
 use Rattle.c_lexer.proofs.CReading.Runs.{prefix_passes, prefix_of_passes}
 use Rattle.c_lexer.proofs.CReading.Comments.{closing-append, closing-front}

@@ -5,7 +5,7 @@ use Rattle.c_lexer.specs.declared.c_reading.fault.Fault.{Fault}
 use Rattle.c_lexer.specs.declared.c_reading.mode.Mode.{Mode}
 use Rattle.c_lexer.specs.CReading.Pieces.{Piece, Space, Comment, LineComment, MarkerLine, Spelling, bytes_of, Here, beginning, behind, behind_all}
 use Rattle.c_lexer.specs.CReading.Reading.{IsNext, Cuts, IsReading, lexeme_at, lexemes, fault_at, IsFaulty}
-use Rattle.c_lexer.specs.CReading.Cutting.{cut}
+use Rattle.c_lexer.specs.Ways.Cutting.{cut}
 use Rattle.c_lexer.proofs.CReading.OnePiece.{cut-complete}
 use Rattle.c_lexer.proofs.CReading.Longest.{empty_no_spelling}
 

@@ -4,7 +4,7 @@ use Rattle.std.proofs.lemmas.Bool.Decides.{nat_tests}
 use Rattle.c_lexer.specs.CReading.Bytes.{begins}
 use Rattle.c_lexer.specs.CReading.Constants.{digit_value, value_after}
 use Rattle.c_lexer.specs.CReading.Spellings.{quoted}
-use Rattle.c_lexer.specs.CReading.Cutting.{closing}
+use Rattle.c_lexer.specs.Ways.Cutting.{closing}
 use Rattle.c_lexer.specs.CReading.Scans.{plus}
 use Rattle.std.proofs.lemmas.List.{take_all}
 use Rattle.c_lexer.proofs.CReading.Tests.{cases, unequal, same_true}

@@ -3,7 +3,7 @@ use Rattle.std.proofs.Common.{◌≡◌, ℕ, Bool, true, false, cond, eqb, ◌|
 use Rattle.std.specs.Str.{bytes_eq}
 use Rattle.std.specs.List.{list_all}
 use Rattle.c_lexer.specs.CReading.Words.{Words, find_text, special_words}
-use Rattle.c_lexer.specs.CReading.WordsByLength.{of_length, words_of}
+use Rattle.c_lexer.specs.Ways.WordsByLength.{of_length, words_of}
 use Rattle.c_lexer.proofs.CReading.Tests.{same, same_true}
 use Rattle.c_lexer.proofs.CReading.Tables.{same_bytes, not_found}
 

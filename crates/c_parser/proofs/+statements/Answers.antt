@@ -4,7 +4,7 @@ use Rattle.c_expr.proofs.Standing.{front-kept, front-reserved, made, at_passed, 
 use Rattle.c_parser.proofs.StatementStanding.{passed-symbols, passes-as, then_three, at_kept}
 use Rattle.c_grammar.specs.CPlaces.Stands.{OfNothing, OfBoth}
 use Rattle.c_tree.specs.Symbol.{symbols_of}
-use Rattle.c_grammar.specs.UnitGrammar.StatementSteps.{read_block_items}
+use Rattle.c_grammar.specs.Ways.StatementSteps.{read_block_items}
 use Rattle.c_grammar.specs.UnitGrammar.Reading.{read}
 use Rattle.c_expr.proofs.Items.{height_pushed}
 use Rattle.c_expr.proofs.StandingParts.{row-done, ending-start, height-start}

@@ -5,7 +5,7 @@ use Rattle.c_tree.specs.Forget.{view_all}
 use Rattle.c_tree.specs.Views.{nodes_in}
 use Rattle.c_grammar.specs.CPlaces.Lines.{row_line}
 use Rattle.c_grammar.specs.CPlaces.Stands.{Stands}
-use Rattle.c_grammar.specs.UnitGrammar.StatementSteps.{read_statements, read_block_items}
+use Rattle.c_grammar.specs.Ways.StatementSteps.{read_statements, read_block_items}
 use Rattle.c_grammar.specs.UnitGrammar.Reading.{read}
 use Rattle.c_expr.specs.Gives.{ending_with}
 use Rattle.c_parser.proofs.+statements.Given as goal

@@ -9,7 +9,7 @@ use Rattle.c_parser.proofs.TaggedSteps.{made-declares, declared-start, declared-
 use Rattle.c_grammar.specs.UnitGrammar.Construct.{TaggedType}
 use Rattle.c_grammar.specs.UnitGrammar.Reading.{read}
 use Rattle.c_expr.proofs.StandingParts.{row-done, ending-start, height-start, count-start}
-use Rattle.c_parser.specs.TypedOnce.{read_typed_once}
+use Rattle.c_parser.specs.Ways.TypedOnce.{read_typed_once}
 use Rattle.c_parser.proofs.TypedOnce.{once-next, plain-next}
 use Rattle.c_grammar.specs.CPlaces.Stands.{OfKept, OfPlace, OfBoth}
 use Rattle.c_tree.specs.Views.{maybe_token, nodes_of}
@@ -17,7 +17,7 @@ use Rattle.c_parser.proofs.DeclarationPlaces.{declares}
 use Rattle.c_parser.proofs.TaggedPlaces.{bare-opens, tag-opens, struct-behind, stands-same}
 use Rattle.std.specs.Option.{option_map}
 use Rattle.c_tree.specs.Tokens.{word_of}
-use Rattle.c_grammar.specs.UnitGrammar.TaggedSteps.{read_members}
+use Rattle.c_grammar.specs.Ways.TaggedSteps.{read_members}
 use Rattle.c_parser.proofs.ListSteps.{members-next}
 use Rattle.c_expr.specs.Gives.{Gives}
 use Rattle.c_parser.proofs.+tags.Goals as goal

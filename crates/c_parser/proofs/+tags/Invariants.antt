@@ -9,8 +9,8 @@ use Rattle.c_grammar.specs.UnitGrammar.Construct.{TaggedType}
 use Rattle.c_grammar.specs.UnitGrammar.Names.{declared_by_all}
 use Rattle.c_grammar.specs.UnitGrammar.Reading.{read}
 use Rattle.c_expr.specs.Gives.{ending_with, count_in}
-use Rattle.c_parser.specs.TypedOnce.{read_typed_once}
-use Rattle.c_grammar.specs.UnitGrammar.TaggedSteps.{read_members}
+use Rattle.c_parser.specs.Ways.TypedOnce.{read_typed_once}
+use Rattle.c_grammar.specs.Ways.TaggedSteps.{read_members}
 use Rattle.c_parser.proofs.+tags.Given as goal
 
 abbrev pub decreases-specifiers::specifiers_in_front : goal.decreases-specifiers::specifiers_in_front

@@ -7,7 +7,7 @@ use Rattle.c_tree.specs.declared.place.Place.{Place}
 use Rattle.c_tree.specs.declared.token.Token.{Token}
 use Rattle.typed_unit.specs.Texts.{Text}
 use Rattle.command.specs.JudgedFiles.Linking.{HaveToken, IsWhere}
-use Rattle.request_files.specs.Stages.{AreNamed, IsNamed}
+use Rattle.request_files.specs.Ways.Stages.{AreNamed, IsNamed}
 use Rattle.request_files.specs.Views.{text_of, texts_of}
 use Rattle.typed_unit.specs.declared.typed_unit.TypedUnit.{TypedUnit}
 

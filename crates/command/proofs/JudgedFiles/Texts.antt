@@ -18,7 +18,7 @@ use Rattle.request_files.proofs.Unique.NamesStay.{AreKept, tokens_keep}
 use Rattle.request_files.specs.Faults.{Before}
 use Rattle.request_files.specs.Meanings.{HaveTexts, IsSource}
 use Rattle.request_files.specs.Reading.{AreSoundFrom, AreSound, at_first}
-use Rattle.request_files.specs.Stages.{AreNamed}
+use Rattle.request_files.specs.Ways.Stages.{AreNamed}
 use Rattle.request_files.specs.Turns.{Turn}
 
 -- a token of these, in this file, with a presumed file that names have

@@ -1,5 +1,5 @@
 -- What a run is due is given by the words, the contents of the files that are read and the read that failed; and it is what a run does.
-use Rattle.std.proofs.Common.{◌≡◌, ◌≢◌, ◌⊎◌, inl, inr, ℕ, ◌+◌, List, [], ◌∷◌, ◌++◌, length, Option, None, Some, refl, sym, ap, ◌∙◌, subst, arith, length-append}
+use Rattle.std.proofs.Common.{◌≡◌, ◌⊎◌, inl, inr, ℕ, ◌+◌, List, [], ◌∷◌, ◌++◌, length, Option, None, Some, sym, ap, ◌∙◌, subst, arith, length-append}
 use Rattle.std.proofs.lemmas.List.{append_cancel_left}
 use Rattle.command_words.proofs.Generations.{one_generation}
 use Rattle.report_model.specs.declared.report.Report.{Report}
@@ -7,14 +7,15 @@ use Rattle.request_files.specs.Faults.{refused_line}
 use Rattle.request_files.specs.Telling.{may_hold, surely_holds}
 use Rattle.command.specs.Checker.{free_text}
 use Rattle.command.specs.Commands.{Command, checkers_of, sources_of}
-use Rattle.command.specs.Due.{not_read_line, IsReported, IsRefused, IsLacking, IsDueFor, IsMeasuredAs, IsDueForCount, IsDue}
+use Rattle.command.specs.Due.{not_read_line, IsDueFor, IsMeasuredAs, IsDue}
 use Rattle.command.specs.GeneratedProgram.Generated.{generated}
 use Rattle.command.specs.Measured.{checker_name, measure_line, program_name}
 use Rattle.command.specs.Ran.{DidAs, Ran, ReporterStep}
 use Rattle.command.specs.Rendered.{IsText}
 use Rattle.command.specs.Written.{Fits, SinkStep, Written}
 use Rattle.command.specs.declared.status.Status.{Status}
-use Rattle.command.specs.declared.status.Status.TheVariants.{Clean, Reports, Usage, Refused, ReadFault, WriteFault, NoMemory}
+use Rattle.command.specs.declared.status.Status.TheVariants.{NoMemory}
+use Rattle.command.specs.Statuses.{status_of}
 use Rattle.command.proofs.GivenCommands.{command_alone, one_command}
 use Rattle.command.proofs.Unique.OneAnswer.{may_surely, never_both, one_accepted, one_first_fault, one_judged, surely_may}
 
@@ -25,34 +26,6 @@ one_text : (place : Option ℕ) (renderings : List (List ℕ)) (reports : List R
 one_text None renderings reports a b h k = h ∙ sym k
 one_text (Some place) renderings reports a b h k = some_is a b (sym h ∙ k)
 
--- ---- what is asked of the reports is their status
-
-abbrev IsOfStatus : Status → List Report → Type 0
-IsOfStatus Clean reports = reports ≡ []
-IsOfStatus Reports reports = reports ≢ []
-IsOfStatus _ reports = ⊥
-
-one_status : (s z : Status) (reports : List Report) → IsOfStatus s reports → IsOfStatus z reports → s ≡ z
-one_status Clean Clean reports a b = refl
-one_status Clean Reports reports a b = absurd (b a)
-one_status Clean Usage reports a b = absurd b
-one_status Clean Refused reports a b = absurd b
-one_status Clean ReadFault reports a b = absurd b
-one_status Clean WriteFault reports a b = absurd b
-one_status Clean NoMemory reports a b = absurd b
-one_status Reports Clean reports a b = absurd (a b)
-one_status Reports Reports reports a b = refl
-one_status Reports Usage reports a b = absurd b
-one_status Reports Refused reports a b = absurd b
-one_status Reports ReadFault reports a b = absurd b
-one_status Reports WriteFault reports a b = absurd b
-one_status Reports NoMemory reports a b = absurd b
-one_status Usage z reports a b = absurd a
-one_status Refused z reports a b = absurd a
-one_status ReadFault z reports a b = absurd a
-one_status WriteFault z reports a b = absurd a
-one_status NoMemory z reports a b = absurd a
-
 longer : (old : List (List ℕ)) (w : List ℕ) → old ≡ old ++ w ∷ [] → ⊥
 longer old w e = absurd (omega (arith, ap length e, length-append old (w ∷ [])))
 
@@ -60,56 +33,31 @@ module _ (told : List ℕ → Option (List ℕ)) (rendered : List Report → Lis
   abbrev Same : Status → Status → List ℕ → List ℕ → List ℕ → List ℕ → Type 0
   Same s z t u l m = (s ≡ z) × (t ≡ u) × (l ≡ m)
 
-  data Sorted (H : List ℕ → List ℕ → Type 0) (c : Command) (s : Status) (t l : List ℕ) : Type 0 where
-    Told : IsReported H c rendered old new t l (IsOfStatus s) → Sorted H c s t l
-    Bad : s ≡ Refused → IsRefused H c old new t l → Sorted H c s t l
-    Lost : s ≡ ReadFault → IsLacking H c old new t l → Sorted H c s t l
-
-  sorted : (H : List ℕ → List ℕ → Type 0) (c : Command) (s : Status) (t l : List ℕ) → IsDueFor H c rendered old new s t l → Sorted H c s t l
-  sorted H c Clean t l d = Told d
-  sorted H c Reports t l d = Told d
-  sorted H c Usage t l d = absurd d
-  sorted H c Refused t l d = Bad refl d
-  sorted H c ReadFault t l d = Lost refl d
-  sorted H c WriteFault t l d = absurd d
-  sorted H c NoMemory t l d = absurd d
-
-  one_sorted : (c : Command) (s z : Status) (t u l m : List ℕ) → Sorted (surely_holds told) c s t l → Sorted (may_hold told) c z u m → Same s z t u l m
-  one_sorted c s z t u l m (Told a) (Told b) =
+  one_for : (c : Command) (s z : Status) (t u l m : List ℕ) → IsDueFor (surely_holds told) c rendered old new s t l → IsDueFor (may_hold told) c rendered old new z u m → Same s z t u l m
+  one_for c s z t u l m (inl a) (inl b) =
       let r = one_accepted (surely_holds told) (may_hold told) (surely_may told) (checkers_of c) (sources_of c) c.depth a.reports b.reports a.accepted b.accepted in
-      let x : IsOfStatus s b.reports = subst (IsOfStatus s) r a.asked in
       let y : IsText c.place (rendered b.reports) b.reports t = subst (λ rs. IsText c.place (rendered rs) rs t) r a.text_is in
-      (one_status s z b.reports x b.asked, one_text c.place (rendered b.reports) b.reports t u y b.text_is, a.line_is ∙ sym b.line_is)
-  one_sorted c s z t u l m (Told a) (Bad e b) = absurd (never_both (may_hold told) (surely_holds told) (may_surely told) (checkers_of c) (sources_of c) c.depth a.reports b.fault b.first a.accepted)
-  one_sorted c s z t u l m (Bad e a) (Told b) = absurd (never_both (surely_holds told) (may_hold told) (surely_may told) (checkers_of c) (sources_of c) c.depth b.reports a.fault a.first b.accepted)
-  one_sorted c s z t u l m (Told a) (Lost e b) = absurd (longer old b.failed.is_turn.turn.word (sym a.none_failed ∙ b.failed.grew))
-  one_sorted c s z t u l m (Lost e a) (Told b) = absurd (longer old a.failed.is_turn.turn.word (sym b.none_failed ∙ a.failed.grew))
-  one_sorted c s z t u l m (Bad e a) (Bad f b) =
+      (a.status_is ∙ ap status_of r ∙ sym b.status_is, one_text c.place (rendered b.reports) b.reports t u y b.text_is, a.line_is ∙ sym b.line_is)
+  one_for c s z t u l m (inl a) (inr (inl b)) = absurd (never_both (may_hold told) (surely_holds told) (may_surely told) (checkers_of c) (sources_of c) c.depth a.reports b.fault b.first a.accepted)
+  one_for c s z t u l m (inr (inl a)) (inl b) = absurd (never_both (surely_holds told) (may_hold told) (surely_may told) (checkers_of c) (sources_of c) c.depth b.reports a.fault a.first b.accepted)
+  one_for c s z t u l m (inl a) (inr (inr b)) = absurd (longer old b.failed.is_turn.turn.word (sym a.none_failed ∙ b.failed.grew))
+  one_for c s z t u l m (inr (inr a)) (inl b) = absurd (longer old a.failed.is_turn.turn.word (sym b.none_failed ∙ a.failed.grew))
+  one_for c s z t u l m (inr (inl a)) (inr (inl b)) =
       let r = one_first_fault (surely_holds told) (may_hold told) (surely_may told) (checkers_of c) (sources_of c) a.fault b.fault a.first b.first in
-      (e ∙ sym f, a.text_is ∙ sym b.text_is, a.line_is ∙ ap refused_line r ∙ sym b.line_is)
-  one_sorted c s z t u l m (Bad e a) (Lost f b) = absurd (longer old b.failed.is_turn.turn.word (sym a.none_failed ∙ b.failed.grew))
-  one_sorted c s z t u l m (Lost e a) (Bad f b) = absurd (longer old a.failed.is_turn.turn.word (sym b.none_failed ∙ a.failed.grew))
-  one_sorted c s z t u l m (Lost e a) (Lost f b) =
+      (a.status_is ∙ sym b.status_is, a.text_is ∙ sym b.text_is, a.line_is ∙ ap refused_line r ∙ sym b.line_is)
+  one_for c s z t u l m (inr (inl a)) (inr (inr b)) = absurd (longer old b.failed.is_turn.turn.word (sym a.none_failed ∙ b.failed.grew))
+  one_for c s z t u l m (inr (inr a)) (inr (inl b)) = absurd (longer old a.failed.is_turn.turn.word (sym b.none_failed ∙ a.failed.grew))
+  one_for c s z t u l m (inr (inr a)) (inr (inr b)) =
       let v = a.failed.is_turn.turn.word in
       let w = b.failed.is_turn.turn.word in
       let g : v ∷ [] ≡ w ∷ [] = append_cancel_left old (v ∷ []) (w ∷ []) (sym a.failed.grew ∙ b.failed.grew) in
       let h : v ≡ w = cc in
-      (e ∙ sym f, a.text_is ∙ sym b.text_is, a.line_is ∙ ap not_read_line h ∙ sym b.line_is)
+      (a.status_is ∙ sym b.status_is, a.text_is ∙ sym b.text_is, a.line_is ∙ ap not_read_line h ∙ sym b.line_is)
 
-  count_sorted : (n : ℕ) (s : Status) (t l : List ℕ) → IsDueForCount n s t l → IsMeasuredAs n t l (IsOfStatus s)
-  count_sorted n Clean t l d = d
-  count_sorted n Reports t l d = d
-  count_sorted n Usage t l d = absurd d
-  count_sorted n Refused t l d = absurd d
-  count_sorted n ReadFault t l d = absurd d
-  count_sorted n WriteFault t l d = absurd d
-  count_sorted n NoMemory t l d = absurd d
-
-  one_measure : (n : ℕ) (s z : Status) (t u l m : List ℕ) → IsMeasuredAs n t l (IsOfStatus s) → IsMeasuredAs n u m (IsOfStatus z) → Same s z t u l m
+  one_measure : (n : ℕ) (s z : Status) (t u l m : List ℕ) → IsMeasuredAs n s t l → IsMeasuredAs n z u m → Same s z t u l m
   one_measure n s z t u l m a b =
       let r = one_judged (checker_name ∷ []) (program_name ∷ []) (free_text ∷ generated n ∷ []) 4 a.reports b.reports a.measured b.measured in
-      let x : IsOfStatus s b.reports = subst (IsOfStatus s) r a.asked in
-      (one_status s z b.reports x b.asked, a.text_is ∙ ap (measure_line n) r ∙ sym b.text_is, a.line_is ∙ sym b.line_is)
+      (a.status_is ∙ ap status_of r ∙ sym b.status_is, a.text_is ∙ ap (measure_line n) r ∙ sym b.text_is, a.line_is ∙ sym b.line_is)
 
   module _ (words called : List (List ℕ)) where
     -- ONE STATUS, one text and one line
@@ -121,14 +69,14 @@ module _ (told : List ℕ → Option (List ℕ)) (rendered : List Report → Lis
     one_due s z t u l m (inr (inl a)) (inr (inl b)) =
         let c = one_command words called a.command b.command a.given b.given in
         let d : IsDueFor (surely_holds told) b.command rendered old new s t l = subst (λ (x : Command). IsDueFor (surely_holds told) x rendered old new s t l) c a.due in
-        one_sorted b.command s z t u l m (sorted (surely_holds told) b.command s t l d) (sorted (may_hold told) b.command z u m b.due)
+        one_for b.command s z t u l m d b.due
     one_due s z t u l m (inr (inl a)) (inr (inr b)) = absurd (command_alone words called a.command a.given b.count b.is_generation)
     one_due s z t u l m (inr (inr a)) (inl b) = absurd (b.none.no_generation a.count a.is_generation)
     one_due s z t u l m (inr (inr a)) (inr (inl b)) = absurd (command_alone words called b.command b.given a.count a.is_generation)
     one_due s z t u l m (inr (inr a)) (inr (inr b)) =
         let n = one_generation words a.count b.count a.is_generation b.is_generation in
-        let d : IsDueForCount b.count s t l = subst (λ x. IsDueForCount x s t l) n a.due in
-        one_measure b.count s z t u l m (count_sorted b.count s t l d) (count_sorted b.count z u m b.due)
+        let d : IsMeasuredAs b.count s t l = subst (λ x. IsMeasuredAs x s t l) n a.due in
+        one_measure b.count s z t u l m d b.due
 
 -- WHAT IS DUE IS DONE
 pub determined : (told : List ℕ → Option (List ℕ)) (words : List (List ℕ)) (r : ReporterStep) (old new : List (List ℕ)) (result : Status) (out errs : SinkStep) (status : Status) (text line : List ℕ)

@@ -9,7 +9,7 @@ use Rattle.call_graph.specs.OfPrograms.Repeats.{link_fault}
 use Rattle.mx_io.specs.Bytes.{Bytes, Words}
 use Rattle.command.specs.JudgedFiles.Judged.{HaveMeanings}
 use Rattle.request_files.specs.Faults.{Located}
-use Rattle.request_files.specs.Stages.{AreNamed}
+use Rattle.request_files.specs.Ways.Stages.{AreNamed}
 use Rattle.request_files.specs.declared.fault.Fault.TheVariants.{DuplicateFunction}
 
 -- this presumed file and line are those of a place in these texts: of the token that stands there

@@ -6,7 +6,7 @@ use Rattle.c_grammar.specs.Symbols.{after_sign}
 use Rattle.c_grammar.specs.Found.{◌>>=◌, if_there}
 use Rattle.metal_grammar.specs.Words.{Literal}
 use Rattle.metal_grammar.specs.Written.{Row}
-use Rattle.metal_grammar.specs.Steps.{take_literal, more_literals, read_literals, read_identifier, read_identifiers}
+use Rattle.metal_grammar.specs.Ways.Steps.{take_literal, more_literals, read_literals, read_identifier, read_identifiers}
 use Rattle.metal_written.specs.Written.{row_from, no_literal}
 use Rattle.c_grammar.proofs.Options.{parts}
 use Rattle.metal_written.proofs.Rows.{behind_all, behind-push, behind-lone}

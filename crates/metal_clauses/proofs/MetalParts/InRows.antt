@@ -8,7 +8,7 @@ use Rattle.c_expr.specs.declared.fault.ExprFault.TheVariants.{NoTree}
 use Rattle.c_grammar.specs.Symbols.{after_sign}
 use Rattle.c_grammar.specs.Found.{◌>>=◌, if_there}
 use Rattle.metal_grammar.specs.Written.{Row, lone, row}
-use Rattle.metal_grammar.specs.Steps.{Step, read_row}
+use Rattle.metal_grammar.specs.Ways.Steps.{Step, read_row}
 use Rattle.metal_clauses.specs.MetalParts.Given.{Gives}
 use Rattle.metal_written.specs.Written.{row_from}
 use Rattle.metal_written.proofs.Rows.{ending_with, behind-push, behind-lone}

@@ -6,9 +6,9 @@ use Rattle.c_tree.specs.Symbol.{Symbol, symbols_of}
 use Rattle.c_grammar.specs.Symbols.{is_sign, take_symbol, run_of, after_run}
 use Rattle.c_grammar.specs.Found.{if_there}
 use Rattle.metal_grammar.specs.Written.{WrittenType, BasicType}
-use Rattle.metal_grammar.specs.Steps.{is_type_symbol, keyword_in, type_with_stars, read_type}
+use Rattle.metal_grammar.specs.Ways.Steps.{is_type_symbol, keyword_in, type_with_stars, read_type}
 use Rattle.metal_tree.specs.MetalMachines.Kept.{all_of}
-use Rattle.metal_clauses.specs.MetalParts.Steps.{named_type}
+use Rattle.metal_clauses.specs.Ways.Steps.{named_type}
 
 -- each symbol of a run is one of it
 run-all : (is : Symbol → Bool) (ts : List Symbol) → all_of is (run_of is ts) ≡ true

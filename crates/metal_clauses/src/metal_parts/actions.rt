@@ -2,10 +2,10 @@
 
 ghost use Rattle.std.specs.Prelude.{◌≡◌, ◌<◌, ◌≤◌, length, suc, IfOk, IfSome};
 ghost use Rattle.c_tree.specs.Symbol.{symbols_of};
-ghost use Rattle.metal_grammar.specs.Steps as steps;
+ghost use Rattle.metal_grammar.specs.Ways.Steps as steps;
 ghost use Rattle.metal_clauses.specs.MetalParts.Given.{Finds, Gives, same};
 ghost use Rattle.metal_written.specs.Written.{literals_row, identifier_view, identifiers_view, action_view, maybe_action_view};
-ghost use Rattle.metal_clauses.specs.MetalParts.Steps.{action_opening, action_closing};
+ghost use Rattle.metal_clauses.specs.Ways.Steps.{action_opening, action_closing};
 
 use crate::metal_parts::front::{behind_sign, has_sign, take_literal, take_word};
 use bumpalo::collections::into_bump_slice;

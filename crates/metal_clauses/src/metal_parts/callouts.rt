@@ -2,10 +2,10 @@
 
 ghost use Rattle.std.specs.Prelude.{◌≤◌, length, IfSome};
 ghost use Rattle.c_tree.specs.Symbol.{symbols_of};
-ghost use Rattle.metal_grammar.specs.Steps as steps;
+ghost use Rattle.metal_grammar.specs.Ways.Steps as steps;
 ghost use Rattle.metal_clauses.specs.MetalParts.Given.{Finds};
 ghost use Rattle.metal_written.specs.Written.{argument_view, maybe_literal_view, callout_view};
-ghost use Rattle.metal_clauses.specs.MetalParts.Steps.{callout_behind};
+ghost use Rattle.metal_clauses.specs.Ways.Steps.{callout_behind};
 
 use crate::metal_parts::front::{take_integer, take_literal, take_word};
 use c_expr::after_sign;

@@ -6,7 +6,7 @@ ghost use Rattle.c_tree.specs.Phrase.{◌⨾◌};
 ghost use Rattle.c_tree.specs.declared.punctuator.Punctuator.TheVariants as marks;
 ghost use Rattle.metal_grammar.specs.Phrases.{word, maybe_phrase, type_phrase};
 ghost use Rattle.metal_grammar.specs.Rules.{size};
-ghost use Rattle.metal_grammar.specs.Steps as steps;
+ghost use Rattle.metal_grammar.specs.Ways.Steps as steps;
 ghost use Rattle.metal_clauses.specs.MetalParts.Given.{Gives};
 ghost use Rattle.metal_written.specs.Written.{type_view, name_row, declaration_view};
 

@@ -2,7 +2,7 @@
 
 ghost use Rattle.c_tree.specs.Symbol.{symbols_of};
 ghost use Rattle.std.specs.Prelude.{◌≡◌, ◌≤◌, length, IfSome};
-ghost use Rattle.metal_grammar.specs.Steps as steps;
+ghost use Rattle.metal_grammar.specs.Ways.Steps as steps;
 ghost use Rattle.metal_clauses.specs.MetalParts.Given.{Finds};
 ghost use Rattle.metal_written.specs.Written.{destination_view};
 

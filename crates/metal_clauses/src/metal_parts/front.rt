@@ -3,7 +3,7 @@
 ghost use Rattle.std.specs.Prelude.{◌≡◌, ◌+◌, ◌≤◌, length, IfSome};
 ghost use Rattle.c_tree.specs.Symbol.{symbols_of};
 ghost use Rattle.c_grammar.specs.Symbols.{take_symbol};
-ghost use Rattle.metal_grammar.specs.Steps as steps;
+ghost use Rattle.metal_grammar.specs.Ways.Steps as steps;
 ghost use Rattle.metal_clauses.specs.MetalParts.Given.{Finds, same, token_symbol};
 ghost use Rattle.metal_written.specs.Written.{literal_view};
 

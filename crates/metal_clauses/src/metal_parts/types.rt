@@ -4,9 +4,9 @@ ghost use Rattle.std.specs.Prelude.{◌≡◌, ◌+◌, ◌<◌, ◌≤◌, ◌^
 ghost use Rattle.c_tree.specs.Symbol.{symbol_of, symbols_of};
 ghost use Rattle.c_tree.specs.declared.punctuator.Punctuator.TheVariants as marks;
 ghost use Rattle.c_grammar.specs.Symbols.{is_sign, run_of, after_run};
-ghost use Rattle.metal_grammar.specs.Steps as steps;
+ghost use Rattle.metal_grammar.specs.Ways.Steps as steps;
 ghost use Rattle.metal_clauses.specs.MetalParts.Given.{Finds};
-ghost use Rattle.metal_clauses.specs.MetalParts.Steps.{named_type};
+ghost use Rattle.metal_clauses.specs.Ways.Steps.{named_type};
 ghost use Rattle.metal_written.specs.Written.{type_view};
 ghost use Rattle.metal_written.specs.TypeWords.{has_type_words};
 

@@ -6,7 +6,7 @@ use Rattle.c_tree.specs.declared.token.Token.{Token}
 use Rattle.c_tree.specs.Symbol.{symbol_of, symbols_of}
 use Rattle.metal_tree.specs.MetalMachines.Machine as machines
 use Rattle.metal_grammar.specs.Holes as holes
-use Rattle.metal_grammar.specs.Steps.{keyword_in}
+use Rattle.metal_grammar.specs.Ways.Steps.{keyword_in}
 use Rattle.metal_tree.specs.Views.{starred}
 use Rattle.metal_written.proofs.Rows.{members-row}
 

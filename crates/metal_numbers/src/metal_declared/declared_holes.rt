@@ -4,7 +4,7 @@ ghost use Rattle.std.specs.Prelude.{◌≡◌, ◌++◌, ◌∷◌, [], IfOk, ma
 ghost use Rattle.c_tree.specs.Symbol.{symbol_of, symbols_of};
 ghost use Rattle.metal_grammar.specs.Holes as grammar;
 ghost use Rattle.metal_grammar.specs.Rules as rules;
-ghost use Rattle.metal_grammar.specs.Steps.{keyword_in};
+ghost use Rattle.metal_grammar.specs.Ways.Steps.{keyword_in};
 ghost use Rattle.metal_written.specs.Kinds.{kind_type};
 ghost use Rattle.metal_written.specs.Written.{type_view, declaration_view, content_view, clause_views};
 ghost use Rattle.metal_tree.specs.Views.{hole_type_view};

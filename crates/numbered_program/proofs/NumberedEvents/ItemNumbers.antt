@@ -15,7 +15,7 @@ use Rattle.numbered_program.specs.NumberedTuples.ObjectStates.{number_of_state}
 use Rattle.objects.specs.Equality.{same_object, same_object-refl, same_object-true}
 use Rattle.path_model.specs.CheckerModel.Choices.{State}
 use Rattle.row_flows.specs.Numbers.{is_own, item_numbered}
-use Rattle.state_tuples.specs.Equality.{states_agree}
+use Rattle.state_tuples.specs.Ways.Equality.{states_agree}
 
 -- ---- a number that has an item isn't 0
 

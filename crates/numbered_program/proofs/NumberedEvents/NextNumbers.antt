@@ -22,7 +22,7 @@ use Rattle.row_flows.specs.declared.rows.Applied as rows
 use Rattle.row_flows.specs.declared.rows.EventRow.{EventRow}
 use Rattle.row_flows.specs.declared.tuples.NumberedTuple.{NumberedTuple}
 use Rattle.state_tuples.specs.AppliedRules.Applied.{Applied}
-use Rattle.state_tuples.specs.AppliedRules.Firsts.{rule_taken}
+use Rattle.state_tuples.specs.Ways.Firsts.{rule_taken}
 use Rattle.state_tuples.specs.RuleChoices.Asked.{GlobalState, ObjectIn}
 use Rattle.type_rules.specs.Options.{if_there}
 

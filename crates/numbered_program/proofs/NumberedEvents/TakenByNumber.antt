@@ -19,7 +19,7 @@ use Rattle.row_flows.specs.Numbers.{item_numbered}
 use Rattle.row_flows.specs.declared.rows.Applied as row
 use Rattle.row_flows.specs.declared.tuples.NumberedTuple.{NumberedTuple}
 use Rattle.state_tuples.specs.AppliedRules.Applied.{Applied}
-use Rattle.state_tuples.specs.AppliedRules.Firsts as rule
+use Rattle.state_tuples.specs.Ways.Firsts as rule
 use Rattle.state_tuples.specs.RuleChoices.Asked.{GlobalState, ObjectIn}
 use Rattle.type_rules.specs.Options.{if_there}
 

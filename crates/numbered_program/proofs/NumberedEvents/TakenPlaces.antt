@@ -22,7 +22,7 @@ use Rattle.row_flows.specs.declared.rows.EventRow.{EventRow}
 use Rattle.row_flows.specs.declared.tuples.NumberedTuple.{NumberedTuple}
 use Rattle.state_tuples.proofs.AppliedRules.MatchedOnce.{matched_once}
 use Rattle.state_tuples.specs.AppliedRules.Applied.{Applied, applied_at}
-use Rattle.state_tuples.specs.AppliedRules.Firsts.{rule_taken, takes}
+use Rattle.state_tuples.specs.Ways.Firsts.{rule_taken, takes}
 use Rattle.state_tuples.specs.RuleChoices.Asked.{Asker, GlobalState, ObjectIn, asked_rule}
 
 module _ (c : Checker) (h : Happening) (f : Function) where

@@ -7,12 +7,12 @@ use Rattle.std.proofs.lemmas.List.{length-append, take_more}
 use Rattle.std.proofs.lemmas.List.Elements.{Contains-append_left, Contains-push, Contains-push_cases}
 use Rattle.indexmap.specs.IndexSet.{insert_key}
 use Rattle.least_set.specs.Logs.{Adds}
-use Rattle.least_set.specs.Same.{same_pair}
+use Rattle.least_set.specs.Ways.Same.{same_pair}
 use Rattle.least_set.proofs.Growing.{adds_one, adds_both}
 use Rattle.metal_tree.specs.MetalMachines.Machine.{Source, FromGlobal, FromObject, Target, ToGlobal, ToObject, ToUnknown, Dest, Always, ByTruth, Rule}
 use Rattle.numbered_program.specs.NumberedTuples.ObjectStates.{state_of_source, state_of_target, states_of_dest, states_of_rule, states_of_rules}
 use Rattle.path_model.specs.CheckerModel.Choices.{State}
-use Rattle.state_tuples.specs.Equality.{states_agree}
+use Rattle.state_tuples.specs.Ways.Equality.{states_agree}
 
 few_together : {A : Type 0} (xs ys : List A) (n m : ℕ) → length xs ≤ n → length ys ≤ m → length (xs ++ ys) ≤ n + m
 few_together xs ys n m h k = omega (arith, h, k, length-append xs ys)

@@ -4,7 +4,7 @@ use Rattle.std.specs.Prelude.{ℕ, List, [], ◌∷◌, ◌++◌, flat_map}
 use Rattle.metal_tree.specs.MetalMachines.Machine.{Source, FromGlobal, FromObject, Target, ToGlobal, ToObject, ToUnknown, Dest, Always, ByTruth, Rule}
 use Rattle.numbered_program.specs.NumberedTuples.Numbers.{number_by}
 use Rattle.path_model.specs.CheckerModel.Choices.{State}
-use Rattle.state_tuples.specs.Equality.{states_agree}
+use Rattle.state_tuples.specs.Ways.Equality.{states_agree}
 
 abbrev pub state_of_source : Source → List State
 state_of_source (FromGlobal q) = []

@@ -1,5 +1,5 @@
 -- What is computed of a return is what is handed back.
-use Rattle.std.proofs.Common.{arith, ◌≡◌, ◌↔◌, ◌≤◌, inl, inr, ℕ, zero, suc, List, [], ◌∷◌, slice_get, Bool, true, false, cond, Option, None, Some, refl, sym, ap, ◌∙◌, subst}
+use Rattle.std.proofs.Common.{arith, ◌≡◌, ◌↔◌, ◌≤◌, inl, inr, ℕ, zero, suc, List, [], ◌∷◌, slice_get, Bool, true, cond, Option, None, Some, refl, sym, ap, ◌∙◌, subst}
 use Rattle.std.proofs.lemmas.Option.{none-some, same_Some}
 use Rattle.c_objects.specs.Objects.{Object, IsObject, path, are_static, is_static}
 use Rattle.c_objects.specs.Paths.{rebase}

@@ -1,5 +1,5 @@
 -- These theorems as statements, which contracts can name.
-use Rattle.std.specs.Prelude.{List, Option}
+use Rattle.std.specs.Prelude.{◌⊎◌, ◌↔◌, ◌<◌, ℕ, List, Option}
 use Rattle.c_objects.specs.Objects.{Object, IsObject}
 use Rattle.c_tree.specs.Node.{Node}
 use Rattle.path_model.specs.CheckerModel.Calls.{HandsBack}
@@ -9,7 +9,9 @@ use Rattle.path_model.specs.CheckerModel.Happenings.{Function}
 use Rattle.path_model.specs.CheckerModel.Reports.{Checker}
 use Rattle.path_model.specs.CheckerPrograms.Paths.{program}
 use Rattle.path_model.specs.CheckerPrograms.Relevant.{Relevant, Followed}
+use Rattle.path_model.specs.CheckerPrograms.Roots.{IsRoot, IsUncalled, Leads, Remains}
 use Rattle.path_model.specs.CheckerPrograms.Texts.{site}
+use Rattle.metal_tree.specs.MetalMachines.Machine.{Machine}
 use Rattle.typed_unit.specs.Texts.{Text}
 use Rattle.path_theory.specs.Relevant.{IsClosed}
 
@@ -32,3 +34,8 @@ FollowedObjectsAreRelevant = (c : Checker) (ts : List Text) (f : Function) (o : 
 abbrev pub CallsHandBackWhatBecomes : Type 0
 CallsHandBackWhatBecomes = (c : Checker) (ts : List Text) (f : Function) (call : Node) (callee caller : Object → Option State)
     → HandsBack c.depth (site c.depth ts f call) callee caller ((model c).returned (site c.depth ts f call) callee caller)
+
+-- A root is a function that no followed call leads to; or one that remains behind these and the roots before it, which is the first that does.
+abbrev pub RootsAreUncalledOrRemain : Type 0
+RootsAreUncalledOrRemain = (m : Machine) (ts : List Text) (f : ℕ) → IsRoot (Leads m ts) f
+    ↔ (IsUncalled (Leads m ts) f ⊎ Remains (Leads m ts) (λ g. IsUncalled (Leads m ts) g ⊎ ((g < f) × IsRoot (Leads m ts) g)) f)

@@ -13,7 +13,7 @@ use Rattle.path_model.specs.CheckerModel.Happenings.{Site}
 use Rattle.path_model.proofs.CheckerModel.Reaching.{reaches}
 use Rattle.path_model.proofs.CheckerModel.Sources.{given, tested, first-object, behind-are}
 use Rattle.refine_restore.specs.HandedObjects.Handed.{AreEntered, AreHanded}
-use Rattle.refine_restore.specs.HandedObjects.Takers.{origin, is_this, is_taker, candidate, candidates, takers}
+use Rattle.refine_restore.specs.Ways.Takers.{origin, is_this, is_taker, candidate, candidates, takers}
 use Rattle.refine_restore.specs.declared.handed_objects.ends.End.{End}
 use Rattle.refine_restore.specs.declared.handed_objects.ends.End.TheVariants as end
 use Rattle.refine_restore.proofs.HandedObjects.Gathering.{none-kept, gathered-kept, gathered-new}

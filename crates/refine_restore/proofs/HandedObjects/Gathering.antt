@@ -3,7 +3,7 @@ use Rattle.std.proofs.Common.{◌≡◌, ◌⊎◌, inl, inr, List, [], ◌∷�
 use Rattle.c_objects.specs.Objects.{Object}
 use Rattle.flow_graph.specs.CPaths.Membership.{Among}
 use Rattle.path_model.specs.CheckerModel.Distinct.{AreDistinct}
-use Rattle.refine_restore.specs.HandedObjects.Takers.{is_listed, with_one, gathered}
+use Rattle.refine_restore.specs.Ways.Takers.{is_listed, with_one, gathered}
 use Rattle.objects.specs.Equality.{same_object, same_object-true, same_object-refl}
 
 -- ---- one of a list

@@ -10,7 +10,7 @@ use Rattle.c_tree.specs.Views.{node_of, nodes_in}
 use Rattle.type_values.specs.declared.vars.Var.{Var}
 use Rattle.type_values.specs.Vars.{cvar_of}
 use Rattle.path_model.specs.CheckerModel.Calls.{objects_of, behind_first, first_actual}
-use Rattle.refine_restore.specs.HandedObjects.Takers.{candidate, candidates, gathered}
+use Rattle.refine_restore.specs.Ways.Takers.{candidate, candidates, gathered}
 use Rattle.refine_restore.specs.declared.handed_objects.ends.End.{End}
 
 -- ---- actuals

@@ -3,7 +3,7 @@ use Rattle.std.proofs.Common.{◌≡◌, List, [], ◌∷◌, Option, None, Some
 use Rattle.c_objects.specs.Objects.{Object, Deref, path, address_of}
 use Rattle.type_rules.specs.Vars.{CVar, Param, Local, Extern}
 use Rattle.path_model.specs.CheckerModel.Happenings.{Site}
-use Rattle.refine_restore.specs.HandedObjects.Takers.{takers}
+use Rattle.refine_restore.specs.Ways.Takers.{takers}
 use Rattle.refine_restore.specs.declared.handed_objects.ends.End.TheVariants as end
 
 abbrev x : CVar

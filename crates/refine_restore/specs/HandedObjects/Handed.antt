@@ -1,5 +1,5 @@
 -- CALLS SEEN FROM THE OTHER END: which objects begin with a state, and to which ones it is handed.
-use Rattle.std.specs.Prelude.{◌≡◌, ℕ, List, [], ◌∷◌, Some}
+use Rattle.std.specs.Prelude.{◌≡◌, ℕ, List, Some}
 use Rattle.c_objects.specs.Objects.{Object}
 use Rattle.flow_graph.specs.CPaths.Membership.{Among}
 use Rattle.path_model.specs.CheckerModel.Calls.{into, out}

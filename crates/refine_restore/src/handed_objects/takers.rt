@@ -6,7 +6,7 @@ ghost use Rattle.c_objects.specs.Facts.{Facts};
 ghost use Rattle.c_tree.specs.Views.{node_of, nodes_in};
 ghost use Rattle.type_values.specs.Vars.{cvar_of};
 ghost use Rattle.path_model.specs.CheckerModel.Calls.{objects_of, actuals_of, first_actual};
-ghost use Rattle.refine_restore.specs.HandedObjects.Takers.{is_taker, behind_formal, candidate, candidates, with_one, takers};
+ghost use Rattle.refine_restore.specs.Ways.Takers.{is_taker, behind_formal, candidate, candidates, with_one, takers};
 ghost use Rattle.refine_restore.specs.Sites.{site_of};
 
 use crate::entries::into_callee;

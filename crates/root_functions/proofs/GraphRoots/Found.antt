@@ -1,5 +1,5 @@
 -- The roots are found one after the other.
-use Rattle.std.proofs.Common.{arith, ◌≡◌, ◌⊎◌, inl, inr, ℕ, zero, suc, ◌+◌, ◌<◌, List, [], ◌∷◌, ◌++◌, Bool, true, false, true≢false, nat_eq, Contains, AllPairs, length, get_or, refl, sym, ap, ◌∙◌, subst, subst₂, append_assoc, append-nil, add-one, eqb-true}
+use Rattle.std.proofs.Common.{arith, ◌≡◌, ◌⊎◌, inl, inr, ℕ, suc, ◌+◌, ◌<◌, List, [], ◌∷◌, ◌++◌, Bool, true, false, true≢false, nat_eq, Contains, AllPairs, length, get_or, refl, sym, ap, ◌∙◌, subst, subst₂, append_assoc, append-nil, add-one, eqb-true}
 use Rattle.std.specs.Cmp.{nat_eq_equiv}
 use Rattle.std.specs.List.{list_any}
 use Rattle.std.proofs.lemmas.List.{get_or_append_left, get_or_push, length_push}
@@ -8,11 +8,12 @@ use Rattle.std.proofs.lemmas.Option.{slice_get_within}
 use Rattle.std.proofs.lemmas.Map.Views.{Contains-from_any, list_any-from_Contains}
 use Rattle.root_functions.specs.declared.graph_roots.callees.Callees.{Callees}
 use Rattle.path_model.specs.CheckerPrograms.Roots.{Reaches, Itself, Onward, IsUncalled, IsRootBelow, IsRoot}
+use Rattle.path_model.proofs.CheckerPrograms.EarlierRoots.{root_below, root_of_below, below_of_root}
 use Rattle.root_functions.specs.GraphRoots.Graphs.{LeadsIn, Entered}
 use Rattle.root_functions.specs.GraphRoots.Listed.{AreListed}
 use Rattle.root_functions.specs.GraphRoots.Searches.{unless, AreReached, HasUncalled, HasOthers}
 use Rattle.least_set.specs.Logs.{IsExactly}
-use Rattle.least_set.proofs.Growing.{nothing, place_of, at_place, below_or}
+use Rattle.least_set.proofs.Growing.{nothing, place_of, at_place, below_or, before_or_at}
 
 -- what the set has, by its own test
 pub is_among : (keys : List ℕ) (f : ℕ) → list_any (nat_eq f) keys ≡ true → Contains keys f
@@ -33,30 +34,9 @@ rise-push xs f h below i j d k within = elim (below_or j (length xs)) [
     left : (m : ℕ) → m < length xs → get_or (xs ++ (f ∷ [])) m d ≡ get_or xs m d
     left m l = get_or_append_left xs (f ∷ []) d m l
 
-below_next : (f i : ℕ) → f < i + 1 → (f < i) ⊎ (f ≡ i)
-below_next f i h = elim (below_or f i) [ inl l ↦ inl l | inr l ↦ inr (omega arith) ]
-
 module _ (rows : List Callees) where
   abbrev L : ℕ → ℕ → Type 0
   L f g = LeadsIn rows f g
-
-  -- a root among the first so many is below them, and one among more
-  root_below : (n f : ℕ) → IsRootBelow L n f → f < n
-  root_below zero f r = elim r [ ]
-  root_below (suc n) f (inl r) = let h = root_below n f r in omega arith
-  root_below (suc n) f (inr r) = let e = r.0 in omega arith
-
-  root_of_below : (n f : ℕ) → IsRootBelow L n f → IsRoot L f
-  root_of_below zero f r = elim r [ ]
-  root_of_below (suc n) f (inl r) = root_of_below n f r
-  root_of_below (suc n) f (inr r) = subst (λ x. IsRootBelow L (suc x) f) (sym r.0) (inr r)
-
-  below_of_root : (n f : ℕ) → f < n → IsRoot L f → IsRootBelow L n f
-  below_of_root zero f h r = absurd (omega (arith, h))
-  below_of_root (suc n) f h r = elim (below_next f n (omega (arith, h))) [
-    | inl l ↦ inl (below_of_root n f l r)
-    | inr e ↦ subst (λ x. IsRootBelow L (suc x) f) e r
-  ]
 
   -- what reaches a function is one itself
   reached_from : (g f : ℕ) → f < length rows → Reaches L g f → g < length rows
@@ -83,7 +63,7 @@ module _ (rows : List Callees) where
   uncalled_next called true i roots new e k is u = subst (λ xs. HasUncalled rows (i + 1) xs) (sym is) (record {
     exact = (
       λ f m. let h = u.exact.0 f m in (omega (arith, h.0), h.1),
-      λ f h. elim (below_next f i h.0) [
+      λ f h. elim (before_or_at i f h.0) [
         | inl l ↦ u.exact.1 f (l, h.1)
         | inr q ↦ absurd (called_or_not called i e (subst (IsUncalled L) q h.1) (is_among called i (sym k)))
       ],
@@ -96,7 +76,7 @@ module _ (rows : List Callees) where
         | inl o ↦ let h = u.exact.0 f o in (omega (arith, h.0), h.1)
         | inr q ↦ (omega (arith, q), subst (IsUncalled L) q (uncalled_if called i e (not_among called i (sym k))))
       ],
-      λ f h. elim (below_next f i h.0) [
+      λ f h. elim (before_or_at i f h.0) [
         | inl l ↦ Contains-append_left roots (i ∷ []) f (u.exact.1 f (l, h.1))
         | inr q ↦ subst (Contains (roots ++ (i ∷ []))) (sym q) (Contains-push roots i)
       ],
@@ -174,10 +154,10 @@ module _ (rows : List Callees) where
   pub listed : (uncalled roots : List ℕ) → HasUncalled rows (length rows) uncalled → HasOthers rows (length rows) uncalled roots → AreListed (IsUncalled L) (IsRoot L) (length rows) roots
   listed uncalled roots u o = record {
     exact = λ f h. (
-      λ m. elim (o.exact.0 f m) [ inl c ↦ inr (refl, inl (u.exact.0 f c).1) | inr b ↦ root_of_below (length rows) f b ],
-      λ r. o.exact.1 f (inr (below_of_root (length rows) f h r)),
+      λ m. elim (o.exact.0 f m) [ inl c ↦ inr (refl, inl (u.exact.0 f c).1) | inr b ↦ root_of_below L (length rows) f b ],
+      λ r. o.exact.1 f (inr (below_of_root L (length rows) f h r)),
     );
-    within = λ f m. elim (o.exact.0 f m) [ inl c ↦ (u.exact.0 f c).0 | inr b ↦ root_below (length rows) f b ];
+    within = λ f m. elim (o.exact.0 f m) [ inl c ↦ (u.exact.0 f c).0 | inr b ↦ root_below L (length rows) f b ];
     uncalled = uncalled;
     others = o.others;
     in_order = o.in_order;

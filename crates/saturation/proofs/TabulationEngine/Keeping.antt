@@ -9,9 +9,9 @@ use Rattle.function_tables.specs.EngineTables.Known.{AreKnown, checker_in, texts
 use Rattle.function_tables.specs.declared.engine_tables.tables.Tables.{Tables}
 use Rattle.indexmap.specs.IndexMap.{IndexMap, get, Updates, IsUnchanged}
 use Rattle.least_set.specs.Logs.{IsExactly}
-use Rattle.path_edges.specs.Equality.{same_edge}
+use Rattle.path_edges.specs.Ways.Equality.{same_edge}
 use Rattle.path_edges.specs.declared.edges.Edge.{Edge}
-use Rattle.path_edges.specs.Equality.{edges_agree}
+use Rattle.path_edges.specs.Ways.Equality.{edges_agree}
 use Rattle.saturation.specs.TabulationEngine.KeptTuples.{AreBehind}
 use Rattle.state_tuples.specs.declared.tuple.Tuple.{Tuple}
 

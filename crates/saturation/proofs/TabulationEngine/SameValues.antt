@@ -5,15 +5,15 @@ use Rattle.std.specs.Option.{option_eq}
 use Rattle.std.proofs.lemmas.Bool.{eqb-true}
 use Rattle.c_objects.specs.Objects.{Object}
 use Rattle.path_model.specs.CheckerModel.Choices.{State}
-use Rattle.least_set.specs.Same.{both, same_option, same_pair}
+use Rattle.least_set.specs.Ways.Same.{both, same_option, same_pair}
 use Rattle.least_set.specs.declared.two_premises.Wait.{Wait}
 use Rattle.objects.specs.Equality.{same_object, same_object-true, same_object-refl}
 use Rattle.path_edges.specs.declared.edges.Context.{Context}
 use Rattle.path_edges.specs.declared.edges.Edge.{Edge}
 use Rattle.path_edges.specs.declared.edges.Waiter.{Waiter}
-use Rattle.path_edges.specs.Equality.{same_context}
-use Rattle.path_edges.specs.Equality.{contexts_agree, edges_agree}
-use Rattle.state_tuples.specs.Equality.{states_agree, tuples_agree}
+use Rattle.path_edges.specs.Ways.Equality.{same_context}
+use Rattle.path_edges.specs.Ways.Equality.{contexts_agree, edges_agree}
+use Rattle.state_tuples.specs.Ways.Equality.{states_agree, tuples_agree}
 use Rattle.state_tuples.specs.declared.tuple.Tuple.{Tuple}
 
 number-itself : (n : ℕ) → nat_eq n n ≡ true

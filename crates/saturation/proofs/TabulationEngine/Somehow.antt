@@ -5,12 +5,12 @@ use Rattle.std.proofs.Math.Logic.{∥∥₁_map, ∥∥₁_elim}
 use Rattle.std.proofs.lemmas.Option.{same_Some}
 use Rattle.least_set.specs.Logs.{IsExactly}
 use Rattle.least_set.specs.declared.two_premises.Wait.{Wait}
-use Rattle.path_edges.specs.Equality.{same_context, same_edge}
+use Rattle.path_edges.specs.Ways.Equality.{same_context, same_edge}
 use Rattle.path_edges.specs.declared.edges.Context.{Context}
 use Rattle.path_edges.specs.declared.edges.Edge.{Edge}
 use Rattle.path_edges.specs.declared.edges.Waiter.{Waiter}
 use Rattle.saturation.proofs.TabulationEngine.SameValues.{context-itself, edge-itself, waits_agree, same-wait, wait-itself}
-use Rattle.path_edges.specs.Equality.{contexts_agree, edges_agree}
+use Rattle.path_edges.specs.Ways.Equality.{contexts_agree, edges_agree}
 use Rattle.path_theory.proofs.TabulationRules.Stable.{exactly}
 
 -- of edges, and of those that wait

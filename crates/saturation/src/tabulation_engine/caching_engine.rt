@@ -5,7 +5,7 @@ ghost use Rattle.path_edges.specs.EdgeSteps.Steps.{StandsBehind};
 ghost use Rattle.function_tables.specs.EngineTables.Known.{AreKnown, checker_in, texts_in, graphs_in, objects_in};
 ghost use Rattle.indexmap.specs.IndexMap.{get};
 ghost use Rattle.least_set.specs.Logs.{IsExactly};
-ghost use Rattle.path_edges.specs.Equality.{edges_agree};
+ghost use Rattle.path_edges.specs.Ways.Equality.{edges_agree};
 ghost use Rattle.saturation.specs.TabulationEngine.KeptTuples.{AreBehind};
 
 use crate::tabulation_engine::engine::Engine;

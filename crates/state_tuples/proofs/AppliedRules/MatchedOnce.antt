@@ -5,7 +5,7 @@ use Rattle.std.specs.List.{enumerate_from}
 use Rattle.std.specs.Option.{option_map, option_to_list}
 use Rattle.state_tuples.proofs.AppliedRules.Numbered.{numbered, without_numbers, Stands, stands}
 use Rattle.state_tuples.specs.AppliedRules.Applied.{Applied, with_number, taken_with, applied_alternative, applied_rule, applied_at}
-use Rattle.state_tuples.specs.AppliedRules.Firsts.{picked, rule_taken}
+use Rattle.state_tuples.specs.Ways.Firsts.{picked, rule_taken}
 use Rattle.flow_graph.specs.CPaths.Events.{Event}
 use Rattle.type_rules.specs.Options.{or_else, ◌>?◌}
 use Rattle.path_model.proofs.CheckerModel.Sources.{given, tested}

@@ -3,7 +3,7 @@ use Rattle.std.proofs.Common.{arith, ◌≡◌, ℕ, zero, suc, ◌+◌, List, [
 use Rattle.std.specs.List.{enumerate_from}
 use Rattle.std.specs.Option.{IsSome, option_map}
 use Rattle.state_tuples.specs.AppliedRules.Applied.{Applied, with_number}
-use Rattle.state_tuples.specs.AppliedRules.Firsts.{rule_taken}
+use Rattle.state_tuples.specs.Ways.Firsts.{rule_taken}
 use Rattle.type_rules.specs.Options.{or_else}
 use Rattle.path_model.specs.CheckerModel.Choices.{Taken, first_some}
 use Rattle.state_tuples.specs.RuleChoices.Firsts.{IsFirst}

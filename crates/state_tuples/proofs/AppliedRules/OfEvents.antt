@@ -9,7 +9,7 @@ use Rattle.state_tuples.specs.AppliedRules.Applied.{Applied, applied_at}
 use Rattle.state_tuples.specs.AppliedRules.Bound.{bound_by, BindsFrom}
 use Rattle.state_tuples.specs.declared.applied_rules.sources.RuleSources.{RuleSources}
 use Rattle.state_tuples.specs.AppliedRules.Events.{applied_of, AreOfEvent}
-use Rattle.state_tuples.specs.AppliedRules.Firsts.{picked, first_taken, rule_taken}
+use Rattle.state_tuples.specs.Ways.Firsts.{picked, first_taken, rule_taken}
 use Rattle.state_tuples.specs.AppliedRules.Takers.{IsFirstFor}
 use Rattle.state_tuples.specs.declared.applied_rules.rules.EventRules.{EventRules}
 use Rattle.c_objects.specs.Objects.{Object}

@@ -19,7 +19,7 @@ use Rattle.hole_matching.specs.Matching.{Binding}
 use Rattle.hole_matching.specs.Message.{Source, is_at, from_place, message}
 use Rattle.hole_matcher.specs.HoleMessages.RuleMessages.{rule_message}
 use Rattle.hole_matcher.specs.HoleMessages.Sources.{source_in}
-use Rattle.least_set.specs.Same.{both}
+use Rattle.least_set.specs.Ways.Same.{both}
 use Rattle.metal_tree.specs.MetalMachines.Machine.{Piece, Rule, Machine}
 use Rattle.metal_tree.specs.MetalMachines.Rules.{rule_numbered}
 use Rattle.metal_tree.specs.Views.{action_view, rule_view}

@@ -5,10 +5,7 @@ use Rattle.c_objects.specs.Objects.{Object}
 use Rattle.c_objects.specs.Text.{text_of, object_text}
 use Rattle.c_tree.specs.declared.token.Token.{Token}
 use Rattle.path_model.specs.CheckerModel.Choices.{Taken}
-use Rattle.path_model.specs.CheckerModel.Happenings.{Happening}
 use Rattle.path_model.specs.CheckerModel.Reports as reports
-use Rattle.flow_graph.specs.declared.event.Event.{Event}
-use Rattle.flow_graph.specs.Values.{event_of}
 use Rattle.hole_matching.specs.Matching.{Binding}
 use Rattle.hole_matcher.specs.HoleMessages.RuleMessages.{rule_message}
 use Rattle.hole_matcher.specs.HoleMessages.Sources.{source_in}

@@ -3,7 +3,7 @@
 ghost use Rattle.std.specs.Prelude.{◌≡◌, ℕ, map, Some, None, IfSome};
 ghost use Rattle.std.specs.Option.{option_map};
 ghost use Rattle.state_tuples.specs.AppliedRules.Events.{applied_of, AreOfEvent};
-ghost use Rattle.state_tuples.specs.AppliedRules.Firsts.{takes, picked, first_taken};
+ghost use Rattle.state_tuples.specs.Ways.Firsts.{takes, picked, first_taken};
 ghost use Rattle.state_tuples.specs.AppliedRules.Takers.{IsFirstFor};
 ghost use Rattle.path_model.specs.CheckerModel.Choices.{first_some, scene, taken, taken_global, next_global, chosen};
 ghost use Rattle.path_model.specs.CheckerModel.Happenings.{Function, Happening};

@@ -5,7 +5,7 @@ use Rattle.std.proofs.lemmas.Option.{cond_some}
 use Rattle.c_tree.specs.declared.token.Token.{Token}
 use Rattle.c_tree.specs.Symbol.{Symbol, symbols_of}
 use Rattle.c_tree.specs.Phrase.{Phrase, nothing, one, all, ◌⨾◌, phrase_then}
-use Rattle.tree_laws.specs.TreeYields.After.{same_symbol, after_symbol, after_one, after_symbols, after_phrase}
+use Rattle.tree_laws.specs.Ways.After.{same_symbol, after_symbol, after_one, after_symbols, after_phrase}
 use Rattle.tree_laws.proofs.TreeYields.SameSymbols.{same_symbol-decides}
 
 after_symbol-then : (s : Symbol) (ts : List Symbol) → after_symbol s (s ∷ ts) ≡ Some ts

@@ -7,7 +7,7 @@ use Rattle.c_tree.specs.declared.token.FloatEnd.TheVariants as ends
 use Rattle.c_tree.specs.Codes.{keyword_code, punctuator_code}
 use Rattle.c_tree.specs.Symbol.{Symbol, Integer, Word, Reserved, Sign, IntLiteral, FloatLiteral, CharLiteral, StringLiteral}
 use Rattle.c_tree.proofs.Codes.{same_keyword, same_punctuator}
-use Rattle.tree_laws.specs.TreeYields.After.{same_bool, end_code, same_integer, same_symbol}
+use Rattle.tree_laws.specs.Ways.After.{same_bool, end_code, same_integer, same_symbol}
 
 same_end : (d e : FloatEnd) → end_code d ≡ end_code e → d ≡ e
 same_end ends.Double ends.Double h = refl

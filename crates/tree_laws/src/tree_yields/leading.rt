@@ -7,7 +7,7 @@ ghost use Rattle.c_tree.specs.Symbol.{Sign, Reserved, symbol_of, symbols_of};
 ghost use Rattle.c_tree.specs.Views.{maybe_token};
 ghost use Rattle.c_tree.specs.Phrase.{keyword, sign};
 ghost use Rattle.c_tree.specs.Tokens.{tag_if, comma_if, ellipsis_if};
-ghost use Rattle.tree_laws.specs.TreeYields.After.{after_one, after_symbols, after_phrase, rest_of};
+ghost use Rattle.tree_laws.specs.Ways.After.{after_one, after_symbols, after_phrase, rest_of};
 
 use c_tree::{Keyword, Punctuator, Token, TokenKind, same_token};
 

@@ -6,7 +6,7 @@ ghost use Rattle.c_tree.specs.Phrase.{◌⨾◌, sign};
 ghost use Rattle.c_tree.specs.declared.punctuator.Punctuator.TheVariants.{OpenParen, CloseParen};
 ghost use Rattle.c_tree.specs.Forget.{view, maybe_view, list_view, primary_view, operation_view, initializer_view, specifier_view, declarator_view, part_view, outer_view, statement_view, iteration_view, jump_view};
 ghost use Rattle.c_tree.specs.Tokens.{tokens_of, phrase_of, maybe_phrase, assigned_phrase, else_phrase, row_phrase, list_phrase, unary_phrase, primary_phrase, operation_phrase, initializer_phrase, specifier_phrase, declarator_phrase, part_phrase, outer_phrase, statement_phrase, iteration_phrase, jump_phrase};
-ghost use Rattle.tree_laws.specs.TreeYields.After.{after_phrase, rest_of};
+ghost use Rattle.tree_laws.specs.Ways.After.{after_phrase, rest_of};
 
 use crate::tree_yields::leading::{
     after_comma_if, after_ellipsis_if, after_keyword, after_sign, after_tag, after_token,

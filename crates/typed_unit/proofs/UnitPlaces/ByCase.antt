@@ -6,10 +6,10 @@ use Rattle.type_rules.specs.Moves.{opened, opened_block}
 use Rattle.type_rules.specs.Parts.{Slot, plain, callee, same, specs_of, item_of, declared_by, defined_by, formal_by, member_by, beside_name, toward, beside, inside, body, none, part, flat, parts, maybe, each, first_in, primary_parts, operation_parts, initializer_parts, specifier_parts, declarator_parts, part_parts, outer_parts, statement_parts, iteration_parts, jump_parts}
 use Rattle.type_rules.specs.Roles.{Role, Plain, given}
 use Rattle.type_rules.specs.Scopes.{Scopes, Enums, deeper}
-use Rattle.type_rules.specs.ScopesByCase.{scoped, scoped_maybe}
+use Rattle.type_rules.specs.Ways.ScopesByCase.{scoped, scoped_maybe}
 use Rattle.type_rules.specs.Tags.{sort_of, body_opened}
 use Rattle.typed_unit.specs.Places.{StandsAt}
-use Rattle.typed_unit.specs.UnitPlaces.PartsByCase.{PrimaryParts, OperationParts, InitializerParts, SpecifierParts, DeclaratorParts, PartParts, OuterParts, StatementParts, IterationParts, JumpParts, PartsStandAt}
+use Rattle.typed_unit.specs.Ways.PartsByCase.{PrimaryParts, OperationParts, InitializerParts, SpecifierParts, DeclaratorParts, PartParts, OuterParts, StatementParts, IterationParts, JumpParts, PartsStandAt}
 use Rattle.typed_unit.specs.UnitPlaces.Standing.{AreVisited, MaybeStands, EachStands}
 use Rattle.typed_unit.proofs.UnitPlaces.Steps.{next, maybe-next, each-next, suffixes}
 use Rattle.typed_unit.proofs.UnitPlaces.Visited.{parts-visited}

@@ -12,7 +12,7 @@ use Rattle.type_rules.specs.Definition.{Meeting, In, Out, IsAmong, Table, at, nu
 use Rattle.type_rules.specs.Parts.{flat}
 use Rattle.type_rules.specs.Roles.{Role, Plain, Callee, Declares, Defines, Formal, Member, Body}
 use Rattle.type_rules.specs.Scopes.{Scopes, at_start, deeper, body_of}
-use Rattle.type_rules.specs.ScopesByCase.{scoped}
+use Rattle.type_rules.specs.Ways.ScopesByCase.{scoped}
 use Rattle.type_rules.specs.Specified.{Unmarked, specified_type, storage_of}
 use Rattle.type_rules.specs.Theorems.{CellsAreRight}
 use Rattle.type_rules.specs.Types.{Void, int}

@@ -12,7 +12,7 @@ use Rattle.type_rules.specs.Options.{if_there}
 use Rattle.type_rules.specs.Parts.{flat}
 use Rattle.type_rules.specs.Roles.{Plain, Defines, Body}
 use Rattle.type_rules.specs.Scopes.{Scopes, at_start}
-use Rattle.type_rules.specs.ScopesByCase.{scoped}
+use Rattle.type_rules.specs.Ways.ScopesByCase.{scoped}
 use Rattle.type_rules.specs.Specified.{specified_type, storage_of}
 use Rattle.type_rules.proofs.BridgeScopes.{scoped-flat}
 use Rattle.typed_unit.specs.declared.functions.TypedFunction.{TypedFunction}

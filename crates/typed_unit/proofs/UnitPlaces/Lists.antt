@@ -6,7 +6,7 @@ use Rattle.c_tree.specs.Node.{Node, Nodes, no_more, more}
 use Rattle.c_tree.specs.Views.{node_of, nodes_in}
 use Rattle.type_rules.specs.Roles.{Role}
 use Rattle.type_rules.specs.Scopes.{Scopes}
-use Rattle.type_rules.specs.ScopesByCase.{scoped, scoped_each}
+use Rattle.type_rules.specs.Ways.ScopesByCase.{scoped, scoped_each}
 use Rattle.typed_unit.specs.Places.{StandsAt}
 use Rattle.typed_unit.specs.UnitPlaces.Standing.{EachStands, joined}
 

@@ -4,7 +4,7 @@ use Rattle.c_tree.specs.Node.{Node, MaybeNode, absent, present, Nodes, no_more, 
 use Rattle.type_rules.specs.Parts.{Slot, plain, Parts, none, part, flat, maybe, each, first_in}
 use Rattle.type_rules.specs.Roles.{Role, Plain}
 use Rattle.type_rules.specs.Scopes.{Scopes, at_start}
-use Rattle.type_rules.specs.ScopesByCase.{scoped, scoped_maybe, scoped_each}
+use Rattle.type_rules.specs.Ways.ScopesByCase.{scoped, scoped_maybe, scoped_each}
 use Rattle.type_rules.specs.Unit.{plainly}
 use Rattle.type_rules.proofs.BridgeScopes.{scoped-flat}
 use Rattle.typed_unit.specs.Places.{StandsAt}

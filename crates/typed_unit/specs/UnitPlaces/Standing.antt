@@ -5,7 +5,7 @@ use Rattle.type_rules.specs.Definition.{after, Out, IsAmong}
 use Rattle.type_rules.specs.Parts.{Slot, Visit, Parts, none, part}
 use Rattle.type_rules.specs.Roles.{Role, Plain}
 use Rattle.type_rules.specs.Scopes.{Scopes}
-use Rattle.type_rules.specs.ScopesByCase.{scoped}
+use Rattle.type_rules.specs.Ways.ScopesByCase.{scoped}
 use Rattle.type_rules.specs.Unit.{places_of}
 use Rattle.typed_unit.specs.Places.{StandsAt}
 

@@ -10,11 +10,11 @@ use Rattle.type_rules.specs.Moves.{opened}
 use Rattle.type_rules.specs.Parts.{Slot, Visit, visit, Parts, part, flat}
 use Rattle.type_rules.specs.Roles.{Role, Plain, Body, given}
 use Rattle.type_rules.specs.Scopes.{Scopes, at_start}
-use Rattle.type_rules.specs.ScopesByCase.{scoped, scoped_each}
+use Rattle.type_rules.specs.Ways.ScopesByCase.{scoped, scoped_each}
 use Rattle.type_rules.specs.Unit.{IsTyping}
 use Rattle.typed_unit.specs.Places.{StandsAt, IsTypedAt}
 use Rattle.typed_unit.specs.UnitPlaces.Functions.{IsDefinedIn}
-use Rattle.typed_unit.specs.UnitPlaces.PartsByCase.{PartsStandAt}
+use Rattle.typed_unit.specs.Ways.PartsByCase.{PartsStandAt}
 use Rattle.typed_unit.specs.UnitPlaces.Standing.{IsVisited, followed, joined, EachStands}
 use Rattle.typed_unit.specs.UnitPlaces.Typed.{is_typed, declares_name}
 

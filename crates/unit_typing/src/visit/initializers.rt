@@ -3,9 +3,9 @@
 ghost use Rattle.std.specs.Prelude.{◌≡◌, IfOk};
 ghost use Rattle.c_tree.specs.declared.place.Place.{Place};
 ghost use Rattle.c_tree.specs.Views.{initializer_shape};
-ghost use Rattle.type_rules.specs.ScopesByCase.{within_initializer};
-ghost use Rattle.type_rules.specs.TablesByCase.{filled_initializer};
-ghost use Rattle.type_rules.specs.TypesByCase.{typed_initializer};
+ghost use Rattle.type_rules.specs.Ways.ScopesByCase.{within_initializer};
+ghost use Rattle.type_rules.specs.Ways.TablesByCase.{filled_initializer};
+ghost use Rattle.type_rules.specs.Ways.TypesByCase.{typed_initializer};
 ghost use Rattle.typed_unit.specs.Tables.{table_of};
 ghost use Rattle.unit_typing.specs.Faults.{Gives};
 ghost use Rattle.unit_typing.specs.Roles.{role_of};

@@ -1,6 +1,6 @@
 use Rattle.std.proofs.Common.{false, ◌<◌, sym, arith}
 use Rattle.c_tree.specs.Symbol.{symbol_of, symbols_of}
-use Rattle.c_grammar.specs.SpecifierSteps.{read_tag, read_items}
+use Rattle.c_grammar.specs.Ways.SpecifierSteps.{read_tag, read_items}
 use Rattle.c_tree.specs.Views.{node_of}
 use Rattle.c_expr.proofs.Items.{items-next, height_pushed, count_pushed}
 use Rattle.c_expr.proofs.Standing.{row-next, row-start}

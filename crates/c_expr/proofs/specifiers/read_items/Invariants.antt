@@ -5,7 +5,7 @@ use Rattle.c_tree.specs.Forget.{view_all}
 use Rattle.c_tree.specs.Views.{nodes_in}
 use Rattle.c_grammar.specs.CPlaces.Lines.{row_line}
 use Rattle.c_grammar.specs.CPlaces.Stands.{Stands}
-use Rattle.c_grammar.specs.SpecifierSteps.{read_tag, read_items}
+use Rattle.c_grammar.specs.Ways.SpecifierSteps.{read_tag, read_items}
 use Rattle.c_expr.specs.Gives.{ending_with, count_in}
 use Rattle.c_expr.proofs.specifiers.read_items.Given as goal
 

@@ -1,5 +1,5 @@
 use Rattle.std.proofs.Common.{◌≡◌, ◌+◌, length}
-use Rattle.c_lexer.specs.CReading.Cutting.{closing}
+use Rattle.c_lexer.specs.Ways.Cutting.{closing}
 use Rattle.c_lexer.specs.CReading.Scans.{plus}
 use Rattle.c_lexer.proofs.literals.closing.Given as goal
 

@@ -3,7 +3,7 @@ use Rattle.std.specs.Borrow.{Bor}
 use Rattle.c_tree.specs.declared.tree.Tree.{Tree, size-Tree}
 use Rattle.c_tree.specs.Forget.{list_view, view_all}
 use Rattle.c_grammar.specs.UnitGrammar.Control.{all_labels}
-use Rattle.c_parser.specs.Gathered.{gathered}
+use Rattle.c_parser.specs.Ways.Gathered.{gathered}
 use Rattle.c_parser.proofs.control.+labels.Given as goal
 
 abbrev pub invariant-add_labels_of_all-loop-tree : goal.invariant-add_labels_of_all-loop-tree

@@ -4,7 +4,7 @@ use Rattle.c_tree.specs.Forget.{view}
 use Rattle.c_grammar.specs.Nonterminal.{WithName}
 use Rattle.c_grammar.specs.Reading.{read as read_expressions}
 use Rattle.c_grammar.specs.UnitGrammar.Names.{with_declarators}
-use Rattle.c_grammar.specs.UnitGrammar.DeclarationSteps.{read_init_declarators}
+use Rattle.c_grammar.specs.Ways.DeclarationSteps.{read_init_declarators}
 use Rattle.c_grammar.specs.UnitGrammar.Reading.{read}
 use Rattle.c_expr.specs.Gives.{ending_with}
 use Rattle.c_expr.proofs.Items.{height_pushed}

@@ -6,7 +6,7 @@ use Rattle.c_parser.proofs.DeclarationPlaces.{braces_behind}
 use Rattle.std.proofs.Common.{◌-◌, ◌<◌, ◌∙◌, sym, arith, rules}
 use Rattle.c_tree.specs.Symbol.{symbols_of}
 use Rattle.c_grammar.specs.Reading.{read as read_expressions}
-use Rattle.c_grammar.specs.UnitGrammar.DeclarationSteps.{read_initials}
+use Rattle.c_grammar.specs.Ways.DeclarationSteps.{read_initials}
 use Rattle.c_grammar.specs.UnitGrammar.Reading.{read}
 use Rattle.c_expr.proofs.Items.{height_pushed}
 use Rattle.c_parser.proofs.ListSteps.{initials-next}

@@ -4,7 +4,7 @@ use Rattle.c_tree.specs.Height.{height_in}
 use Rattle.c_tree.specs.Forget.{view_all}
 use Rattle.c_grammar.specs.CPlaces.Stands.{Stands}
 use Rattle.c_grammar.specs.Reading.{read as read_expressions}
-use Rattle.c_grammar.specs.UnitGrammar.DeclarationSteps.{read_initials}
+use Rattle.c_grammar.specs.Ways.DeclarationSteps.{read_initials}
 use Rattle.c_grammar.specs.UnitGrammar.Reading.{read}
 use Rattle.c_expr.proofs.Standing.{led_line}
 use Rattle.c_parser.specs.CommaLists.{commas_after}

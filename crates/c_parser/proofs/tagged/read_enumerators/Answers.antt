@@ -2,7 +2,7 @@ use Rattle.std.proofs.Common.{◌<◌, ◌∙◌, ◌-◌, sym, refl, arith}
 use Rattle.c_tree.specs.Symbol.{symbols_of}
 use Rattle.c_grammar.specs.CPlaces.Stands.{OfNothing, OfBoth}
 use Rattle.c_grammar.specs.Reading.{read as read_expressions}
-use Rattle.c_grammar.specs.UnitGrammar.TaggedSteps.{read_enumerators}
+use Rattle.c_grammar.specs.Ways.TaggedSteps.{read_enumerators}
 use Rattle.c_expr.proofs.Items.{height_pushed}
 use Rattle.c_expr.proofs.Standing.{list-next, list-last, led-start}
 use Rattle.c_expr.proofs.StandingParts.{list-done, height-start}

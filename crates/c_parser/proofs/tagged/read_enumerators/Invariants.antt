@@ -5,7 +5,7 @@ use Rattle.c_tree.specs.Forget.{view_all}
 use Rattle.c_grammar.specs.CPlaces.Stands.{Stands}
 use Rattle.c_grammar.specs.Reading.{read as read_expressions}
 use Rattle.c_grammar.specs.UnitGrammar.Names.{declared_by_all}
-use Rattle.c_grammar.specs.UnitGrammar.TaggedSteps.{read_enumerators}
+use Rattle.c_grammar.specs.Ways.TaggedSteps.{read_enumerators}
 use Rattle.c_expr.proofs.Standing.{led_line}
 use Rattle.c_parser.specs.CommaLists.{commas_after}
 use Rattle.c_parser.proofs.tagged.read_enumerators.Given as goal

@@ -2,9 +2,9 @@ use Rattle.std.proofs.Common.{length, map, string_bytes, sym, ap, ◌+◌, ◌�
 use Rattle.std.proofs.lemmas.Result.{IfOk-weaker}
 use Rattle.report_model.proofs.OfReporters.Appending.{on_err}
 use Rattle.command_words.specs.Words.{is_checker_word, is_source_word}
-use Rattle.command.specs.Plans.{IsAmong, IsPlanOf}
+use Rattle.command.specs.Ways.Plans.{IsAmong, IsPlanOf}
 use Rattle.command.specs.Tasks.{command_of}
-use Rattle.command.proofs.Plans.{due_for_none, due_for_reports, failed_for_none, is_among, kind_few, of_both}
+use Rattle.command.proofs.Plans.{due_for_none, due_for_reports, failed_for_none, is_among, kind_few, leaves_for_none, leaves_for_reports, of_both, with_both}
 use Rattle.command.specs.JudgedFiles.FirstFault.{AnswersUnjudged}
 use Rattle.command.specs.JudgedFiles.Judged.{AreAccepted}
 use Rattle.request_files.specs.Telling.{may_hold}
@@ -26,6 +26,13 @@ returns-in-Ok-clause-due g c =
     (λ plan p. due_for_reports holds command (g.F.Files.failed c.args.files.now) (g.F.Files.failed c.reports_of.new.files)
     (λ reports. map (λ b. (goal.Reporter-dyn g (b.vtable, b.value)).rendered b.value reports) c.args.reporters.now.items) c.in-Ok.reports.items plan.status plan.text.items plan.line accepted c.in-Ok.ensures.none_failed p)
     (rw c.deref-in-Ok.ensures.value at c.plan_reports.ensures.plan)
+
+pub returns-in-Ok-clause-leaves : goal.returns-in-Ok-clause-leaves
+returns-in-Ok-clause-leaves g c =
+    with_both c.plan_reports.result _ _ _
+    (λ plan p empty. leaves_for_reports c.args.task.now.place (map (λ b. (goal.Reporter-dyn g (b.vtable, b.value)).taken b.value) c.args.reporters.now.items) (map (λ b. (goal.Reporter-dyn g (b.vtable, b.value)).taken b.value) c.plan_reports.new.reporters.items)
+    c.deref-in-Ok.result.now plan.status p.0 empty)
+    c.plan_reports.ensures.plan c.plan_reports.ensures.empty
 
 pub plan_refusal-requires : goal.plan_refusal-requires
 plan_refusal-requires g c =
@@ -52,3 +59,9 @@ returns-clause-failed g c =
     (failed_for_none (may_hold (g.F.Files.contents c.args.files.now)) command (g.F.Files.failed c.args.files.now) (g.F.Files.failed c.reports_of.new.files) c.in-Err.unjudged
     (of_both (λ xs ys. AnswersUnjudged (may_hold (g.F.Files.contents c.args.files.now)) xs ys (g.F.Files.failed c.args.files.now) (g.F.Files.failed c.reports_of.new.files) c.in-Err.unjudged) _ _ _ _
     (ap words_of c.deref.ensures.value ∙ c.in_ok-checkers.ensures) (ap words_of c.deref-2.ensures.value ∙ c.in_ok-sources.ensures) c.in-Err.ensures.unjudged))
+
+pub returns-clause-leaves : goal.returns-clause-leaves
+returns-clause-leaves g c =
+    IfOk-weaker c.plan_refusal.result _ _
+    (λ plan p. leaves_for_none c.args.task.now.place (map (λ b. (goal.Reporter-dyn g (b.vtable, b.value)).taken b.value) c.args.reporters.now.items) (words_of c.deref-in-Err.result.now) (words_of c.deref-in-Err-2.result.now) c.in-Err.unjudged plan.status plan.text.items plan.line p)
+    c.plan_refusal.ensures

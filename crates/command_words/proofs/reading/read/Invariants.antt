@@ -1,7 +1,7 @@
 -- What is read behind the settings so far is what is read of all words. The fields of `given` stand in their order: what it waits for, the depth,
 -- the format, and whether statistics are asked for.
 use Rattle.std.proofs.Common.{◌≡◌, ◌≤◌, ◌-◌, length, map, drop, string_bytes}
-use Rattle.command_words.specs.Reading.{chosen, reading, nothing_chosen}
+use Rattle.command_words.specs.Ways.Reading.{chosen, reading, nothing_chosen}
 use Rattle.std.specs.Option.{option_copied}
 use Rattle.command_words.proofs.reading.read.Given as goal
 

@@ -11,7 +11,7 @@ use Rattle.hole_matcher.proofs.HeadSteps.{one-step, two-step, front-step, then-t
 use Rattle.hole_matcher.proofs.ListSteps.{list-takes, list-ends, list-goes, list-done, all-behind}
 use Rattle.hole_matcher.proofs.WalkSteps.{by_level, by_hole, by_likewise, last-matched, same-seat}
 use Rattle.hole_matcher.proofs.walk.+walk.Goals as goal
-use Rattle.hole_matcher.specs.Walks.{matched_opened, seat_of}
+use Rattle.hole_matcher.specs.Ways.Walks.{matched_opened, seat_of}
 use Rattle.hole_matching.specs.Holes.{may_take}
 use Rattle.hole_matching.specs.Matched.{bound, matched, matched_all}
 use Rattle.hole_matching.specs.Matching.{One, Many, Elsewhere}

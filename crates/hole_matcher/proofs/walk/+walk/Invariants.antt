@@ -11,7 +11,7 @@ use Rattle.c_tree.specs.Forget.{list_view, view_all}
 use Rattle.c_tree.specs.Views.{nodes_of, nodes_in}
 use Rattle.hole_matcher.specs.HoleBindings.Bindings.{binding_of}
 use Rattle.hole_matcher.specs.HoleBindings.Settings.{setting_in}
-use Rattle.hole_matcher.specs.Walks.{seat_of}
+use Rattle.hole_matcher.specs.Ways.Walks.{seat_of}
 use Rattle.hole_matching.specs.Matched.{matched_all}
 use Rattle.hole_matching.specs.Subjects.{trees}
 use Rattle.hole_matching.specs.Written.{patterns_of}

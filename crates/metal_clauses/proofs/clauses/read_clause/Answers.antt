@@ -1,6 +1,6 @@
 use Rattle.std.proofs.Common.{◌≡◌, ◌&&◌, ap, ◌∙◌, sym, rules}
 use Rattle.c_tree.specs.Symbol.{symbols_of}
-use Rattle.metal_grammar.specs.Steps.{read_content}
+use Rattle.metal_grammar.specs.Ways.Steps.{read_content}
 use Rattle.metal_written.specs.Written.{content_view, maybe_head_view}
 use Rattle.metal_clauses.proofs.InClauses.{clause-longer}
 use Rattle.metal_clauses.proofs.clauses.read_clause.Goals.{then-is_first, else-is_first}

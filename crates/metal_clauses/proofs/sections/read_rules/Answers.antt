@@ -2,7 +2,7 @@ use Rattle.std.proofs.Common.{◌≡◌, ◌+◌, ◌*◌, ◌<◌, ◌≤◌, L
 use Rattle.c_tree.specs.declared.punctuator.Punctuator.TheVariants as marks
 use Rattle.c_tree.specs.Symbol.{Symbol, symbols_of}
 use Rattle.metal_grammar.specs.Written as text
-use Rattle.metal_grammar.specs.Steps.{read_rule}
+use Rattle.metal_grammar.specs.Ways.Steps.{read_rule}
 use Rattle.metal_written.specs.declared.written.WrittenRule.{WrittenRule}
 use Rattle.metal_written.specs.Sizes.{HaveSizes}
 use Rattle.metal_written.specs.Written.{row_from, no_rule, rule_view, rules_row}

@@ -2,8 +2,8 @@ use Rattle.std.proofs.Common.{◌∙◌, ap, sym, Err}
 use Rattle.c_tree.specs.Views.{nodes_of}
 use Rattle.type_rules.specs.Roles.{Plain}
 use Rattle.type_rules.specs.Scopes.{Scopes, at_start}
-use Rattle.type_rules.specs.TablesByCase.{filled_each}
-use Rattle.type_rules.specs.TypesByCase.{typed_each}
+use Rattle.type_rules.specs.Ways.TablesByCase.{filled_each}
+use Rattle.type_rules.specs.Ways.TypesByCase.{typed_each}
 use Rattle.type_rules.proofs.Units.{same-table}
 use Rattle.typed_unit.specs.Tables.{table_of}
 use Rattle.unit_typing.proofs.UnitSteps.{unit-fine, unit-typed}

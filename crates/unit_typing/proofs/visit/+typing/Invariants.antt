@@ -13,9 +13,9 @@ use Rattle.c_tree.specs.declared.statement.Statement.{size-Statement}
 use Rattle.c_tree.specs.declared.statement.Iteration.{size-Iteration}
 use Rattle.c_tree.specs.declared.statement.Jump.{size-Jump}
 use Rattle.c_tree.specs.Views.{nodes_of, nodes_in}
-use Rattle.type_rules.specs.ScopesByCase.{scoped_each, scoped_beside}
-use Rattle.type_rules.specs.TablesByCase.{filled_each, filled_beside}
-use Rattle.type_rules.specs.TypesByCase.{typed_each, typed_beside}
+use Rattle.type_rules.specs.Ways.ScopesByCase.{scoped_each, scoped_beside}
+use Rattle.type_rules.specs.Ways.TablesByCase.{filled_each, filled_beside}
+use Rattle.type_rules.specs.Ways.TypesByCase.{typed_each, typed_beside}
 use Rattle.typed_unit.specs.Tables.{table_of}
 use Rattle.unit_typing.specs.Roles.{role_of}
 use Rattle.unit_typing.specs.Scopes.{scopes_of}

@@ -1,6 +1,6 @@
 use Rattle.std.proofs.Common.{◌≡◌, ◌≤◌, suc, length, map}
 use Rattle.c_tree.specs.Symbol.{symbols_of}
-use Rattle.metal_grammar.specs.Steps.{read_identifiers}
+use Rattle.metal_grammar.specs.Ways.Steps.{read_identifiers}
 use Rattle.metal_written.specs.Written.{identifier_view}
 use Rattle.metal_clauses.proofs.MetalParts.InActions.{with_arguments}
 use Rattle.metal_clauses.proofs.metal_parts.actions.read_identifiers.Given as goal

@@ -1,6 +1,6 @@
 use Rattle.std.proofs.Common.{◌≡◌, ◌<◌, ◌≤◌, length}
 use Rattle.c_tree.specs.Symbol.{symbols_of}
-use Rattle.metal_grammar.specs.Steps.{read_literals}
+use Rattle.metal_grammar.specs.Ways.Steps.{read_literals}
 use Rattle.metal_written.specs.Written.{literal_views}
 use Rattle.metal_clauses.proofs.MetalParts.InActions.{with_literals}
 use Rattle.metal_clauses.proofs.metal_parts.actions.read_literals.Given as goal

@@ -2,7 +2,7 @@ use Rattle.std.proofs.Common.{◌≡◌, ℕ, ◌+◌, ◌<◌, length, List, Op
 use Rattle.c_tree.specs.declared.punctuator.Punctuator.TheVariants as marks
 use Rattle.c_tree.specs.Symbol.{Symbol, symbols_of}
 use Rattle.metal_grammar.specs.Written.{Row}
-use Rattle.metal_grammar.specs.Steps.{take_word}
+use Rattle.metal_grammar.specs.Ways.Steps.{take_word}
 use Rattle.metal_written.specs.Written.{row_from}
 use Rattle.metal_clauses.proofs.MetalParts.InRows.{row-next, row-end, row-fails, row-over}
 use Rattle.metal_clauses.proofs.metal_parts.declarations.read_names.Goals as goal

@@ -1,7 +1,7 @@
 use Rattle.std.proofs.Common.{◌≡◌, ◌≤◌, suc, length}
 use Rattle.c_tree.specs.declared.punctuator.Punctuator.TheVariants as marks
 use Rattle.c_tree.specs.Symbol.{symbols_of}
-use Rattle.metal_grammar.specs.Steps.{take_word, read_row}
+use Rattle.metal_grammar.specs.Ways.Steps.{take_word, read_row}
 use Rattle.metal_written.proofs.Rows.{ending_with}
 use Rattle.metal_clauses.proofs.metal_parts.declarations.read_names.Given as goal
 

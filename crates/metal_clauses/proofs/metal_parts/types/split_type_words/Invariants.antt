@@ -1,7 +1,7 @@
 use Rattle.std.proofs.Common.{◌≡◌, ◌≤◌, ◌-◌, length, drop}
 use Rattle.c_tree.specs.Symbol.{symbols_of}
 use Rattle.c_grammar.specs.Symbols.{run_of, after_run}
-use Rattle.metal_grammar.specs.Steps.{is_type_symbol}
+use Rattle.metal_grammar.specs.Ways.Steps.{is_type_symbol}
 use Rattle.c_expr.proofs.Runs.{run_behind}
 use Rattle.metal_clauses.proofs.metal_parts.types.split_type_words.Given as goal
 

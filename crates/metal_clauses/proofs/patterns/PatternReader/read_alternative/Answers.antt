@@ -2,7 +2,7 @@ use Rattle.std.proofs.Common.{◌≡◌, ◌+◌, ◌*◌, ◌<◌, ◌≤◌, L
 use Rattle.c_tree.specs.declared.punctuator.Punctuator.TheVariants as marks
 use Rattle.c_tree.specs.Symbol.{Symbol, symbols_of}
 use Rattle.metal_grammar.specs.Written as text
-use Rattle.metal_grammar.specs.Steps.{read_item}
+use Rattle.metal_grammar.specs.Ways.Steps.{read_item}
 use Rattle.metal_written.specs.declared.written.WrittenItem.{WrittenItem}
 use Rattle.metal_written.specs.Written.{row_from, no_item, item_view, alternative_view}
 use Rattle.metal_written.proofs.Rows.{map-push}

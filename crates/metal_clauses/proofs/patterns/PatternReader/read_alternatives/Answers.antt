@@ -2,7 +2,7 @@ use Rattle.std.proofs.Common.{◌≡◌, ◌+◌, ◌*◌, ◌<◌, ◌≤◌, L
 use Rattle.c_tree.specs.declared.punctuator.Punctuator.TheVariants as marks
 use Rattle.c_tree.specs.Symbol.{Symbol, symbols_of}
 use Rattle.metal_grammar.specs.Written as text
-use Rattle.metal_grammar.specs.Steps.{read_alternative}
+use Rattle.metal_grammar.specs.Ways.Steps.{read_alternative}
 use Rattle.metal_written.specs.declared.written.WrittenAlternative.{WrittenAlternative}
 use Rattle.metal_written.specs.Written.{row_from, no_alternative, alternative_view, alternatives_row}
 use Rattle.metal_written.proofs.Rows.{map-push}

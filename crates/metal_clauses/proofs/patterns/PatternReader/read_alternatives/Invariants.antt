@@ -1,7 +1,7 @@
 use Rattle.std.proofs.Common.{◌≡◌, ◌≤◌, ◌+◌, ◌*◌, suc, [], length, map}
 use Rattle.c_tree.specs.declared.punctuator.Punctuator.TheVariants as marks
 use Rattle.c_tree.specs.Symbol.{symbols_of}
-use Rattle.metal_grammar.specs.Steps.{read_row, read_alternative}
+use Rattle.metal_grammar.specs.Ways.Steps.{read_row, read_alternative}
 use Rattle.metal_written.specs.Written.{alternative_view}
 use Rattle.metal_written.proofs.Rows.{ending_with}
 use Rattle.metal_clauses.proofs.patterns.PatternReader.read_alternatives.Given as goal

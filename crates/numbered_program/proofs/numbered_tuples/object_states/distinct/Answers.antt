@@ -2,7 +2,7 @@ use Rattle.std.proofs.Common.{◌≡◌, ◌≤◌, [], length, Contains, sym, a
 use Rattle.least_set.specs.Logs.{Adds}
 use Rattle.least_set.proofs.Growing.{adds_none, all_of, either, nothing}
 use Rattle.numbered_program.proofs.NumberedTuples.FewStates.{distinct_more, fewer_more, same_state}
-use Rattle.state_tuples.specs.Equality.{states_agree}
+use Rattle.state_tuples.specs.Ways.Equality.{states_agree}
 use Rattle.numbered_program.proofs.numbered_tuples.object_states.distinct.Goals as goal
 
 pub loop-state-init : goal.loop-state-init

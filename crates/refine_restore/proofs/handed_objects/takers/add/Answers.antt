@@ -1,6 +1,6 @@
 use Rattle.std.proofs.Common.{◌≡◌, List, ◌∷◌, [], ◌++◌, Bool, true, false, Option, Some, refl, ◌∙◌, sym, ap, cond, not, ◌&&◌}
 use Rattle.c_objects.specs.Objects.{Object}
-use Rattle.refine_restore.specs.HandedObjects.Takers.{is_listed, is_taker, with_one}
+use Rattle.refine_restore.specs.Ways.Takers.{is_listed, is_taker, with_one}
 use Rattle.refine_restore.proofs.handed_objects.takers.add.Goals as goal
 use Rattle.refine_restore.specs.Sites.{site_of}
 

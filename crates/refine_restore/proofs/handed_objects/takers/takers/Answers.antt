@@ -1,6 +1,6 @@
 use Rattle.c_tree.specs.Views.{node_of}
 use Rattle.path_model.specs.CheckerModel.Calls.{actuals_of}
-use Rattle.refine_restore.specs.HandedObjects.Takers.{is_taker, takers}
+use Rattle.refine_restore.specs.Ways.Takers.{is_taker, takers}
 use Rattle.refine_restore.proofs.HandedObjects.Positions.{gathered-all}
 use Rattle.refine_restore.proofs.handed_objects.takers.takers.Goals as goal
 use Rattle.objects.specs.Units.{facts_in}

@@ -1,5 +1,5 @@
 use Rattle.std.proofs.Common.{◌≡◌, drop}
-use Rattle.refine_restore.specs.HandedObjects.Takers.{is_taker, candidates, gathered, takers}
+use Rattle.refine_restore.specs.Ways.Takers.{is_taker, candidates, gathered, takers}
 use Rattle.refine_restore.proofs.handed_objects.takers.takers.Given as goal
 use Rattle.refine_restore.specs.Sites.{site_of}
 

@@ -2,7 +2,7 @@ use Rattle.std.proofs.Common.{◌∙◌, ap, drop, sym, List, ◌+◌}
 use Rattle.std.proofs.lemmas.List.{at_drop_more}
 use Rattle.c_tree.specs.Symbol.{symbols_of}
 use Rattle.c_tree.specs.declared.token.Token.{Token}
-use Rattle.tree_laws.specs.TreeYields.After.{after_symbols, rest_of}
+use Rattle.tree_laws.specs.Ways.After.{after_symbols, rest_of}
 use Rattle.tree_laws.proofs.tree_yields.leading.after_tokens.Goals as goal
 
 pub loop-token-preserved : goal.loop-token-preserved

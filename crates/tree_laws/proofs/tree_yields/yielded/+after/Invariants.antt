@@ -3,7 +3,7 @@ use Rattle.std.specs.Borrow.{Bor}
 use Rattle.c_tree.specs.declared.tree.Tree.{Tree, size-Tree}
 use Rattle.c_tree.specs.Forget.{view_all, list_view}
 use Rattle.c_tree.specs.Tokens.{row_phrase, list_phrase, more_phrase}
-use Rattle.tree_laws.specs.TreeYields.After.{after_phrase, rest_of}
+use Rattle.tree_laws.specs.Ways.After.{after_phrase, rest_of}
 use Rattle.tree_laws.proofs.tree_yields.yielded.+after.Given as goal
 
 -- taking off what is left gives what taking off the whole gives

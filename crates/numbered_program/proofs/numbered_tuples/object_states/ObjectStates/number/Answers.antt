@@ -4,7 +4,7 @@ use Rattle.std.specs.Option.{option_map_or}
 use Rattle.numbered_program.proofs.NumberedTuples.Numbers.{number_exact}
 use Rattle.numbered_program.proofs.NumberedTuples.FewStates.{same_state, state_itself}
 use Rattle.row_flows.specs.Numbers.{item_numbered}
-use Rattle.state_tuples.specs.Equality.{states_agree}
+use Rattle.state_tuples.specs.Ways.Equality.{states_agree}
 use Rattle.numbered_program.proofs.numbered_tuples.object_states.ObjectStates.number.Goals as goal
 
 pub returns-in-Some-clause-number : goal.returns-in-Some-clause-number

@@ -2,7 +2,7 @@ use Rattle.std.proofs.Common.{Some, subst}
 use Rattle.std.specs.Prelude.{OnOk}
 use Rattle.indexmap.specs.IndexMap.{Updates}
 use Rattle.saturation.proofs.TabulationEngine.Keeping.{kept-after}
-use Rattle.path_edges.specs.Equality.{edges_agree}
+use Rattle.path_edges.specs.Ways.Equality.{edges_agree}
 use Rattle.saturation.proofs.tabulation_engine.caching_engine.CachingEngine.keep.Goals as goal
 
 pub invariant_of-self : goal.invariant_of-self

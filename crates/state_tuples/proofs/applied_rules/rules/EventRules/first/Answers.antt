@@ -1,6 +1,6 @@
 use Rattle.std.proofs.Common.{map, cond, None, Some, sym, ap, ◌∙◌}
 use Rattle.state_tuples.specs.AppliedRules.Events.{applied_of}
-use Rattle.state_tuples.specs.AppliedRules.Firsts.{picked}
+use Rattle.state_tuples.specs.Ways.Firsts.{picked}
 use Rattle.path_model.specs.CheckerModel.Choices.{first_some}
 use Rattle.flow_graph.specs.Values.{event_of}
 use Rattle.hole_matcher.specs.HoleBindings.Settings.{setting_in}

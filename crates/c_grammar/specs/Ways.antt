@@ -1,0 +1,7 @@
+pub mod DeclaratorSteps
+pub mod ExpressionSteps
+pub mod SpecifierSteps
+pub mod ChunkSteps
+pub mod DeclarationSteps
+pub mod StatementSteps
+pub mod TaggedSteps

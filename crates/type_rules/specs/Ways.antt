@@ -1,0 +1,3 @@
+pub mod ScopesByCase
+pub mod TablesByCase
+pub mod TypesByCase
