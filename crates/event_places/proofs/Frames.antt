@@ -29,7 +29,7 @@ use Rattle.typed_unit.specs.Texts.{Text}
 use Rattle.event_places.specs.Naming.{IsNodeOf, IsNamedIn}
 use Rattle.event_places.proofs.EachNode.{Everywhere, everywhere}
 use Rattle.event_places.proofs.Events.{text-event, text-call}
-use Rattle.event_places.proofs.Formals.{site-other}
+use Rattle.path_model.proofs.CheckerPrograms.Formals.{site-other}
 use Rattle.event_places.proofs.Holes.{bound-name}
 use Rattle.event_places.proofs.Objects.{IsOfName, actuals-named, source-named}
 use Rattle.event_places.proofs.Passing.{Passes, into-named, out-named}

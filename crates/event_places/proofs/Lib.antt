@@ -14,7 +14,6 @@ pub mod Closing
 pub mod Spelled
 pub mod Spelling
 pub mod Bases
-pub mod Formals
 pub mod Objects
 pub mod Holes
 pub mod Passing

@@ -17,7 +17,7 @@ use Rattle.path_model.proofs.CheckerModel.Sources.{given, tested}
 use Rattle.type_rules.specs.Options.{or_else, ◌>?◌}
 use Rattle.type_rules.specs.Vars.{CVar, Extern, FileStatic, LocalStatic, Param, Local, Result, Called}
 use Rattle.event_places.proofs.Bases.{rebase-base, replaced-base}
-use Rattle.event_places.proofs.Formals.{AreOther}
+use Rattle.path_model.proofs.CheckerPrograms.Formals.{AreOther}
 use Rattle.event_places.proofs.Objects.{IsOfName, AreNamed, its-name}
 
 -- static storage is that of no variable of a block

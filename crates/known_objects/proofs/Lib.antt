@@ -5,3 +5,5 @@ pub mod SameLinks
 pub mod Describing
 pub mod MaskedLists
 pub mod KnownLists
+pub mod FollowedMask
+pub mod EmptySets

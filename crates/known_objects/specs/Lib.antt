@@ -2,4 +2,5 @@ pub mod Linked
 pub mod Listed
 pub mod ByFunction
 pub mod Followed
+pub mod FollowedSets
 pub mod Theorems

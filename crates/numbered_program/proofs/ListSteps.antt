@@ -71,9 +71,3 @@ module _ {A : Type 0} where
 
   pub length_of_more : (old new : List A) (y : A) (n : ℕ) → new ≡ old ++ y ∷ [] → length old ≡ n → length new ≡ n + 1
   length_of_more old new y n more e = omega (arith, ap length more, length-append old (y ∷ []), e)
-
--- one more of a list that is mapped
-pub map_next : {A B : Type 0} (F : A → B) (xs : List A) (i : ℕ) (d : A) (old new : List B) (y : B) → i < length xs → old ≡ map F (take i xs) → y ≡ F (get_or xs i d) → new ≡ old ++ y ∷ []
-    → new ≡ map F (take (i + 1) xs)
-map_next F xs i d old new y within before e pushed =
-    pushed ∙ ap (λ z. z ++ y ∷ []) before ∙ ap (λ z. map F (take i xs) ++ z ∷ []) e ∙ sym (map_more F xs i d within)

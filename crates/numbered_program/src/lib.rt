@@ -29,4 +29,5 @@ pub use numbered_calls::{entered_rows, handed_rows, saved_flags};
 pub use numbered_events::{blocks_stand_for_events, rows_stand_for_events};
 pub use numbered_tuples::{Numbering, ObjectStates};
 pub use program::program_rows;
+pub use swaps::swapped;
 pub use theorems::rows_stand_for_programs;

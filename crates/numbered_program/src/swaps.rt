@@ -6,7 +6,7 @@ ghost use Rattle.numbered_program.specs.Views.{swapped};
 use std::alloc::{AllocError, Global};
 
 /// The number of a block: the first block of the graph and the block 0 have each other's, and the others keep theirs.
-pub(crate) fn swapped(first: u32, block: u32) -> u32
+pub fn swapped(first: u32, block: u32) -> u32
     ensures { result ≡ swapped first block }
 {
     if block == 0 {

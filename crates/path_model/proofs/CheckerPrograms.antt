@@ -1,3 +1,4 @@
 pub mod Bound
 pub mod Closed
 pub mod EarlierRoots
+pub mod Formals

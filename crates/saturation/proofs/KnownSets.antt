@@ -22,9 +22,9 @@ use Rattle.path_model.specs.CheckerModel.Reports.{Checker, Fires, report_of}
 use Rattle.path_theory.specs.FlowGraphs.{supergraph}
 use Rattle.path_theory.specs.Paths.{after}
 use Rattle.report_model.specs.declared.report.Report.{Report}
-use Rattle.saturation.proofs.FollowedMask.{followed-by-mask}
+use Rattle.known_objects.proofs.FollowedMask.{followed-by-mask}
 use Rattle.saturation.proofs.MetStates.MetEdges.{bound-object}
-use Rattle.saturation.specs.FollowedSets.{AreFollowable, HaveNone}
+use Rattle.known_objects.specs.FollowedSets.{AreFollowable, HaveNone}
 use Rattle.saturation.specs.MetStates.{TakesUnknown, met_by, IsBoundWhereMet}
 use Rattle.path_model.specs.CheckerGraphs.Members.{Member}
 use Rattle.type_rules.specs.Options.{if_there}

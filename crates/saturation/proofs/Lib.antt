@@ -1,12 +1,5 @@
 pub mod AllKnown
-pub mod EmptySets
-pub mod FollowedMask
 pub mod KnownSets
-pub mod Compared
-pub mod OwnFiles
-pub mod Written
-pub mod Agreeing
-pub mod InOrder
 pub mod EdgeReports
 pub mod MetStates
 pub mod TabulationEngine

@@ -3,7 +3,7 @@
 
 ghost use Rattle.std.specs.Prelude.{map, IfOk};
 ghost use Rattle.function_tables.specs.EngineTables.Known.{checker_in, texts_in, graphs_in, objects_in};
-ghost use Rattle.saturation.specs.FollowedSets.{AreFollowable, HaveNone};
+ghost use Rattle.known_objects.specs.FollowedSets.{AreFollowable, HaveNone};
 
 use crate::met_states::bound_where_met;
 use crate::tabulation_engine::{Engine, least_edges};

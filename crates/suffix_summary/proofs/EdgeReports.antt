@@ -1,5 +1,3 @@
 pub mod RulesApplied
 pub mod AtEvents
-pub mod Gathered
 pub mod SayingEdges
-pub mod UnitsOfFunctions

@@ -26,7 +26,7 @@ use Rattle.path_theory.specs.FrameEnds.{Exits, ExitsApart}
 use Rattle.path_theory.specs.Marks.{EventMark}
 use Rattle.type_rules.specs.Options.{if_there}
 use Rattle.typed_unit.specs.Texts.{Text}
-use Rattle.suffix_summary.proofs.Formals.{site-other}
+use Rattle.path_model.proofs.CheckerPrograms.Formals.{site-other}
 use Rattle.suffix_summary.proofs.HandedBack.{handing}
 use Rattle.suffix_summary.proofs.Returns.{out-other}
 

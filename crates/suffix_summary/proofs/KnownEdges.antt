@@ -46,7 +46,7 @@ use Rattle.suffix_summary.proofs.HandedBack.{handing}
 use Rattle.suffix_summary.proofs.LogsOfCheckers.{checker_log_reports}
 use Rattle.suffix_summary.proofs.MetStates.EmptyEdges.{Met, met}
 use Rattle.suffix_summary.specs.EdgeReports.Shown.{ShowsIn}
-use Rattle.suffix_summary.specs.FollowedSets.{HaveNone}
+use Rattle.known_objects.specs.FollowedSets.{HaveNone}
 use Rattle.suffix_summary.specs.MetStates.{StandsAt, is_own_in, stands_in}
 use Rattle.suffix_summary.specs.StandingRows.{AreStanding}
 use Rattle.type_rules.specs.Options.{if_there, ◌>?◌}

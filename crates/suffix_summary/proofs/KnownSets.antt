@@ -21,9 +21,9 @@ use Rattle.path_model.specs.CheckerModel.Reports.{Checker, Fires, report_of}
 use Rattle.path_theory.specs.FlowGraphs.{supergraph}
 use Rattle.path_theory.specs.Paths.{after}
 use Rattle.report_model.specs.declared.report.Report.{Report}
-use Rattle.suffix_summary.proofs.FollowedMask.{followed-by-mask}
+use Rattle.known_objects.proofs.FollowedMask.{followed-by-mask}
 use Rattle.suffix_summary.proofs.MetStates.MetEdges.{bound-object}
-use Rattle.suffix_summary.specs.FollowedSets.{AreFollowable}
+use Rattle.known_objects.specs.FollowedSets.{AreFollowable}
 use Rattle.suffix_summary.specs.MetStates.{TakesUnknown, met_by, IsBoundWhereMet, stands_in}
 use Rattle.type_rules.specs.Options.{if_there}
 use Rattle.typed_unit.specs.Texts.{Text}

@@ -10,7 +10,7 @@ use Rattle.path_model.specs.CheckerModel.Happenings.{Site}
 use Rattle.path_model.proofs.CheckerModel.HandedBack.{handed-back}
 use Rattle.path_model.proofs.CheckerModel.Sources.{given}
 use Rattle.type_rules.specs.Vars.{CVar, Extern, FileStatic, LocalStatic, Param, Local, Result, Called}
-use Rattle.suffix_summary.proofs.Formals.{AreOther}
+use Rattle.path_model.proofs.CheckerPrograms.Formals.{AreOther}
 
 static-other : (v : CVar) → is_static_var v ≡ true → is_local v ≡ false
 static-other (Extern n) h = refl

@@ -1,5 +1,3 @@
 pub mod StandingRows
 pub mod EdgeReports
-pub mod FollowedSets
 pub mod MetStates
-pub mod Reporting

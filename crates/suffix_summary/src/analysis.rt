@@ -3,7 +3,7 @@
 ghost use Rattle.std.specs.Prelude.{◌≤◌, IfOk, [], ◌∷◌};
 ghost use Rattle.path_model.specs.CheckerPrograms.Reported.{AreReports};
 ghost use Rattle.typed_unit.specs.Texts.{texts_of};
-ghost use Rattle.suffix_summary.specs.Reporting.{checker_of};
+ghost use Rattle.ordered_reports.specs.Reporting.{checker_of};
 
 use crate::checked_programs::reports_of;
 use call_graph::Program;

@@ -5,7 +5,7 @@ ghost use Rattle.path_model.specs.CheckerModel.Checkers.{model};
 ghost use Rattle.path_model.specs.CheckerPrograms.Paths.{program as paths};
 ghost use Rattle.typed_unit.specs.Texts.{texts_of};
 ghost use Rattle.path_theory.specs.Paths.{Reported};
-ghost use Rattle.suffix_summary.specs.Reporting.{checker_of};
+ghost use Rattle.ordered_reports.specs.Reporting.{checker_of};
 ghost use Rattle.report_model.specs.declared.report.Report.{Report as Said};
 
 use crate::followed_sets::followed_sets;

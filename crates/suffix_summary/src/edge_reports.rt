@@ -1,7 +1,6 @@
 //! What path edges show: the reports of the alternatives with an action that are taken at their blocks.
 
 mod edges;
-mod function_units;
 mod said_reports;
 
 pub(crate) use edges::all_shown;

@@ -3,7 +3,6 @@
 #![tactic(auto)]
 
 // the rows of a program, and the reports of its edges
-mod blocks;
 mod edge_reports;
 mod known_tables;
 mod standing_rows;

@@ -12,7 +12,7 @@ use Rattle.metal_tree.specs.MetalMachines.Machine.{Machine}
 use Rattle.metal_tree.specs.Whole.{machine_view}
 use Rattle.metal_tree.specs.declared.machine.Machine as code
 use Rattle.report_model.specs.declared.report.Report.{Report}
-use Rattle.suffix_summary.proofs.InOrder.{HasReports}
+use Rattle.ordered_reports.proofs.InOrder.{HasReports}
 
 module _ (ts : List Text) where
   nothing-has : (all : List Report) → all ≡ [] → HasReports [] ts all

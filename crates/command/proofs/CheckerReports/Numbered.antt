@@ -4,7 +4,7 @@ use Rattle.flow_graph.specs.CPaths.Membership.{Among}
 use Rattle.path_model.specs.CheckerModel.Reports.{Checker}
 use Rattle.command.specs.CheckerReports.Checkers.{numbered_from, checkers_in}
 use Rattle.metal_tree.specs.MetalMachines.Machine.{Machine}
-use Rattle.suffix_summary.proofs.Agreeing.{HaveOwnNumbers}
+use Rattle.ordered_reports.proofs.Agreeing.{HaveOwnNumbers}
 
 module _ (depth : ℕ) (names : List (List ℕ)) where
   numbered-on : (n : ℕ) (ms : List Machine) (c : Checker) → Among c (numbered_from n ms depth names) → n ≤ c.number

@@ -5,10 +5,10 @@ ghost use Rattle.function_tables.specs.EngineTables.Known.{AreKnown, IsFrame, ch
 ghost use Rattle.least_set.specs.Logs.{IsExactly, SomeGives};
 ghost use Rattle.path_edges.specs.Relations.{ShowsAt};
 
-use crate::edge_reports::function_units::unit_of;
 use crate::edge_reports::taken_reports::said_by_all;
 use block_flows::firings;
 use function_tables::{Frame, Tables, item};
+use ordered_reports::unit_of;
 use path_edges::Edge;
 use report_model::Report;
 use state_tuples::Checker;

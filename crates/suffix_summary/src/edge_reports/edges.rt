@@ -6,11 +6,11 @@ ghost use Rattle.least_set.specs.Logs.{IsExactly, SomeGives};
 ghost use Rattle.path_model.specs.CheckerModel.Choices.{State};
 ghost use Rattle.suffix_summary.specs.EdgeReports.Shown.{SaysAtEdge, ShowsIn};
 
-use crate::blocks::swapped;
-use crate::edge_reports::function_units::unit_of;
 use crate::edge_reports::said_reports::said_by_all;
 use function_tables::{Frame, Tables, item};
 use numbered_engine::{NumberedEdge, NumberedEngine, firings_at};
+use numbered_program::swapped;
+use ordered_reports::unit_of;
 use report_model::Report;
 use row_flows::Firing;
 use state_tuples::Checker;

@@ -15,10 +15,10 @@ ghost use Rattle.suffix_summary.specs.MetStates.{GivesAmong, GivesBound, GivesIn
 ghost use Rattle.type_rules.specs.Functions.{Defined};
 ghost use Rattle.typed_unit.specs.Texts.{Text};
 
-use crate::blocks::swapped;
 use crate::met_states::events::{Frames, add_at_events};
 use function_tables::{FunctionTable, item};
 use numbered_engine::{FunctionRows, NumberedEdge, ProgramRows};
+use numbered_program::swapped;
 use objects::Object;
 use row_flows::NumberedTuple;
 use std::alloc::{AllocError, Global};

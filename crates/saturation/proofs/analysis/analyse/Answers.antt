@@ -1,9 +1,9 @@
 use Rattle.std.proofs.Common.{[], ◌∷◌}
 use Rattle.typed_unit.specs.Texts.{texts_of}
-use Rattle.saturation.proofs.Agreeing.{alone}
-use Rattle.saturation.proofs.InOrder.{of-one, in-order}
-use Rattle.saturation.proofs.OwnFiles.{own-files}
-use Rattle.saturation.specs.Reporting.{checker_of}
+use Rattle.ordered_reports.proofs.Agreeing.{alone}
+use Rattle.ordered_reports.proofs.InOrder.{of-one, in-order}
+use Rattle.ordered_reports.proofs.OwnFiles.{own-files}
+use Rattle.ordered_reports.specs.Reporting.{checker_of}
 use Rattle.saturation.proofs.analysis.analyse.Goals as goal
 
 pub returns : goal.returns

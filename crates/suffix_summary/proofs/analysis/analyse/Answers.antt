@@ -1,9 +1,9 @@
 use Rattle.std.proofs.Common.{[], ◌∷◌}
 use Rattle.typed_unit.specs.Texts.{texts_of}
-use Rattle.suffix_summary.proofs.Agreeing.{alone}
-use Rattle.suffix_summary.proofs.InOrder.{of-one, in-order}
-use Rattle.suffix_summary.proofs.OwnFiles.{own-files}
-use Rattle.suffix_summary.specs.Reporting.{checker_of}
+use Rattle.ordered_reports.proofs.Agreeing.{alone}
+use Rattle.ordered_reports.proofs.InOrder.{of-one, in-order}
+use Rattle.ordered_reports.proofs.OwnFiles.{own-files}
+use Rattle.ordered_reports.specs.Reporting.{checker_of}
 use Rattle.suffix_summary.proofs.analysis.analyse.Goals as goal
 
 pub returns : goal.returns

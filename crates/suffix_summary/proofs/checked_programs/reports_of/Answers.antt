@@ -10,8 +10,8 @@ use Rattle.path_model.proofs.CheckerGraphs.Units.{functions-are}
 use Rattle.path_model.specs.CheckerPrograms.Texts.{functions_in}
 use Rattle.typed_unit.specs.Texts.{texts_of}
 use Rattle.suffix_summary.proofs.AllKnown.{all-known}
-use Rattle.suffix_summary.proofs.EmptySets.{count-none, have-none, plain-none}
-use Rattle.suffix_summary.specs.Reporting.{checker_of}
+use Rattle.known_objects.proofs.EmptySets.{count-none, have-none, plain-none}
+use Rattle.ordered_reports.specs.Reporting.{checker_of}
 use Rattle.suffix_summary.proofs.checked_programs.reports_of.Goals as goal
 
 pub invariant_of-first : goal.invariant_of-first

@@ -3,8 +3,8 @@ use Rattle.typed_unit.specs.Texts.{texts_of}
 use Rattle.command.specs.CheckerReports.Checkers.{checkers_in}
 use Rattle.command.proofs.CheckerReports.Numbered.{own-numbers}
 use Rattle.metal_tree.specs.Whole.{machine_view}
-use Rattle.suffix_summary.proofs.InOrder.{in-order}
-use Rattle.suffix_summary.proofs.OwnFiles.{own-files}
+use Rattle.ordered_reports.proofs.InOrder.{in-order}
+use Rattle.ordered_reports.proofs.OwnFiles.{own-files}
 use Rattle.command.proofs.checker_reports.reports.all_reports.Goals as goal
 
 pub returns : goal.returns

@@ -4,7 +4,7 @@ use Rattle.command.specs.CheckerReports.Checkers.{checkers_in}
 use Rattle.command.proofs.CheckerReports.Gathering.{gathered-none, gathered-next}
 use Rattle.least_set.proofs.Growing.{all_of}
 use Rattle.metal_tree.specs.Whole.{machine_view}
-use Rattle.suffix_summary.proofs.InOrder.{HasReports}
+use Rattle.ordered_reports.proofs.InOrder.{HasReports}
 use Rattle.command.proofs.checker_reports.reports.gathered.Goals as goal
 
 pub loop-number-init : goal.loop-number-init

@@ -2,7 +2,7 @@ use Rattle.std.proofs.Common.{map, take}
 use Rattle.typed_unit.specs.Texts.{texts_of}
 use Rattle.command.specs.CheckerReports.Checkers.{checkers_in}
 use Rattle.metal_tree.specs.Whole.{machine_view}
-use Rattle.suffix_summary.proofs.InOrder.{HasReports}
+use Rattle.ordered_reports.proofs.InOrder.{HasReports}
 use Rattle.command.proofs.checker_reports.reports.gathered.Given as goal
 
 -- the reports of the checkers that were gone through

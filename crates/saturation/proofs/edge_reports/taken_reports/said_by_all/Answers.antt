@@ -1,7 +1,7 @@
 use Rattle.std.proofs.Common.{◌≡◌, ◌∙◌, sym, map}
 use Rattle.std.specs.List.{filter_map}
 use Rattle.saturation.specs.EdgeReports.Said.{happening_at, said_by}
-use Rattle.saturation.proofs.EdgeReports.Gathered.{gave, gave-none}
+use Rattle.ordered_reports.proofs.Gathered.{gave, gave-none}
 use Rattle.least_set.proofs.Growing.{all_of}
 use Rattle.state_tuples.specs.TransitionReports.TakenRules.{checker_at}
 use Rattle.saturation.proofs.edge_reports.taken_reports.said_by_all.Goals as goal

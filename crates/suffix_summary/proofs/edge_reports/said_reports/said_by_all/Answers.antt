@@ -4,7 +4,7 @@ use Rattle.std.specs.List.{filter_map}
 use Rattle.least_set.proofs.Growing.{all_of}
 use Rattle.row_flows.specs.declared.behind.Firing.{Firing}
 use Rattle.state_tuples.specs.TransitionReports.TakenRules.{checker_at}
-use Rattle.suffix_summary.proofs.EdgeReports.Gathered.{gave, gave-none}
+use Rattle.ordered_reports.proofs.Gathered.{gave, gave-none}
 use Rattle.suffix_summary.specs.EdgeReports.Said.{happening_at, said}
 use Rattle.suffix_summary.proofs.edge_reports.said_reports.said_by_all.Goals as goal
 

@@ -7,9 +7,9 @@ use Rattle.path_model.specs.CheckerModel.Reports.{Checker, token_at}
 use Rattle.path_model.specs.CheckerPrograms.Reported.{IsReported}
 use Rattle.path_model.specs.CheckerPrograms.Texts.{tokens_of}
 use Rattle.typed_unit.specs.Texts.{Text}
-use Rattle.saturation.proofs.Compared.{AreAlike, alike}
-use Rattle.saturation.proofs.OwnFiles.{StandInOwnFiles}
-use Rattle.saturation.proofs.Written.{IsWritten, written}
+use Rattle.ordered_reports.proofs.Compared.{AreAlike, alike}
+use Rattle.ordered_reports.proofs.OwnFiles.{StandInOwnFiles}
+use Rattle.ordered_reports.proofs.Written.{IsWritten, written}
 use Rattle.report_model.specs.ReportLists.Repeats.{AgreeWhereEqual}
 use Rattle.report_model.specs.Order.{report_cmp}
 use Rattle.report_model.specs.declared.report.Report.{Report}

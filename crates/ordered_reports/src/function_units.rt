@@ -9,7 +9,7 @@ use call_graph::{FnId, Program};
 use typed_unit::TypedUnit;
 
 /// The unit in which the function with a number is defined; none where there is no such function.
-pub(crate) fn unit_of<'u, 'a>(program: &Program<'u, 'a>, number: u32) -> Option<&'u TypedUnit<'a>>
+pub fn unit_of<'u, 'a>(program: &Program<'u, 'a>, number: u32) -> Option<&'u TypedUnit<'a>>
     ensures there { IfSome result (λ u. (d : Defined) → slice_get (functions_in (texts_of program.now.units.items)) number ≡ Some d → slice_get program.now.units.items d.place.file ≡ Some u) }
     ensures missing { result ≡ None → slice_get (functions_in (texts_of program.now.units.items)) number ≡ None }
 {

@@ -17,7 +17,7 @@ use Rattle.path_model.specs.CheckerModel.Reports.{Checker, first_token, token_at
 use Rattle.path_model.specs.CheckerPrograms.Paths.{program}
 use Rattle.path_model.specs.CheckerPrograms.Texts.{tokens_of, happening}
 use Rattle.typed_unit.specs.Texts.{Text}
-use Rattle.suffix_summary.proofs.OwnFiles.{StandInOwnFiles}
+use Rattle.ordered_reports.proofs.OwnFiles.{StandInOwnFiles}
 use Rattle.hole_matching.specs.Message.{from_place, is_at}
 use Rattle.least_set.specs.Ways.Same.{both}
 use Rattle.metal_tree.specs.MetalMachines.Machine.{Piece}

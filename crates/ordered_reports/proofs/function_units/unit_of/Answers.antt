@@ -1,6 +1,6 @@
 use Rattle.std.proofs.Common.{◌≤◌, subst}
-use Rattle.saturation.proofs.EdgeReports.UnitsOfFunctions.{unit-there, no-function}
-use Rattle.saturation.proofs.edge_reports.function_units.unit_of.Goals as goal
+use Rattle.ordered_reports.proofs.UnitsOfFunctions.{unit-there, no-function}
+use Rattle.ordered_reports.proofs.function_units.unit_of.Goals as goal
 
 pub returns-then-number-count-clause-missing : goal.returns-then-number-count-clause-missing
 returns-then-number-count-clause-missing c none =

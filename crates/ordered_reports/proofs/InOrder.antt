@@ -13,8 +13,8 @@ use Rattle.path_theory.specs.Paths.{Reported}
 use Rattle.report_model.specs.ReportLists.Repeats.{AgreeWhereEqual}
 use Rattle.report_model.specs.Order.{report_cmp}
 use Rattle.report_model.specs.declared.report.Report.{Report}
-use Rattle.saturation.proofs.Agreeing.{HaveOwnNumbers, agree}
-use Rattle.saturation.proofs.OwnFiles.{StandInOwnFiles}
+use Rattle.ordered_reports.proofs.Agreeing.{HaveOwnNumbers, agree}
+use Rattle.ordered_reports.proofs.OwnFiles.{StandInOwnFiles}
 
 -- a list has the reports of these checkers, in some order
 abbrev pub HasReports : List Checker → List Text → List Report → Type 0

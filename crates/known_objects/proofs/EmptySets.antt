@@ -4,7 +4,7 @@ use Rattle.std.proofs.lemmas.Option.{same_Some}
 use Rattle.block_flows.specs.TupleFlows.Moved.{AreObjects}
 use Rattle.c_objects.specs.Objects.{Object}
 use Rattle.least_set.proofs.Growing.{nothing}
-use Rattle.saturation.specs.FollowedSets.{HaveNone}
+use Rattle.known_objects.specs.FollowedSets.{HaveNone}
 
 abbrev empties : ℕ → List (List Object)
 empties n = replicate n []
