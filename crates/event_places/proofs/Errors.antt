@@ -1,15 +1,13 @@
 -- Where a flat list of events, calls and returns is a path, each rule with an action that is taken at its last event is an error of the program.
-use Rattle.std.proofs.Common.{◌≡◌, Bool, false, List, Option, None, Some, inl, inr, ap, subst, ◌∙◌}
+use Rattle.std.proofs.Common.{◌≡◌, false, List, Option, None, Some, inl, inr, ap, ◌∙◌}
 use Rattle.c_objects.specs.Objects.{Object}
 use Rattle.c_tree.specs.declared.token.Token.{Token}
 use Rattle.type_rules.specs.Options.{◌>?◌}
 use Rattle.flow_graph.specs.CPaths.EventPlaces.{event_place}
 use Rattle.metal_tree.specs.MetalMachines.Machine.{Piece}
 use Rattle.path_theory.specs.Actions.{Actions, Did, State, TakenAt, fold}
-use Rattle.path_theory.specs.FlatPaths.{actions_of, IsPath}
-use Rattle.path_theory.specs.Model.{Model}
-use Rattle.path_theory.specs.Paths.{Callers, Path, Begin, Skip, Go, Call, Return}
-use Rattle.path_theory.specs.Supergraph.{Supergraph}
+use Rattle.path_theory.specs.FlatPaths.{IsPath}
+use Rattle.path_theory.proofs.FlatPaths.{last_event}
 use Rattle.path_theory.specs.Trails.{More}
 use Rattle.path_model.specs.CheckerModel.Checkers.{model, source_at}
 use Rattle.path_model.specs.CheckerModel.Choices.{Taken}
@@ -22,32 +20,12 @@ use Rattle.event_places.specs.Standing.{StandInFiles}
 use Rattle.event_places.specs.Theorems.{IsErrorThere, is_declaration, takes}
 use Rattle.event_places.proofs.Reports.{elsewhere, global-elsewhere, has-report, taken-elsewhere}
 
-module _ (M : Model) (K : Supergraph M) where
-  -- a path goes over the event
-  record GoesOver (e : M.Event) : Type 0 where
-    fn : M.Fn
-    kind : Bool
-    place : K.Place
-    to : K.Place
-    below : Callers M K
-    path : Path M K fn kind place below
-    goes : K.Goes fn place e to
-
-  last-event : {f : M.Fn} {k : Bool} {p : K.Place} {b : Callers M K} (P : Path M K f k p b) (l : Actions M) (e : M.Event) → actions_of M K P ≡ More l (Did e) → GoesOver e
-  last-event (Begin r) l e d = cc
-  last-event (Skip P t) l e d = last-event P l e d
-  last-event (Go {f = f} {p = p} {q = q} P i t) l e d =
-      let s : i ≡ e = cc in
-      record { fn = f; kind = _; place = p; to = q; below = _; path = P; goes = subst (λ (y : M.Event). K.Goes f p y q) s t }
-  last-event (Call P s h t) l e d = cc
-  last-event (Return s P t) l e d = cc
-
 module _ (c : Checker) (ts : List Text) (stand : StandInFiles ts) (root : Function) (l : Actions (model c)) (h : Happening) (w : IsPath (model c) (program c ts) root (More l (Did h))) where
   abbrev now : State (model c)
   now = fold (model c) root l
 
   token-there : is_declaration h.event ≡ false → (token : Token) × (token_at (event_place h.event) h.tokens ≡ Some token)
-  token-there n = let v = last-event (model c) (program c ts) w.path l h w.actions_are in elsewhere c ts stand v.path h v.goes n
+  token-there n = let v = last_event (model c) (program c ts) root l h w in elsewhere c ts stand v.path h v.goes n
 
   is-error : (o : Option Object) (t : Taken) (pieces : List Piece) → is_declaration h.event ≡ false → t.rule.action ≡ Some pieces
       → ((r : Report) → report_of c h now.top.fn o t ≡ Some r → TakenAt (model c) h now r) → IsErrorThere c ts now.top.fn h o t pieces
@@ -56,7 +34,7 @@ module _ (c : Checker) (ts : List Text) (stand : StandInFiles ts) (root : Functi
       record {
         token = u.0;
         there = u.1;
-        error = record { root = root; actions = More l (Did h); path = w; errors = inr (fires (report_at c h now.top.fn o t u.0 pieces) (has-report c h now.top.fn o t pieces u.0 a u.1)) };
+        error = record { root = root; actions = l; event = h; path = w; taken = fires (report_at c h now.top.fn o t u.0 pieces) (has-report c h now.top.fn o t pieces u.0 a u.1) };
       }
 
   -- THE ERROR of a rule that is taken at the path's last event

@@ -17,7 +17,8 @@ use Rattle.path_model.specs.CheckerPrograms.Texts.{definition_of, happening, obj
 use Rattle.path_model.proofs.CheckerModel.Laws.{local}
 use Rattle.path_model.proofs.CheckerModel.Sources.{given, untested}
 use Rattle.path_model.proofs.CheckerPrograms.Bound.{chosen-gives, fires-gives, taken-gives}
-use Rattle.path_theory.specs.Paths.{Callers, Now, Path, after}
+use Rattle.path_theory.specs.Callers.{Callers}
+use Rattle.path_theory.specs.Paths.{Now, Path, after}
 use Rattle.path_theory.specs.Relevant.{EventOf, CallOf, IsClosed}
 use Rattle.path_theory.proofs.Known.{event_of}
 use Rattle.path_theory.proofs.KnownObjects.{known_after}

@@ -24,7 +24,8 @@ use Rattle.hole_matching.specs.Holes.{Setting}
 use Rattle.hole_matching.specs.Matching.{Binding}
 use Rattle.metal_tree.specs.MetalMachines.Machine.{stop, Rule, Machine, Piece}
 use Rattle.path_theory.specs.Marks.{EventMark}
-use Rattle.path_theory.specs.Paths.{Callers, Path, after, ReportOf, ReportOfGlobal}
+use Rattle.path_theory.specs.Callers.{Callers}
+use Rattle.path_theory.specs.Paths.{Path, after, ReportOf, ReportOfGlobal}
 use Rattle.path_theory.specs.Supergraph.{Supergraph}
 use Rattle.path_model.specs.CheckerModel.Checkers.{model, source_at}
 use Rattle.path_model.specs.CheckerModel.Choices.{State, Taken, first_some, applied, by_alternative, target_at, variable_of, leads_to_global, from_global, from_object, always, binds, is_exit, is_asked, is_global_asked, global_rule, unknown_rule, known_rule, object_rule, scene, taken, taken_global}

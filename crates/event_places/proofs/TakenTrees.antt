@@ -14,7 +14,8 @@ use Rattle.path_model.specs.CheckerModel.Happenings.{Function, Happening}
 use Rattle.path_model.specs.CheckerModel.Reports.{Checker, source_of}
 use Rattle.path_model.specs.CheckerPrograms.Paths.{program}
 use Rattle.path_model.specs.CheckerPrograms.Texts.{happening, objects_in}
-use Rattle.path_theory.specs.Paths.{Callers, Path}
+use Rattle.path_theory.specs.Callers.{Callers}
+use Rattle.path_theory.specs.Paths.{Path}
 use Rattle.typed_unit.specs.Texts.{Text}
 use Rattle.event_places.specs.Spelling.{IsSpelled, IsSubjectSpelled, AreAllSpelled, AreSpelled}
 use Rattle.event_places.specs.Standing.{StandInFiles}

@@ -21,7 +21,8 @@ use Rattle.flow_graph.proofs.CPaths.EngineGraphs.{blocks_have_steps}
 use Rattle.flow_graph.proofs.CPaths.SoundDrafts.{built_graph_sound}
 use Rattle.path_theory.specs.FlowGraphs.{FlowGraphs, supergraph}
 use Rattle.path_theory.specs.Marks.{EventMark, CallMark}
-use Rattle.path_theory.specs.Paths.{Callers, NoCaller, Waiting, Path, Begin, Skip, Go, Call, Return}
+use Rattle.path_theory.specs.Callers.{Callers, NoCaller, Waiting}
+use Rattle.path_theory.specs.Paths.{Path, Begin, Skip, Go, Call, Return}
 use Rattle.path_theory.specs.Relevant.{EventOf, CallOf}
 use Rattle.path_theory.specs.Supergraph.{Supergraph}
 use Rattle.path_theory.specs.Walks.{HasTraces}

@@ -25,7 +25,8 @@ use Rattle.path_model.specs.CheckerPrograms.Paths.{program}
 use Rattle.path_model.specs.CheckerPrograms.Texts.{functions_in, tokens_of as tokens_in, with_close}
 use Rattle.path_theory.specs.Actions.{Actions, Did, State, fold}
 use Rattle.path_theory.specs.FlatPaths.{IsPath, InErrors}
-use Rattle.path_theory.specs.Paths.{Callers, Path, after, Reported}
+use Rattle.path_theory.specs.Callers.{Callers}
+use Rattle.path_theory.specs.Paths.{Path, after, Reported}
 use Rattle.path_theory.specs.Trails.{More}
 use Rattle.type_rules.specs.Functions.{Defined}
 use Rattle.type_rules.specs.Options.{◌>?◌}

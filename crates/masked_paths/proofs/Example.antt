@@ -4,7 +4,8 @@ use Rattle.path_theory.specs.Walks.{WalkStart}
 use Rattle.path_theory.specs.Numbered.{model, origins_of, supergraph_of, objects_of}
 use Rattle.path_theory.specs.Relevant.{EventOf, CallOf}
 use Rattle.path_theory.specs.Trails.{Start}
-use Rattle.path_theory.specs.Paths.{NoCaller, Path, Begin, Go, Reported, ReportOf}
+use Rattle.path_theory.specs.Callers.{NoCaller}
+use Rattle.path_theory.specs.Paths.{Path, Begin, Go, Reported, ReportOf}
 use Rattle.path_theory.specs.Facts.{NoObject, HasObject, Fact, Gives, GivesNone, GivesState}
 use Rattle.path_theory.specs.Flows.{Starts, StartsNone, StartsUnknown, EventFlow, EventNone, EventObject}
 use Rattle.path_theory.specs.Tabulation.{PathEdge, AtRoot, AlongSkip, AlongEvent, IntoCallee, OverCall, AroundCall, Found, FoundObject, FoundGlobal}

@@ -2,7 +2,7 @@
 use Rattle.std.proofs.Common.{◌≡◌, suc, ◌+◌, Bool, false, refl, ◌∙◌, ap, ap₂}
 use Rattle.path_theory.specs.Model.{Model}
 use Rattle.path_theory.specs.Supergraph.{Supergraph}
-use Rattle.path_theory.specs.Paths.{Callers, NoCaller, Waiting}
+use Rattle.path_theory.specs.Callers.{Callers, NoCaller, Waiting}
 use Rattle.path_theory.specs.Origins.{Origins}
 use Rattle.path_theory.specs.Runs.{Run, Here, Skipped, Gone, Closed, run_global}
 use Rattle.path_theory.specs.OpenFrames.{OpenFrames, RootFrame, CalledFrame}

@@ -4,7 +4,7 @@ use Rattle.std.proofs.Common.{◌≡◌, Bool, List, [], ◌∷◌, ◌++◌, re
 use Rattle.std.proofs.Math.Seq.{append_snoc}
 use Rattle.path_theory.specs.Model.{Model}
 use Rattle.path_theory.specs.Supergraph.{Supergraph}
-use Rattle.path_theory.specs.Paths.{Callers}
+use Rattle.path_theory.specs.Callers.{Callers}
 use Rattle.path_theory.specs.Runs.{Run, Here, Skipped, Gone, Closed, run_global}
 use Rattle.path_theory.specs.OpenFrames.{OpenFrames, at_entry}
 use Rattle.path_theory.specs.FlowGraphs.{FlowGraphs, Point, Head, Before, PointSkips, EntersBlock, LeavesBlock, PointGoes, PassesEvent, PointCalls, MakesCall, supergraph}

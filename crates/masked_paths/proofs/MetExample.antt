@@ -6,7 +6,8 @@ use Rattle.path_theory.specs.Model.{Model}
 use Rattle.path_theory.specs.Supergraph.{Supergraph}
 use Rattle.path_theory.specs.Trails.{Start}
 use Rattle.path_theory.specs.Walks.{WalkStart, WalkSkip}
-use Rattle.path_theory.specs.Paths.{NoCaller, Path, Begin, Skip, Go, Reported, ReportOf}
+use Rattle.path_theory.specs.Callers.{NoCaller}
+use Rattle.path_theory.specs.Paths.{Path, Begin, Skip, Go, Reported, ReportOf}
 use Rattle.path_theory.specs.Origins.{Origins}
 use Rattle.path_theory.specs.Facts.{NoObject, Fact, Objects}
 use Rattle.path_theory.specs.Flows.{Starts, StartsNone, StartsUnknown}

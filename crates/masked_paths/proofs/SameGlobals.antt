@@ -3,7 +3,8 @@
 use Rattle.std.proofs.Common.{◌≡◌, suc, ◌+◌, Bool, refl, sym, ◌∙◌, ap, ap₂}
 use Rattle.path_theory.specs.Model.{Model}
 use Rattle.path_theory.specs.Supergraph.{Supergraph}
-use Rattle.path_theory.specs.Paths.{Callers, NoCaller, Path}
+use Rattle.path_theory.specs.Callers.{Callers, NoCaller}
+use Rattle.path_theory.specs.Paths.{Path}
 use Rattle.path_theory.specs.Origins.{Origins}
 use Rattle.path_theory.specs.Runs.{Run, run_global}
 use Rattle.path_theory.specs.OpenFrames.{OpenFrames, RootFrame, CalledFrame, at_entry}

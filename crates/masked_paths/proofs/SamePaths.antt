@@ -1,8 +1,9 @@
 -- Each path has one under the mask that ends in the same state, after as many steps, and the other way round.
 use Rattle.std.proofs.Common.{◌≡◌, suc, ◌+◌, Bool, refl, sym, ◌∙◌, ap, ap₂, subst}
-use Rattle.path_theory.specs.Model.{Model}
+use Rattle.path_theory.specs.Model.{Model, Map}
 use Rattle.path_theory.specs.Supergraph.{Supergraph}
-use Rattle.path_theory.specs.Paths.{Callers, NoCaller, Map, Now, Path}
+use Rattle.path_theory.specs.Callers.{Callers, NoCaller}
+use Rattle.path_theory.specs.Paths.{Now, Path}
 use Rattle.path_theory.specs.Origins.{Origins, IsLocal}
 use Rattle.path_theory.specs.Runs.{Run, run_global, run_map}
 use Rattle.path_theory.specs.OpenFrames.{OpenFrames, RootFrame, CalledFrame, at_entry}

@@ -2,7 +2,7 @@
 use Rattle.std.proofs.Common.{◌≡◌, ◌↔◌, Bool, sym, ◌∙◌, ap}
 use Rattle.path_theory.specs.Model.{Model}
 use Rattle.path_theory.specs.Supergraph.{Supergraph}
-use Rattle.path_theory.specs.Paths.{Callers}
+use Rattle.path_theory.specs.Callers.{Callers}
 use Rattle.path_theory.specs.Origins.{Origins, IsLocal}
 use Rattle.path_theory.specs.Runs.{Run, origin}
 use Rattle.path_theory.specs.OpenFrames.{OpenFrames, at_entry}

@@ -3,7 +3,8 @@
 use Rattle.std.proofs.Common.{◌≡◌, ◌↔◌, ℕ, suc, Bool, IsTrue, sym, ◌∙◌, subst}
 use Rattle.path_theory.specs.Model.{Model}
 use Rattle.path_theory.specs.Supergraph.{Supergraph}
-use Rattle.path_theory.specs.Paths.{Callers, Path, after, Reported, ReportOf, ReportOfGlobal}
+use Rattle.path_theory.specs.Callers.{Callers}
+use Rattle.path_theory.specs.Paths.{Path, after, Reported, ReportOf, ReportOfGlobal}
 use Rattle.path_theory.specs.Origins.{Origins, IsLocal}
 use Rattle.path_theory.specs.PathLengths.{ReportedIn, ReportOfIn, ReportOfGlobalIn}
 use Rattle.masked_paths.specs.Masked.{Mask, kept, masked, GoesAt, masked_supergraph}

@@ -1,9 +1,9 @@
 -- Where a family is enough, each state on a path is the same with the mask and without it.
 -- The induction goes over runs and open frames, since a path is both.
 use Rattle.std.proofs.Common.{◌≡◌, Bool, false, IsTrue, Some, refl, ◌∙◌, ap}
-use Rattle.path_theory.specs.Model.{Model}
+use Rattle.path_theory.specs.Model.{Model, Map}
 use Rattle.path_theory.specs.Supergraph.{Supergraph}
-use Rattle.path_theory.specs.Paths.{Callers, Map}
+use Rattle.path_theory.specs.Callers.{Callers}
 use Rattle.path_theory.specs.Origins.{Origins, IsLocal}
 use Rattle.path_theory.specs.Runs.{Run, Here, Skipped, Gone, Closed, run_global, run_map}
 use Rattle.path_theory.specs.OpenFrames.{OpenFrames, RootFrame, CalledFrame, at_entry}

@@ -3,7 +3,8 @@
 use Rattle.std.specs.Prelude.{◌≡◌, Bool, Some, None, List, [], ◌∷◌, ◌++◌}
 use Rattle.path_theory.specs.Model.{Model}
 use Rattle.path_theory.specs.Supergraph.{Supergraph}
-use Rattle.path_theory.specs.Paths.{Callers, Path, after}
+use Rattle.path_theory.specs.Callers.{Callers}
+use Rattle.path_theory.specs.Paths.{Path, after}
 use Rattle.path_theory.specs.FlowGraphs.{FlowGraphs, Head, supergraph}
 use Rattle.path_theory.specs.Relevant.{EventOf}
 

@@ -2,7 +2,8 @@
 -- The lemmas in `proofs/` have them for any model; each contract of `src/met_states.rt` names one.
 use Rattle.std.specs.Prelude.{ℕ, Bool, false, IsTrue, Option, List, ◌↔◌}
 use Rattle.path_theory.specs.Walks.{HasTraces}
-use Rattle.path_theory.specs.Paths.{Callers, Path}
+use Rattle.path_theory.specs.Callers.{Callers}
+use Rattle.path_theory.specs.Paths.{Path}
 use Rattle.path_theory.specs.FlowGraphs.{Head}
 use Rattle.path_theory.specs.TabulationRules.LeastSets.{HasNumbers}
 use Rattle.path_theory.specs.Numbered.{Checker, Program, BlockProgram, model, origins_of, supergraph_of, graphs_of, block_supergraph_of, objects_of}

@@ -2,7 +2,8 @@
 use Rattle.std.specs.Prelude.{◌≡◌, Bool}
 use Rattle.path_theory.specs.Model.{Model}
 use Rattle.path_theory.specs.Supergraph.{Supergraph}
-use Rattle.path_theory.specs.Paths.{Callers, NoCaller, Waiting, Maps, Path, after}
+use Rattle.path_theory.specs.Callers.{Callers, NoCaller, Waiting}
+use Rattle.path_theory.specs.Paths.{Maps, Path, after}
 use Rattle.path_theory.specs.Origins.{Origins}
 use Rattle.path_theory.specs.PathLengths.{path_length}
 use Rattle.masked_paths.specs.Masked.{Mask, masked, masked_supergraph}

@@ -4,7 +4,8 @@ use Rattle.std.specs.Prelude.{◌⊎◌, ◌≡◌, ◌↔◌, ℕ, Bool, true, 
 use Rattle.path_theory.specs.Model.{Model}
 use Rattle.path_theory.specs.Supergraph.{Supergraph}
 use Rattle.path_theory.specs.Origins.{Origins}
-use Rattle.path_theory.specs.Paths.{Callers, Path}
+use Rattle.path_theory.specs.Callers.{Callers}
+use Rattle.path_theory.specs.Paths.{Path}
 use Rattle.path_theory.specs.PathLengths.{ReportedIn}
 use Rattle.path_theory.specs.FlatPaths.{InErrors}
 use Rattle.path_theory.specs.Facts.{Fact, IsFollowed}

@@ -1,5 +1,5 @@
 -- A path of the program through two frames of walk, built step by step, and what computes along it.
-use Rattle.std.proofs.Common.{true, false, Some, [], ◌∷◌, refl, inl, inr}
+use Rattle.std.proofs.Common.{true, false, Some, [], ◌∷◌, refl, inl}
 use Rattle.path_examples.specs.declared.checker.Variable.TheVariants.{WalkFormal, WalkLocal}
 use Rattle.path_examples.specs.declared.checker.Event.TheVariants.{Lock, Unlock, Copy, Disable, Leave}
 use Rattle.path_examples.specs.declared.checker.Report.TheVariants.{DoubleLock}
@@ -7,9 +7,10 @@ use Rattle.path_examples.specs.declared.program.Function.TheVariants.{Walk}
 use Rattle.path_examples.specs.declared.program.CallSite.TheVariants.{WalkAgain}
 use Rattle.path_examples.specs.declared.program.Block.TheVariants.{Entry, Calling, Otherwise, After, Exit}
 use Rattle.path_theory.specs.Trails.{More}
-use Rattle.path_theory.specs.Paths.{Callers, NoCaller, Waiting, Path, Begin, Skip, Go, Call, Return}
+use Rattle.path_theory.specs.Callers.{Callers, NoCaller, Waiting}
 use Rattle.path_theory.specs.Actions.{Did}
-use Rattle.path_theory.specs.FlatPaths.{IsPath}
+use Rattle.path_theory.specs.FlatPaths as flat
+use Rattle.path_theory.specs.FlatPaths.{LeadsTo, Begins, Skips, Does, Returns, IsPath}
 use Rattle.path_theory.specs.FlowGraphs.{Head, Before, EntersBlock, LeavesBlock, PassesEvent, MakesCall, EndsFrame}
 use Rattle.path_theory.specs.Facts.{NoObject}
 use Rattle.path_theory.specs.Flows.{StartsNone, EventNone, CallNone}
@@ -27,37 +28,38 @@ again = record { caller = refl; block = refl; callee = refl; behind = refl }
 abbrev one_frame : Callers locks program
 one_frame = Waiting Walk true WalkAgain (Head After) NoCaller
 
-abbrev second_frame : Path locks program Walk false (Head Entry) one_frame
+abbrev second_frame : LeadsTo locks program Walk into_second Walk false (Head Entry) one_frame
 second_frame =
-    let begun = Skip (Begin {f = Walk} tt) (EntersBlock Entry) in
-    let locked = Go begun (Lock WalkFormal) (PassesEvent Entry (Lock WalkFormal) (Copy ∷ [])) in
-    let copied = Go locked Copy (PassesEvent Entry Copy []) in
-    let calling = Skip (Skip copied (LeavesBlock {b = Entry} {c = Calling} tt)) (EntersBlock Calling) in
-    Call calling WalkAgain Walk (MakesCall again)
+    let begun = Skips (Begins {root = Walk} tt) (EntersBlock Entry) in
+    let locked = Does begun (Lock WalkFormal) (PassesEvent Entry (Lock WalkFormal) (Copy ∷ [])) in
+    let copied = Does locked Copy (PassesEvent Entry Copy []) in
+    let calling = Skips (Skips copied (LeavesBlock {b = Entry} {c = Calling} tt)) (EntersBlock Calling) in
+    flat.Calls calling WalkAgain Walk (MakesCall again)
 
-abbrev second_locked : Path locks program Walk false (Before Entry (Copy ∷ [])) one_frame
-second_locked = Go (Skip second_frame (EntersBlock Entry)) (Lock WalkFormal) (PassesEvent Entry (Lock WalkFormal) (Copy ∷ []))
+abbrev second_locked : LeadsTo locks program Walk (More into_second (Did (Lock WalkFormal))) Walk false (Before Entry (Copy ∷ [])) one_frame
+second_locked = Does (Skips second_frame (EntersBlock Entry)) (Lock WalkFormal) (PassesEvent Entry (Lock WalkFormal) (Copy ∷ []))
 
-abbrev first_again : Path locks program Walk true (Head After) NoCaller
+abbrev first_again : LeadsTo locks program Walk back_from_second Walk true (Head After) NoCaller
 first_again =
-    let copied = Go second_locked Copy (PassesEvent Entry Copy []) in
-    let otherwise = Skip (Skip copied (LeavesBlock {b = Entry} {c = Otherwise} tt)) (EntersBlock Otherwise) in
-    let disabled = Go otherwise Disable (PassesEvent Otherwise Disable []) in
-    let after = Skip (Skip disabled (LeavesBlock {b = Otherwise} {c = After} tt)) (EntersBlock After) in
-    let unlocked = Go after (Unlock WalkLocal) (PassesEvent After (Unlock WalkLocal) []) in
-    let exit = Skip (Skip unlocked (LeavesBlock {b = After} {c = Exit} tt)) (EntersBlock Exit) in
-    Return WalkAgain (Go exit Leave (PassesEvent Exit Leave [])) (EndsFrame {b = Exit} tt)
+    let copied = Does second_locked Copy (PassesEvent Entry Copy []) in
+    let otherwise = Skips (Skips copied (LeavesBlock {b = Entry} {c = Otherwise} tt)) (EntersBlock Otherwise) in
+    let disabled = Does otherwise Disable (PassesEvent Otherwise Disable []) in
+    let after = Skips (Skips disabled (LeavesBlock {b = Otherwise} {c = After} tt)) (EntersBlock After) in
+    let unlocked = Does after (Unlock WalkLocal) (PassesEvent After (Unlock WalkLocal) []) in
+    let exit = Skips (Skips unlocked (LeavesBlock {b = After} {c = Exit} tt)) (EntersBlock Exit) in
+    Returns WalkAgain (Does exit Leave (PassesEvent Exit Leave [])) (EndsFrame {b = Exit} tt)
 
 pub back_is_path : IsPath locks program Walk back_from_second
-back_is_path = record { fn = Walk; kind = true; place = Head After; below = NoCaller; path = first_again; root_is = refl; actions_are = refl }
+back_is_path = record { fn = Walk; kind = true; place = Head After; below = NoCaller; leads = first_again }
 
 -- the lock of the second frame takes a lock that is held: the report is that of the fold, by computation
 pub double_lock : IsReported (DoubleLock WalkFormal)
 double_lock = record {
   root = Walk;
-  actions = More into_second (Did (Lock WalkFormal));
-  path = record { fn = Walk; kind = false; place = Before Entry (Copy ∷ []); below = one_frame; path = second_locked; root_is = refl; actions_are = refl };
-  errors = inr (inl (WalkFormal, refl));
+  actions = into_second;
+  event = Lock WalkFormal;
+  path = record { fn = Walk; kind = false; place = Before Entry (Copy ∷ []); below = one_frame; leads = second_locked };
+  taken = inl (WalkFormal, refl);
 }
 
 -- into the second frame of walk without object, by path edges

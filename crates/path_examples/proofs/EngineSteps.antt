@@ -6,7 +6,7 @@ use Rattle.path_examples.specs.declared.checker.Interrupts.{Interrupts}
 use Rattle.path_examples.specs.declared.checker.Interrupts.TheVariants.{Enabled}
 use Rattle.path_examples.specs.declared.program.Function.{Function}
 use Rattle.path_examples.specs.declared.program.CallSite.{CallSite}
-use Rattle.path_theory.specs.Paths.{Callers, Waiting}
+use Rattle.path_theory.specs.Callers.{Callers, Waiting}
 use Rattle.path_theory.specs.OpenFrames.{OpenFrames, CalledFrame}
 use Rattle.path_theory.specs.Facts.{HasObject}
 use Rattle.path_theory.specs.Flows.{StartsUnknown, ReturnObject}

@@ -8,7 +8,8 @@ use Rattle.path_examples.specs.declared.program.Function.{Function}
 use Rattle.path_examples.specs.declared.program.CallSite.{CallSite}
 use Rattle.path_examples.specs.declared.program.Block.{Block}
 use Rattle.path_examples.specs.declared.program.Block.TheVariants.{Entry}
-use Rattle.path_theory.specs.Paths.{Callers, Waiting, Path}
+use Rattle.path_theory.specs.Callers.{Callers, Waiting}
+use Rattle.path_theory.specs.Paths.{Path}
 use Rattle.path_theory.specs.Facts.{Fact, NoObject, HasObject}
 use Rattle.path_theory.specs.Flows.{CallFlow}
 use Rattle.path_theory.specs.Tabulation.{PathEdge}

@@ -2,9 +2,9 @@
 -- open frames are met by beginnings.
 -- The induction goes over the run, the runs of callees among its parts, and then over the open frames.
 use Rattle.std.proofs.Common.{◌≡◌, ℕ, suc, ◌+◌, Bool, false, Option, Some, None, refl, sym, ◌∙◌, ap, subst, option_and_then}
-use Rattle.path_theory.specs.Model.{Model}
+use Rattle.path_theory.specs.Model.{Model, Map}
 use Rattle.path_theory.specs.Supergraph.{Supergraph}
-use Rattle.path_theory.specs.Paths.{Callers, Map}
+use Rattle.path_theory.specs.Callers.{Callers}
 use Rattle.path_theory.specs.Origins.{Origins, IsLocal, handed}
 use Rattle.path_theory.specs.Runs.{Run, Here, Skipped, Gone, Closed, run_global, run_map, origin}
 use Rattle.path_theory.specs.OpenFrames.{OpenFrames, RootFrame, CalledFrame, at_entry}

@@ -2,9 +2,9 @@
 -- So a called frame of a root that begins as a root does needs no entries of its own.
 use Rattle.std.proofs.Common.{◌≡◌, Bool, true, false, Option, Some, None, refl, sym, ◌∙◌, ap}
 use Rattle.std.proofs.Math.Path.{fun_ext}
-use Rattle.path_theory.specs.Model.{Model}
+use Rattle.path_theory.specs.Model.{Model, Map, stepped}
 use Rattle.path_theory.specs.Supergraph.{Supergraph}
-use Rattle.path_theory.specs.Paths.{NoCaller, Map, stepped}
+use Rattle.path_theory.specs.Callers.{NoCaller}
 use Rattle.path_theory.specs.Origins.{Origins, IsLocal}
 use Rattle.path_theory.specs.Runs.{Run, Here, Skipped, Gone, Closed, run_global, run_map, origin}
 use Rattle.path_theory.specs.OpenFrames.{RootFrame, at_entry}

@@ -1,9 +1,8 @@
 -- The state of one object after a run depends on that of its origin alone, and on the global state before.
 -- So one object can be followed by itself, whatever states the others have.
 use Rattle.std.proofs.Common.{◌≡◌, Bool, false, Option, Some, refl, sym, ◌∙◌, ap, option_and_then}
-use Rattle.path_theory.specs.Model.{Model}
+use Rattle.path_theory.specs.Model.{Model, Map}
 use Rattle.path_theory.specs.Supergraph.{Supergraph}
-use Rattle.path_theory.specs.Paths.{Map}
 use Rattle.path_theory.specs.Origins.{Origins, IsLocal, handed}
 use Rattle.path_theory.specs.Runs.{Run, Here, Skipped, Gone, Closed, run_global, run_map, origin}
 use Rattle.path_theory.proofs.SmallFacts.{then_same, handed_same}

@@ -1,10 +1,9 @@
 -- Each object that has a known state on a path, or gives a report there, is among those that are followed; and so is
 -- each from which such an object has its state.
 use Rattle.std.proofs.Common.{◌≡◌, Bool, false, Option, Some, None, refl, sym, ◌∙◌, subst, inl, inr, option_and_then}
-use Rattle.path_theory.specs.Model.{Model}
+use Rattle.path_theory.specs.Model.{Model, Map}
 use Rattle.path_theory.specs.Supergraph.{Supergraph}
 use Rattle.path_theory.specs.Walks.{Walk, WalkStart, WalkSkip, WalkGo, WalkCall}
-use Rattle.path_theory.specs.Paths.{Map}
 use Rattle.path_theory.specs.Origins.{Origins, IsLocal}
 use Rattle.path_theory.specs.Runs.{Run, Here, Skipped, Gone, Closed, run_global, run_map, origin, labels_of}
 use Rattle.path_theory.specs.Facts.{Objects}

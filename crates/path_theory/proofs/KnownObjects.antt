@@ -3,7 +3,8 @@
 use Rattle.std.proofs.Common.{◌≡◌, Bool, Some, refl, sym, ◌∙◌, ap}
 use Rattle.path_theory.specs.Model.{Model}
 use Rattle.path_theory.specs.Supergraph.{Supergraph}
-use Rattle.path_theory.specs.Paths.{Callers, Path, after}
+use Rattle.path_theory.specs.Callers.{Callers}
+use Rattle.path_theory.specs.Paths.{Path, after}
 use Rattle.path_theory.specs.Origins.{Origins, IsLocal}
 use Rattle.path_theory.specs.Facts.{Objects}
 use Rattle.path_theory.specs.Relevant.{IsClosed}

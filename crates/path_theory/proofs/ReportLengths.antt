@@ -1,9 +1,9 @@
 -- The reports of path edges with lengths are those of paths of these lengths: so a shortest path is a least sum of
 -- lengths.
 use Rattle.std.proofs.Common.{◌≡◌, ℕ, suc, ◌+◌, arith, Some, refl, sym, ◌∙◌, ap, subst, ◌↔◌, option_and_then}
-use Rattle.path_theory.specs.Model.{Model}
+use Rattle.path_theory.specs.Model.{Model, Map}
 use Rattle.path_theory.specs.Supergraph.{Supergraph}
-use Rattle.path_theory.specs.Paths.{Map, Now}
+use Rattle.path_theory.specs.Paths.{Now}
 use Rattle.path_theory.specs.Origins.{Origins, IsLocal}
 use Rattle.path_theory.specs.Runs.{run_global, run_map, origin}
 use Rattle.path_theory.specs.OpenFrames.{at_entry}

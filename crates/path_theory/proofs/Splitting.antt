@@ -4,7 +4,8 @@
 use Rattle.std.proofs.Common.{◌≡◌, ℕ, suc, ◌+◌, arith, Bool, false, refl, ◌∙◌, ap}
 use Rattle.path_theory.specs.Model.{Model}
 use Rattle.path_theory.specs.Supergraph.{Supergraph}
-use Rattle.path_theory.specs.Paths.{Callers, Waiting, Path, Begin, Skip, Go, Call, Return, Now, after, after_go, after_call, after_return}
+use Rattle.path_theory.specs.Callers.{Callers, Waiting}
+use Rattle.path_theory.specs.Paths.{Path, Begin, Skip, Go, Call, Return, Now, after, after_go, after_call, after_return}
 use Rattle.path_theory.specs.Runs.{Run, Here, Skipped, Gone, Closed}
 use Rattle.path_theory.specs.OpenFrames.{OpenFrames, RootFrame, CalledFrame, now_after, at_entry}
 use Rattle.path_theory.specs.PathLengths.{path_length, run_length, frames_length}

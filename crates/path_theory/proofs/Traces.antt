@@ -1,11 +1,12 @@
 -- Supergraphs with the same traces have the same reports and the same realised tuples.
 -- So what is proved of a flow graph holds of the semantics from which it was built.
 use Rattle.std.proofs.Common.{◌≡◌, Bool, refl, sym, ◌∙◌, ap, subst}
-use Rattle.path_theory.specs.Model.{Model}
+use Rattle.path_theory.specs.Model.{Model, Map}
 use Rattle.path_theory.specs.Supergraph.{Supergraph}
 use Rattle.path_theory.specs.Trails.{More}
 use Rattle.path_theory.specs.Walks.{AtEvent, AtCall, Walk, WalkGo, WalkCall, HasTraces}
-use Rattle.path_theory.specs.Paths.{Callers, NoCaller, Map, Reported, ReportOf, ReportOfGlobal}
+use Rattle.path_theory.specs.Callers.{Callers, NoCaller}
+use Rattle.path_theory.specs.Paths.{Reported, ReportOf, ReportOfGlobal}
 use Rattle.path_theory.specs.Origins.{Origins}
 use Rattle.path_theory.specs.Runs.{Run, run_global, run_map, origin, labels_of}
 use Rattle.path_theory.specs.OpenFrames.{OpenFrames, RootFrame, CalledFrame, at_entry}

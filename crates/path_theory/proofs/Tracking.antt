@@ -2,9 +2,8 @@
 -- tracked.
 -- The callee's run may come from another path than the caller's; independence makes it fit.
 use Rattle.std.proofs.Common.{◌≡◌, Bool, false, Option, Some, None, refl, sym, ◌∙◌, ap, option_and_then}
-use Rattle.path_theory.specs.Model.{Model}
+use Rattle.path_theory.specs.Model.{Model, Map}
 use Rattle.path_theory.specs.Supergraph.{Supergraph}
-use Rattle.path_theory.specs.Paths.{Map}
 use Rattle.path_theory.specs.Origins.{Origins, IsLocal, handed}
 use Rattle.path_theory.specs.Runs.{Run, Here, Skipped, Gone, Closed, run_global, run_map, origin}
 use Rattle.path_theory.specs.Facts.{NoObject, HasObject, Fact, Gives, GivesNone, GivesState, fact_of, Objects}

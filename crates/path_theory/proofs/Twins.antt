@@ -2,11 +2,10 @@
 -- trace.
 -- Closed calls are found again by the whole traces of their callees.
 use Rattle.std.proofs.Common.{◌≡◌, Bool, false, refl, sym, ◌∙◌, ap, subst, option_and_then}
-use Rattle.path_theory.specs.Model.{Model}
+use Rattle.path_theory.specs.Model.{Model, Map, stepped}
 use Rattle.path_theory.specs.Supergraph.{Supergraph}
 use Rattle.path_theory.specs.Trails.{Trail, Start, More}
 use Rattle.path_theory.specs.Walks.{Label, AtEvent, AtCall, Labels, Walk, WalkStart, WalkSkip, WalkGo, WalkCall, HasTraces}
-use Rattle.path_theory.specs.Paths.{Map, stepped}
 use Rattle.path_theory.specs.Origins.{Origins}
 use Rattle.path_theory.specs.Runs.{Run, Here, Skipped, Gone, Closed, run_global, run_map, origin, labels_of}
 use Rattle.path_theory.proofs.Known.{walk_of}

@@ -1,9 +1,8 @@
 -- What happens on a path as one flat list: events, calls and returns, with no place of a program in it.
--- The state after a list and the errors on it are computed from the list alone, by a fold over whole maps.
+-- The state after a list is computed from the list alone, by a fold over whole maps.
 use Rattle.std.specs.Prelude.{Bool, true, false, None, List, [], ◌∷◌, ◌⊎◌}
-use Rattle.path_theory.specs.Model.{Model}
+use Rattle.path_theory.specs.Model.{Map, Model, stepped}
 use Rattle.path_theory.specs.Trails.{Trail, Start, More}
-use Rattle.path_theory.specs.Paths.{Map, stepped}
 
 pub data Action (E S F : Type 0) : Type 0 where
   Did : E → Action E S F
@@ -49,10 +48,3 @@ module _ (M : Model) where
   -- an event takes the report, in the state before it
   abbrev pub TakenAt : M.Event → State → M.Report → Type 0
   TakenAt e s r = ((o : M.Obj) × M.Fires e s.top.fn s.top.is_root s.global o (M.moved e s.top.map o) r) ⊎ M.FiresGlobal e s.top.fn s.top.is_root s.global r
-
-  -- the reports that a list of actions takes
-  abbrev pub Errors : M.Fn → Actions → M.Report → Type 0
-  Errors f Start r = ⊥
-  Errors f (More l (Did e)) r = Errors f l r ⊎ TakenAt e (fold f l) r
-  Errors f (More l (Called s h)) r = Errors f l r
-  Errors f (More l (Returned s)) r = Errors f l r

@@ -3,7 +3,8 @@
 use Rattle.std.specs.Prelude.{Bool, true, false, None}
 use Rattle.path_theory.specs.Model.{Model}
 use Rattle.path_theory.specs.Supergraph.{Supergraph}
-use Rattle.path_theory.specs.Paths.{Callers, NoCaller, Waiting, Now, after_call}
+use Rattle.path_theory.specs.Callers.{Callers, NoCaller, Waiting}
+use Rattle.path_theory.specs.Paths.{Now, after_call}
 use Rattle.path_theory.specs.Runs.{Run, run_global, run_map}
 
 module _ (M : Model) (K : Supergraph M) where

@@ -3,7 +3,8 @@
 use Rattle.std.specs.Prelude.{ℕ, suc, ◌+◌, Bool}
 use Rattle.path_theory.specs.Model.{Model}
 use Rattle.path_theory.specs.Supergraph.{Supergraph}
-use Rattle.path_theory.specs.Paths.{Callers, Path, Begin, Skip, Go, Call, Return, after}
+use Rattle.path_theory.specs.Callers.{Callers}
+use Rattle.path_theory.specs.Paths.{Path, Begin, Skip, Go, Call, Return, after}
 use Rattle.path_theory.specs.Runs.{Run, Here, Skipped, Gone, Closed}
 use Rattle.path_theory.specs.OpenFrames.{OpenFrames, RootFrame, CalledFrame}
 

@@ -3,10 +3,10 @@
 -- The tuple with which the frame was entered is found by following the object back, through closed calls too; it has
 -- no object where that one was made unknown inside the frame.
 use Rattle.std.specs.Prelude.{◌≡◌, Bool}
-use Rattle.path_theory.specs.Model.{Model}
+use Rattle.path_theory.specs.Model.{Model, Map}
 use Rattle.path_theory.specs.Supergraph.{Supergraph}
 use Rattle.path_theory.specs.Walks.{Walk}
-use Rattle.path_theory.specs.Paths.{Map, Callers}
+use Rattle.path_theory.specs.Callers.{Callers}
 use Rattle.path_theory.specs.Origins.{Origins}
 use Rattle.path_theory.specs.Runs.{Run, run_global, run_map, origin, labels_of}
 use Rattle.path_theory.specs.OpenFrames.{OpenFrames, at_entry}

@@ -2,11 +2,10 @@
 -- It says what a run does to the global state and to a map, and from which object at the frame's entry an object has
 -- its state.
 use Rattle.std.specs.Prelude.{Bool, false, Option, Some, option_and_then}
-use Rattle.path_theory.specs.Model.{Model}
+use Rattle.path_theory.specs.Model.{Model, Map, stepped}
 use Rattle.path_theory.specs.Supergraph.{Supergraph}
 use Rattle.path_theory.specs.Trails.{Start, More}
 use Rattle.path_theory.specs.Walks.{AtEvent, AtCall, Labels}
-use Rattle.path_theory.specs.Paths.{Map, stepped}
 use Rattle.path_theory.specs.Origins.{Origins, handed}
 
 module _ (M : Model) (K : Supergraph M) where

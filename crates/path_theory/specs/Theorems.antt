@@ -5,7 +5,9 @@ use Rattle.std.specs.List.{Contains}
 use Rattle.path_theory.specs.Supergraph.{Supergraph}
 use Rattle.path_theory.specs.Trails.{More}
 use Rattle.path_theory.specs.Walks.{HasTraces}
-use Rattle.path_theory.specs.Paths.{Map, Callers, Path, after}
+use Rattle.path_theory.specs.Model.{Map}
+use Rattle.path_theory.specs.Callers.{Callers}
+use Rattle.path_theory.specs.Paths.{Path, after}
 use Rattle.path_theory.specs.Actions.{Action, Actions}
 use Rattle.path_theory.specs.FlatPaths.{IsPath, InErrors}
 use Rattle.path_theory.specs.Runs.{Run, run_map, origin}

@@ -20,7 +20,8 @@ use Rattle.path_theory.specs.Merged.{Kinds}
 use Rattle.path_theory.specs.Model.{Model}
 use Rattle.path_theory.specs.OpenFrames.{at_entry}
 use Rattle.path_theory.specs.Origins.{Origins}
-use Rattle.path_theory.specs.Paths.{Callers, Path, after}
+use Rattle.path_theory.specs.Callers.{Callers}
+use Rattle.path_theory.specs.Paths.{Path, after}
 use Rattle.path_theory.specs.Realised.{Realised}
 use Rattle.path_theory.specs.Supergraph.{Supergraph}
 
