@@ -5,3 +5,4 @@ pub mod Meeting
 pub mod Processing
 pub mod OneWorking
 pub mod TwoWorking
+pub mod Counting

@@ -1,4 +1,5 @@
 pub mod Logs
+pub mod Counts
 pub mod Found
 pub mod Indexes
 pub mod OnePremise

@@ -1,6 +1,6 @@
 //! Rules of one and of two premises.
 
-ghost use Rattle.std.specs.Prelude.{◌≡◌, ◌↔◌, IfOk, Contains, Some};
+ghost use Rattle.std.specs.Prelude.{◌≡◌, ◌↔◌, ℕ, IfOk, Contains, Some};
 ghost use Rattle.least_set.specs.Logs.{BeginsWith, InOrder, IsExactly, IsOnce};
 ghost use Rattle.least_set.specs.TwoPremises.{Follows, Least};
 
@@ -97,6 +97,12 @@ pub trait CachingRules {
     // it stays as it is while the rules keep more
     ghost source: { Self → Self.Source };
 
+    // how many members were asked, as far as the rules count them
+    ghost asked: { Self → ℕ };
+
+    // that number when one more was asked
+    ghost counting: { ℕ → ℕ };
+
     // what is there from the beginning
     ghost base: { Self.Source → Self.Member → Type 0 };
 
@@ -123,6 +129,7 @@ pub trait CachingRules {
         member: &Self::Member,
     ) -> Result<Entered<Self::Member, Self::Context, Self::Waiter>, AllocError>
         ensures same { source self.new ≡ source self.old }
+        ensures asked { asked self.new ≡ counting (asked self.old) }
         ensures goes { IfOk result (λ v. IsExactly v.next.items (goes (source self.old) member.now)) }
         ensures waits { IfOk result (λ v. IsExactly v.waits.items (λ w. waits (source self.old) member.now w.on w.waiter)) }
         ensures ends { IfOk result (λ v. (k : _) → (v.end ≡ Some k) ↔ ends (source self.old) member.now k) };
@@ -151,6 +158,10 @@ impl<R: Rules> CachingRules for Plain<'_, R> {
     type Source = R;
 
     ghost source = { λ p. p.0.now };
+
+    ghost asked = { λ p. 0 };
+
+    ghost counting = { λ n. n };
 
     ghost base = { R.base };
 

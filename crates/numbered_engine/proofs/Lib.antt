@@ -1,3 +1,4 @@
 pub mod Results
 pub mod Stable
 pub mod Given
+pub mod Steps

@@ -5,3 +5,4 @@ pub mod Waiting
 pub mod Rules
 pub mod Showing
 pub mod Ways
+pub mod Counted

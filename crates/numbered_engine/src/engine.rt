@@ -1,8 +1,9 @@
 //! The engine: one edge after the other, each block entered through its summary.
 
-ghost use Rattle.std.specs.Prelude.{◌≡◌, ℕ, List, Bool, IfOk, Contains, None, Some, [], option_copied};
+ghost use Rattle.std.specs.Prelude.{◌≡◌, ◌+◌, ◌-◌, ◌^◌, min, length, ℕ, List, Bool, IfOk, Contains, None, Some, [], option_copied};
 ghost use Rattle.block_summary.specs.Kept.{IsRight};
 ghost use Rattle.least_set.specs.Logs.{IsExactly, IsOnce};
+ghost use Rattle.numbered_engine.specs.Counted.{counted};
 ghost use Rattle.numbered_engine.specs.Program.{block_of, call_at, call_in, ends_in, function_at, is_own_frame};
 ghost use Rattle.numbered_engine.specs.Rules.{FollowsFrom, IsDerived, LeadsTo, WaitsAt};
 ghost use Rattle.numbered_engine.specs.Waiting.{ended, woken};
@@ -46,6 +47,7 @@ fn tuples_at_end<L>(
     block: &Block,
     edge: &NumberedEdge,
 ) -> Result<Vec<NumberedTuple>, AllocError>
+    ensures ticks { steps.new.count ≡ counted steps.old.count }
     ensures right { (rows_of : ℕ → ℕ → List EventRow) (own_of : ℕ → List Bool) → rows_of edge.now.context.function edge.now.block ≡ block.now.rows.rows.items → own_of edge.now.context.function ≡ function.now.own.items → IsRight rows_of own_of summary.old → IsRight rows_of own_of summary.new }
     ensures tuples { IfOk result (λ ts. (rows_of : ℕ → ℕ → List EventRow) (own_of : ℕ → List Bool) → rows_of edge.now.context.function edge.now.block ≡ block.now.rows.rows.items → own_of edge.now.context.function ≡ function.now.own.items → IsRight rows_of own_of summary.old → IsExactly ts.items (Contains (ends_in function.now block.now edge.now.context.entry edge.now.tuple))) }
 {
@@ -104,6 +106,7 @@ fn tuples_in<L>(
     requires function { function_at program.now edge.now.context.function ≡ Some function.now }
     requires block { block_of function.now edge.now.block ≡ Some block.now }
     requires known { ∥ IsRight (rows_in program.now) (own_in program.now) summary.now ∥₁ }
+    ensures ticks { steps.new.count ≡ counted steps.old.count }
     ensures right { ∥ IsRight (rows_in program.now) (own_in program.now) summary.new ∥₁ }
     ensures tuples { IfOk result (λ ts. IsExactly ts.items (Contains (ends_in function.now block.now edge.now.context.entry edge.now.tuple))) }
 {
@@ -145,7 +148,7 @@ fn nothing(alloc: Global) -> Given<NumberedEdge, NumberedContext, NumberedWaiter
     }
 }
 
-// What an edge gives.
+// What an edge gives. One that is none of the program is counted too.
 fn given<L>(
     summary: &mut BlockSummary,
     steps: &mut Steps<L>,
@@ -154,15 +157,18 @@ fn given<L>(
     edge: &NumberedEdge,
 ) -> Result<Given<NumberedEdge, NumberedContext, NumberedWaiter>, AllocError>
     requires known { ∥ IsRight (rows_in program.now) (own_in program.now) summary.now ∥₁ }
+    ensures ticks { steps.new.count ≡ counted steps.old.count }
     ensures right { ∥ IsRight (rows_in program.now) (own_in program.now) summary.new ∥₁ }
     ensures goes { IfOk result (λ v. IsExactly v.next.items (LeadsTo program.now edge.now)) }
     ensures waits { IfOk result (λ v. IsExactly v.waits.items (λ w. WaitsAt program.now edge.now w.on w.waiter)) }
     ensures ends { IfOk result (λ v. v.end ≡ ended program.now edge.now) }
 {
     let Some(function) = function_at(program, edge.context.function) else {
+        steps.tick();
         return Ok(nothing(alloc));
     };
     let Some(block) = block_of(function, edge.block) else {
+        steps.tick();
         return Ok(nothing(alloc));
     };
     let tuples = tuples_in(summary, steps, alloc, program, function, block, edge)?;
@@ -185,19 +191,35 @@ fn woken_in(
 }
 
 impl<'p, L> NumberedEngine<'p, L> {
-    /// An engine that has worked out nothing yet.
+    /// An engine that has worked out nothing yet, and counts from nothing.
     pub fn new(alloc: Global, program: &'p ProgramRows) -> Self
         ensures { result.program.now ≡ program.now }
+    {
+        Self::counting(alloc, program, Steps::new())
+    }
+
+    /// An engine that has worked out nothing yet, and goes on with this count of steps.
+    pub fn counting(alloc: Global, program: &'p ProgramRows, steps: Steps<L>) -> Self
+        ensures program { result.program.now ≡ program.now }
+        ensures steps { result.steps.count ≡ steps.count }
     {
         NumberedEngine {
             program,
             summary: BlockSummary::new(alloc),
-            steps: Steps::new(),
+            steps,
         }
+    }
+
+    /// The count of steps: one for each block that was entered.
+    pub fn into_steps(self) -> Steps<L>
+        ensures { result.count ≡ self.entry.steps.count }
+    {
+        self.steps
     }
 }
 
 impl<L> CachingRules for NumberedEngine<'_, L> {
+    ghost use Rattle.numbered_engine.specs.Counted.{counted};
     ghost use Rattle.numbered_engine.specs.Rules.{Begins, IsEndOf, IsWoken, LeadsTo, WaitsAt};
 
     type Member = NumberedEdge;
@@ -209,6 +231,10 @@ impl<L> CachingRules for NumberedEngine<'_, L> {
     type Source = ProgramRows;
 
     ghost source = { λ e. e.program.now };
+
+    ghost asked = { λ e. e.steps.count };
+
+    ghost counting = { counted };
 
     ghost base = { Begins };
 
@@ -248,7 +274,8 @@ impl<L> CachingRules for NumberedEngine<'_, L> {
     }
 }
 
-/// The edges of a program: what follows by the rules of tabulation, each once, and nothing else.
+/// The edges of a program: what follows by the rules of tabulation, each once, and nothing else. The block of each was entered once: the steps of
+/// the engine rise by their number.
 pub fn tabulate<L>(
     alloc: Global,
     engine: &mut NumberedEngine<L>,
@@ -257,6 +284,8 @@ pub fn tabulate<L>(
     ensures closed { IfOk result (λ log. (e : Edge) → FollowsFrom engine.old.program.now log.keys e → Contains log.keys e) }
     ensures only { IfOk result (λ log. (e : Edge) → Contains log.keys e → IsDerived engine.old.program.now e) }
     ensures once { IfOk result (λ log. IsOnce log.keys) }
+    ensures steps { IfOk result (λ log. engine.new.steps.count ≡ min (engine.old.steps.count + length log.keys) (2 ^ 64 - 1)) }
 {
+    let _before = engine.steps.count();
     least_caching(alloc, engine)
 }

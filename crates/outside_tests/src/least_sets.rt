@@ -1,6 +1,6 @@
 //! Two small instances: what a graph with cycles reaches, and calls that are matched with returns.
 
-ghost use Rattle.std.specs.Prelude.{◌≡◌, ◌⊎◌, IfOk, nat_eq, true};
+ghost use Rattle.std.specs.Prelude.{◌≡◌, ◌⊎◌, ◌+◌, ◌-◌, ◌^◌, min, IfOk, nat_eq, true};
 ghost use Rattle.std.specs.List.{list_any};
 ghost use Rattle.least_set.specs.Logs.{IsExactly, SomeGives};
 
@@ -199,6 +199,10 @@ impl<'a> CachingRules for Counted<'a> {
     type Source = Program<'a>;
 
     ghost source = { λ c. c.program };
+
+    ghost asked = { λ c. c.asked };
+
+    ghost counting = { λ n. min (n + 1) (2 ^ 64 - 1) };
 
     ghost base = { ⟦<Program<'a> as Rules>⟧.base };
 

@@ -7,7 +7,7 @@ mod SameLogs
 mod StrictLogs
 mod Returns
 mod ExitsOfCheckers
-mod LogsOfCheckers
+pub mod LogsOfCheckers
 -- what the engine shows and follows
 pub mod AllKnown
 pub mod KnownEdges

@@ -23,6 +23,10 @@ impl<'t, 'u, 'a> CachingRules for CachingEngine<'_, 't, 'u, 'a> {
 
     ghost source = { λ c. c.engine.now };
 
+    ghost asked = { λ c. 0 };
+
+    ghost counting = { λ n. n };
+
     ghost base = { λ e d. ∥ Begins (checker_in e.tables) (texts_in e.tables) (graphs_in e.tables) (objects_in e.tables) d ∥₁ };
 
     ghost goes = { λ e a d. ∥ LeadsTo (checker_in e.tables) (texts_in e.tables) (graphs_in e.tables) (objects_in e.tables) a d ∥₁ };
