@@ -176,7 +176,7 @@ class Refusals(Folder):
 class Words(Folder):
     WRONG = [
         (["--depth", "9", "a.c"], "--depth 9: the value is one digit"), (["--depth", "1", "--depth", "2", "a.c"], "--depth stands twice"),
-        (["--format=xml", "a.c"], "--format xml: the value is table or json"), (["--stats", "a.c"], "--stats: there are no statistics"),
+        (["--format=xml", "a.c"], "--format xml: the value is table or json"), (["--stats", "--stats", "a.c"], "--stats stands twice"),
         (["--help-me", "a.c"], "--help-me: there is no such option"), (["a.c", "--depth", "1"], "--depth: options stand before"),
         (["a.c", "-h"], "-h: options stand before"), (["--depth"], "--depth: a value is wanted behind it, one digit"),
         (["--format=", "a.c"], "--format: a value is wanted"), (["m.metal"], "there is no C file"), (["--generate", "0"], "--generate stands alone"), (["--"], "there is no C file"),

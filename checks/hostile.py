@@ -9,6 +9,7 @@ Run = collections.namedtuple("Run", "status out errs")
 USAGE = b"usage: metalcheck [--depth N] [--format NAME] [--stats] FILE...\n"
 REFUSED = re.compile(rb"[^\n]+:[0-9]+: refused: (" + "|".join(NAMES).encode() + rb")\n")
 NOT_READ = re.compile(rb"[^\n]+: not read\n")
+STATISTICS = re.compile(rb"metalcheck: entries (0|[1-9][0-9]{0,19})\n")
 LIMITED = 'ulimit -t "$1" && ulimit -v "$2" || exit 125; shift 2; exec "$@"'
 ENDLESS = "no end"
 
@@ -28,8 +29,8 @@ def is_lines(text):
     return text.endswith(b"\n")
 
 
-def fault_of(run):
-    """What is wrong with a run of which no call failed, or nothing."""
+def fault_of(run, has_statistics=False):
+    """What is wrong with a run of which no call failed, or nothing, where its words ask for statistics or don't."""
     status, out, errs = run
     if status == ENDLESS or status in (-9, -24, 137, 152):
         return "it was stopped at its limit of time"
@@ -42,6 +43,8 @@ def fault_of(run):
     if status == 1 and not is_lines(out):
         return "status 1 without whole lines on standard output"
     wanted = {2: lambda: errs == USAGE, 3: lambda: REFUSED.fullmatch(errs), 4: lambda: NOT_READ.fullmatch(errs)}
+    if has_statistics:
+        wanted[0] = wanted[1] = lambda: STATISTICS.fullmatch(errs)
     if not wanted.get(status, lambda: not errs)():
         return f"status {status} with {errs[:200]!r} on standard error"
     return ""

@@ -61,6 +61,8 @@ class Faults(unittest.TestCase):
                  Run(3, b"", b"a b.c:12: refused: Syntax\n"), Run(3, b"", b"m.metal:1: refused: TooMany\n"), Run(4, b"", b"a: not read\n")]
         for run in right:
             self.assertEqual(fault_of(run), "", run)
+        for run in (Run(0, b"", b"metalcheck: entries 0\n"), Run(1, b"a\n", b"metalcheck: entries 18446744073709551615\n"), Run(2, b"", USAGE)):
+            self.assertEqual(fault_of(run, True), "", run)
 
     def test_wrong(self):
         wrong = {Run(-11, b"", b""): "ended with -11", Run(7, b"", b""): "ended with 7", Run("no end", b"", b""): "limit of time",
@@ -71,6 +73,9 @@ class Faults(unittest.TestCase):
                  Run(4, b"", b"a.c: not read"): "on standard error", Run(2, b"", b"usage\n"): "usage", Run(6, b"", b"x"): "status 6"}
         for run, why in wrong.items():
             self.assertIn(why, fault_of(run), run)
+        for errs in (b"", b"metalcheck: entries\n", b"metalcheck: entries 01\n", b"metalcheck: entries 1\nx\n", b"a.c:1: refused: Syntax\n"):
+            self.assertIn("on standard error", fault_of(Run(0, b"", errs), True), errs)
+        self.assertIn("on standard error", fault_of(Run(0, b"", b"metalcheck: entries 1\n")))
 
 
 class Mutants(unittest.TestCase):

@@ -28,7 +28,7 @@ ODD = [b"\0", b"\r", b"\r\n", b"\xff", b"\xc3\xa9", b"@", b"\\", b"#", b"\n# 1 \
        b"start:", b"v.stop", b"err(\"%s\", mc_identifier(v));", b"(", b")", b"{", b"}", b"[", b"]", b";", b",", b"=", b"*", b"&", b"?", b":"]
 BRACKETS = [(b"(", b")"), (b"{", b"}"), (b"[", b"]"), (b"*(", b")"), (b"f(", b")"), (b"{ ", b" ;}"), (b"!", b""), (b"(int)", b"")]
 WORDS = [[], [], [], ["--depth", "0"], ["--depth=8"], ["--format", "table"], ["--format=json"], ["--depth", "1", "--format", "json"], ["--"]]
-ODD_WORDS = [["--depth", "9"], ["--stats"], ["--format", "xml"], ["-"], ["none.c"], ["."], ["--generate", "3"], ["--", "--"]]
+ODD_WORDS = [["--depth", "9"], ["--stats", "--depth", "1"], ["--format", "xml"], ["-"], ["none.c"], ["."], ["--generate", "3"], ["--", "--"]]
 
 
 def texts_of_cases():

@@ -71,8 +71,8 @@ class Command(unittest.TestCase):
         self.assertIn(re.sub(r"^usage: ", "", usage.strip()), page("docs/COMMAND.md"))
 
     def test_values_of_options(self):
-        taken = [["--depth", depth] for depth in DEPTHS] + [["--format", name] for name in FORMATS]
-        refused = [["--depth", "9"], ["--format", "xml"], ["--stats"]]
+        taken = [["--depth", depth] for depth in DEPTHS] + [["--format", name] for name in FORMATS] + [["--stats"]]
+        refused = [["--depth", "9"], ["--format", "xml"], ["--stats=1"]]
         with tempfile.TemporaryDirectory() as folder:
             with open(os.path.join(folder, "a.c"), "w", encoding="utf-8") as file:
                 file.write("int x;\n")

@@ -37,6 +37,6 @@ end
 complete -c metalcheck -f
 complete -c metalcheck -n '__metalcheck_may_take --depth' -l depth -x -a '0 1 2 3 4 5 6 7 8' -d 'Follow objects of at most so many steps'
 complete -c metalcheck -n '__metalcheck_may_take --format' -l format -x -a 'table json' -d 'Write the reports in this style'
-complete -c metalcheck -n '__metalcheck_may_take --stats' -l stats -d 'Kept for a line of statistics, of which there is none yet'
+complete -c metalcheck -n '__metalcheck_may_take --stats' -l stats -d 'Write a line of statistics to standard error'
 complete -c metalcheck -n 'not __metalcheck_has_words' -l generate -x -d 'Judge the generated program of a number from 1 to 9999'
 complete -c metalcheck -n 'not __metalcheck_generates' -a '(__metalcheck_files)'

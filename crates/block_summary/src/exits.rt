@@ -50,8 +50,16 @@ pub(crate) fn worked_out(
 }
 
 impl Exits {
-    ghost use Rattle.std.specs.Prelude.{◌≡◌, IfOk};
+    ghost use Rattle.std.specs.Prelude.{◌≡◌, ◌∷◌, [], IfOk, IsTrue};
     ghost use Rattle.block_summary.specs.Exits.{tuples_of};
+    ghost use Rattle.row_flows.specs.declared.tuples.NumberedTuple.{NumberedTuple as Tuple};
+
+    /// Whether they are known to be those of a block that leaves its tuple alone: it stands at the end, and no other does.
+    pub fn is_tuple_alone(&self) -> bool
+        ensures { IsTrue result → (t : Tuple) → tuples_of self.now t ≡ t ∷ [] }
+    {
+        self.is_unchanged && self.tuples.is_empty()
+    }
 
     /// The tuples at the end of the block, where this one stands at its head.
     pub fn tuples_of(

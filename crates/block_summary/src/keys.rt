@@ -20,3 +20,17 @@ impl Key for Entered {
 
     ghost same = { same_entered };
 }
+
+/// A row of marks: the blocks of a function that are entered with this tuple in this kind of frame.
+#[derive(Clone, Copy, Debug, PartialEq, Eq, Hash)]
+pub(crate) struct MarkRow {
+    pub(crate) function: u32,
+    pub(crate) tuple: NumberedTuple,
+    pub(crate) is_root: bool,
+}
+
+impl Key for MarkRow {
+    ghost use Rattle.block_summary.specs.Ways.Equality.{same_mark_row};
+
+    ghost same = { same_mark_row };
+}

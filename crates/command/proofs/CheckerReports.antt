@@ -1,3 +1,4 @@
 pub mod Numbered
 pub mod Gathering
+pub mod Counting
 pub mod FlatPaths

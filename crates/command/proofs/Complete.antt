@@ -3,12 +3,15 @@ use Rattle.std.proofs.Common.{◌≡◌, ◌≢◌, inl, inr, ℕ, ◌+◌, List
 use Rattle.mx_io.specs.Reads.{Stands}
 use Rattle.report_model.specs.declared.report.Report.{Report}
 use Rattle.mx_io.specs.Bytes.{Bytes}
+use Rattle.command.specs.CheckerReports.Checkers.{checkers_in}
 use Rattle.command.specs.Commands.{Command, checkers_of, sources_of, turns_of}
+use Rattle.command.specs.Counted.{IsLineFor}
 use Rattle.command.specs.Due.{HasTask, IsDueFor, IsRefused}
-use Rattle.command.specs.Run.{Completes, Did, EndsIn, Gives, MayBeDue, NoReadFailed, RanAsDue, Run, called_in, rendered_in, reporters_in}
+use Rattle.command.specs.Run.{Completes, Did, DidOne, EndsIn, Gives, MayBeDue, NoReadFailed, RanAsDue, Run, called_in, rendered_in, reporters_in}
 use Rattle.command.specs.Written.{NoWriteFailed, Took, Written}
 use Rattle.command.specs.declared.status.Status.{Status}
 use Rattle.command.specs.declared.status.Status.TheVariants.{Refused, NoMemory}
+use Rattle.command.specs.Statuses.{status_of}
 use Rattle.command.proofs.GivenCommands.{command_alone, one_command}
 use Rattle.command.proofs.Turns.{all_turns}
 use Rattle.command.proofs.Unique.OneDue.{determined}
@@ -45,8 +48,17 @@ module _ (told : List ℕ → Option (List ℕ)) (command : Command) (contents :
   read_as_told : (read : List (List ℕ)) → AreAllSound (may_hold told) (checkers_of command) (sources_of command) read → Tells told (turns_of command) contents → read ≡ contents
   read_as_told read sound tells = same_contents told (turns_of command) read contents sound.sound.agree tells (sound.count ∙ sym (all_turns (checkers_of command) (sources_of command)))
 
-  -- the reports of the files are those of these contents
-  pub told_reports : (reports : List Report) → AreAccepted (may_hold told) (checkers_of command) (sources_of command) command.depth reports → Tells told (turns_of command) contents
+  -- reports of these contents, and the line beside them
+  abbrev AreJudgedWith : List Report → List ℕ → List (List ℕ) → Type 0
+  AreJudgedWith reports line bs =
+      (j : AreJudged (checkers_of command) (sources_of command) bs command.depth reports) × IsLineFor command.stats (checkers_in j.machines command.depth j.names) j.texts line
+
+  -- the reports of the files are those of these contents, and so is the line
+  told_line : (reports : List Report) (line : List ℕ) (a : AreAccepted (may_hold told) (checkers_of command) (sources_of command) command.depth reports) → Tells told (turns_of command) contents
+      → IsLineFor command.stats (checkers_in a.judged.machines command.depth a.judged.names) a.judged.texts line → AreJudgedWith reports line contents
+  told_line reports line a tells is = subst (AreJudgedWith reports line) (read_as_told a.contents a.sound tells) (a.judged, is)
+
+  told_reports : (reports : List Report) → AreAccepted (may_hold told) (checkers_of command) (sources_of command) command.depth reports → Tells told (turns_of command) contents
       → AreJudged (checkers_of command) (sources_of command) contents command.depth reports
   told_reports reports a tells = subst (λ bs. AreJudged (checkers_of command) (sources_of command) bs command.depth reports) (read_as_told a.contents a.sound tells) a.judged
 
@@ -56,12 +68,23 @@ module _ (told : List ℕ → Option (List ℕ)) (command : Command) (contents :
       let j = told_reports reports a tells in
       record { names = j.names; machines = j.machines; texts = j.texts; meanings = j.meanings; linked = j.linked }
 
+-- what is refused has no reports
+no-reports : (reports : List Report) → Refused ≡ status_of reports → ⊥
+no-reports [] e = cc
+no-reports (report ∷ reports) e = cc
+
+-- and so one line
+one-refusal : (run : Run) (line : Bytes) → DidOne run Refused [] line → Did run Refused [] line
+one-refusal run line (next, inl e, did) = subst (λ (l : Bytes). Did run Refused [] l) (sym e) did
+one-refusal run line (next, inr (command, given, s), did) = absurd (no-reports s.reports s.status_is)
+
 module _ (run : Run) (command : Command) (given : Gives run command) (same : NoReadFailed run) where
   -- the line of the first fault is due
   pub faulty : (l : Located) → IsFirstFault (surely_holds run.told) (checkers_of command) (sources_of command) l → RanAsDue run → Did run Refused [] (refused_line l)
   faulty l first ran =
       let due : IsRefused (surely_holds run.told) command run.failed_before run.failed_after Refused [] (refused_line l) = record { fault = l; first = first; none_failed = same; status_is = refl; text_is = refl; line_is = refl } in
-      determined run.told run.words (reporters_in run) run.failed_before run.failed_after run.status run.out run.errs Refused [] (refused_line l) ran (inr (inl (record { command = command; given = given; due = inr (inl due) })))
+      one-refusal run (refused_line l)
+      (determined run.told run.words (reporters_in run) run.failed_before run.failed_after run.status run.out run.errs Refused [] (refused_line l) ran (inr (inl (record { command = command; given = given; due = inr (inl due) }))))
 
   -- what is due for the command that the words give
   due_for_command : (s : Status) (text line : Bytes) (t : HasTask (may_hold run.told) run.words (called_in run) (rendered_in run) run.failed_before run.failed_after s text line)
@@ -75,7 +98,9 @@ module _ (run : Run) (command : Command) (given : Gives run command) (same : NoR
   complete contents tells fine (inr c) no-out no-errs ne = by c.due c.written
     where
       for : IsDueFor (may_hold run.told) command (rendered_in run) run.failed_before run.failed_after c.status c.text c.line → run.status ≡ c.status → Took run.out c.text → Took run.errs c.line → Completes run command contents
-      for (inl d) e o l = record { reports = d.reports; judged = told_reports run.told command contents d.reports d.accepted tells; status = e ∙ d.status_is; text = c.text; text_is = d.text_is; printed = o; nothing = subst (Took run.errs) d.line_is l }
+      for (inl d) e o l =
+          let told = told_line run.told command contents d.reports c.line d.accepted tells d.line_is in
+          record { reports = d.reports; judged = told.0; status = e ∙ d.status_is; text = c.text; text_is = d.text_is; printed = o; line = c.line; line_is = told.1; noted = l }
       for (inr (inl d)) e o l = absurd (fine d.fault (first_sure run.told (checkers_of command) (sources_of command) contents tells d.fault d.first))
       for (inr (inr d)) e o l = absurd (longer run.failed_before d.failed.is_turn.turn.word (sym d.failed.grew ∙ same))
 

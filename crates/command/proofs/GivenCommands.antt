@@ -68,14 +68,15 @@ one-place called (Some name) a b h k =
     let same : Some h.0 ≡ Some k.0 = sym h.2 ∙ k.2 in
     h.1 ∙ same ∙ sym k.1
 
-same-command : (a b : Command) → a.depth ≡ b.depth → a.place ≡ b.place → a.files ≡ b.files → a ≡ b
-same-command a b d p f = λ i. record { depth = d i; place = p i; files = f i }
+same-command : (a b : Command) → a.depth ≡ b.depth → a.stats ≡ b.stats → a.place ≡ b.place → a.files ≡ b.files → a ≡ b
+same-command a b d s p f = λ i. record { depth = d i; stats = s i; place = p i; files = f i }
 
 pub one_command : (words called : List (List ℕ)) (a b : Command) → IsCommand words called a → IsCommand words called b → a ≡ b
 one_command words called a b h k =
     let same = one_request words h.request k.request h.is_request k.is_request in
     same-command a b
     (h.depth ∙ ap (λ (r : Request). r.depth) same ∙ sym k.depth)
+    (h.stats ∙ ap (λ (r : Request). r.stats) same ∙ sym k.stats)
     (one-place called k.request.format a.place b.place (subst (λ (r : Request). IsPlace called r.format a.place) same h.place) k.place)
     (h.files ∙ ap (λ (r : Request). r.files) same ∙ sym k.files)
 

@@ -1,5 +1,5 @@
 -- The command that words give, from what was read of them.
-use Rattle.std.proofs.Common.{◌≡◌, ℕ, ◌≤◌, true, false, List, length, map, string_bytes, Option, None, Some, Bor, ap, refl, sym, ◌∙◌, subst, true≢false, arith}
+use Rattle.std.proofs.Common.{◌≡◌, ℕ, ◌≤◌, List, length, map, string_bytes, Option, None, Some, Bor, ap, refl, sym, ◌∙◌, subst, arith}
 use Rattle.std.proofs.lemmas.List.{length-map}
 use Rattle.std.specs.List.{position}
 use Rattle.std.specs.Option.{option_copied}
@@ -11,15 +11,12 @@ use Rattle.command.specs.Commands.{Command, IsCommand, IsPlace, GiveNoCommand}
 use Rattle.command.proofs.GivenCommands.{deep_at_most, few_files, one_command}
 
 abbrev given : Asked → Option ℕ → Command
-given a place = record { depth = a.depth; place = place; files = map string_bytes a.files.now }
+given a place = record { depth = a.depth; stats = a.stats; place = place; files = map string_bytes a.files.now }
 
 pub nothing_given : (words called : List (List ℕ)) → ((r : Request) → IsRequest words r → ⊥) → GiveNoCommand words called
 nothing_given words called none c g = none g.request g.is_request
 
 module _ (words called : List (List ℕ)) (a : Asked) (is : IsRequest words (request_of a)) (only : (r : Request) → IsRequest words r → r ≡ request_of a) where
-  pub with_statistics : a.stats ≡ true → GiveNoCommand words called
-  with_statistics e c g = true≢false (sym e ∙ ap (λ (r : Request). r.stats) (sym (only g.request g.is_request)) ∙ g.plain)
-
   pub without_reporter : (name : Bor (List ℕ)) → a.format ≡ Some name → position (bytes_eq name.now) called ≡ None → GiveNoCommand words called
   without_reporter name f e c g =
       let format : g.request.format ≡ Some name.now = ap (λ (r : Request). r.format) (only g.request g.is_request) ∙ ap option_copied f in
@@ -33,15 +30,14 @@ module _ (words called : List (List ℕ)) (a : Asked) (is : IsRequest words (req
   pub asked_few : length a.files.now ≤ 80
   asked_few = let h = few_files words (request_of a) is in omega (arith, h, length-map a.files.now string_bytes)
 
-  module _ (plain : a.stats ≡ false) where
-    given_without : a.format ≡ None → IsCommand words called (given a None)
-    given_without f = record { request = request_of a; is_request = is; plain = plain; place = subst (λ o. IsPlace called o None) (sym (ap option_copied f)) refl; depth = refl; files = refl }
+  given_without : a.format ≡ None → IsCommand words called (given a None)
+  given_without f = record { request = request_of a; is_request = is; stats = refl; place = subst (λ o. IsPlace called o None) (sym (ap option_copied f)) refl; depth = refl; files = refl }
 
-    pub only_without : a.format ≡ None → (c : Command) → IsCommand words called c → c ≡ given a None
-    only_without f c g = one_command words called c (given a None) g (given_without f)
+  pub only_without : a.format ≡ None → (c : Command) → IsCommand words called c → c ≡ given a None
+  only_without f c g = one_command words called c (given a None) g (given_without f)
 
-    given_with : (name : Bor (List ℕ)) (k : ℕ) → a.format ≡ Some name → position (bytes_eq name.now) called ≡ Some k → IsCommand words called (given a (Some k))
-    given_with name k f e = record { request = request_of a; is_request = is; plain = plain; place = subst (λ o. IsPlace called o (Some k)) (sym (ap option_copied f)) (k, refl, e); depth = refl; files = refl }
+  given_with : (name : Bor (List ℕ)) (k : ℕ) → a.format ≡ Some name → position (bytes_eq name.now) called ≡ Some k → IsCommand words called (given a (Some k))
+  given_with name k f e = record { request = request_of a; is_request = is; stats = refl; place = subst (λ o. IsPlace called o (Some k)) (sym (ap option_copied f)) (k, refl, e); depth = refl; files = refl }
 
-    pub only_with : (name : Bor (List ℕ)) (k : ℕ) → a.format ≡ Some name → position (bytes_eq name.now) called ≡ Some k → (c : Command) → IsCommand words called c → c ≡ given a (Some k)
-    only_with name k f e c g = one_command words called c (given a (Some k)) g (given_with name k f e)
+  pub only_with : (name : Bor (List ℕ)) (k : ℕ) → a.format ≡ Some name → position (bytes_eq name.now) called ≡ Some k → (c : Command) → IsCommand words called c → c ≡ given a (Some k)
+  only_with name k f e c g = one_command words called c (given a (Some k)) g (given_with name k f e)

@@ -1,14 +1,19 @@
 -- What is due for a command, by what its files came to.
-use Rattle.std.proofs.Common.{◌≡◌, inl, inr, ℕ, suc, ◌+◌, ◌≤◌, Bool, true, false, cond, List, [], ◌∷◌, filter, length, map, Option, Bor, Result, Ok, Err, IfOk, OnOk, refl, sym, ap, subst, arith}
+use Rattle.std.proofs.Common.{◌≡◌, inl, inr, ℕ, suc, ◌+◌, ◌≤◌, Bool, true, false, cond, List, [], ◌∷◌, filter, length, map, Option, None, Some, Bor, Result, Ok, Err, IfOk, OnOk, refl, sym, ap, subst, arith}
 use Rattle.std.proofs.lemmas.List.{length-map}
 use Rattle.std.proofs.lemmas.Option.{slice_get_within}
 use Rattle.report_model.specs.declared.report.Report.{Report}
+use Rattle.path_model.specs.CheckerModel.Reports.{Checker}
+use Rattle.typed_unit.specs.Texts.{Text}
 use Rattle.command_words.specs.Generation.{IsGeneration}
+use Rattle.command.specs.CheckerReports.Checkers.{checkers_in}
 use Rattle.command.specs.Commands.{Command, IsCommand, checkers_of, sources_of}
+use Rattle.command.specs.Counted.{IsLineFor}
 use Rattle.command.specs.Due.{FailedInTurn, FailedInTurnOf, IsDue, IsDueFor}
+use Rattle.command.specs.Ways.Counts.{AreCounted, IsCountFor}
 use Rattle.command.specs.Ways.Plans.{IsAmong, IsPlanOf}
 use Rattle.command.specs.Ran.{CarriesOut, Leaves, ReporterStep, Spares}
-use Rattle.command.specs.Rendered.{IsPlanFor}
+use Rattle.command.specs.Rendered.{IsPlanFor, line_for}
 use Rattle.command.specs.Statuses.{status_of}
 use Rattle.command.specs.Tasks.{IsEmptiedAt, LeavesAt}
 use Rattle.command.specs.Written.{Fits, SinkStep, Written}
@@ -17,7 +22,6 @@ use Rattle.command.specs.declared.status.Status.TheVariants as status
 use Rattle.command.proofs.GivenCommands.{command_alone}
 use Rattle.command.proofs.Turns.{all_turns}
 use Rattle.command.specs.JudgedFiles.FirstFault.{AnswersUnjudged}
-use Rattle.command.specs.JudgedFiles.Judged.{AreAccepted}
 use Rattle.command.specs.declared.judged_files.unjudged.Unjudged.{Unjudged}
 use Rattle.command.specs.declared.judged_files.unjudged.Unjudged.TheVariants.{NotRead, Faulty, NoMemory}
 use Rattle.request_files.specs.Turns.{turns}
@@ -41,11 +45,25 @@ kind_few f p files kind most e h =
     let c = length-map files f in
     omega (arith, a, b, c, h, ap length e)
 
+-- the line of a count is the one that is due beside reports
+line-by-count : (stats : Bool) (cs : List Checker) (ts : List Text) (entries : Option ℕ) (line : List ℕ) → IsCountFor stats cs ts entries → line ≡ line_for entries → IsLineFor stats cs ts line
+line-by-count stats cs ts None line c e = subst (λ (b : Bool). IsLineFor b cs ts line) (sym c) e
+line-by-count stats cs ts (Some count) line c e = subst (λ (b : Bool). IsLineFor b cs ts line) (sym c.0) (record { count = count; counted = c.1; line_is = e })
+
 module _ (Holds : List ℕ → List ℕ → Type 0) (command : Command) (old new : List (List ℕ)) where
   -- ---- the files gave reports
-  pub due_for_reports : (rendered : List Report → List (List ℕ)) (reports : List Report) (s : Status) (text line : List ℕ) → AreAccepted Holds (checkers_of command) (sources_of command) command.depth reports → new ≡ old
-      → IsPlanFor command.place (rendered reports) reports s text line → IsDueFor Holds command rendered old new s text line
-  due_for_reports rendered reports s text line a n p = inl (record { reports = reports; accepted = a; none_failed = n; status_is = p.0; text_is = p.1; line_is = p.2 })
+  pub due_for_reports : (rendered : List Report → List (List ℕ)) (reports : List Report) (entries : Option ℕ) (s : Status) (text line : List ℕ)
+      → AreCounted Holds (checkers_of command) (sources_of command) command.depth command.stats reports entries → new ≡ old → IsPlanFor command.place (rendered reports) reports entries s text line → IsDueFor Holds command rendered old new s text line
+  due_for_reports rendered reports entries s text line a n p =
+      let meant = a.accepted.judged in
+      inl (record {
+        reports = reports;
+        accepted = a.accepted;
+        none_failed = n;
+        status_is = p.0;
+        text_is = p.1;
+        line_is = line-by-count command.stats (checkers_in meant.machines command.depth meant.names) meant.texts entries line a.counted p.2;
+      })
 
   -- ---- they gave none
   pub due_for_none : (rendered : List Report → List (List ℕ)) (u : Unjudged) (s : Status) (text line : List ℕ) → AnswersUnjudged Holds (checkers_of command) (sources_of command) old new u → IsPlanOf (checkers_of command) (sources_of command) u s text line

@@ -108,11 +108,11 @@ pub files_fewer : (words called : List (List ℕ)) (c : Command) → IsCommand w
 files_fewer words called c g = omega (arith, many words g.request g.is_request, ap length g.files)
 
 pub by_positions : (words called : List (List ℕ)) (c : Command) (positions : List ℕ) (n m : ℕ) → IsCommand words called c → n ≡ length words → m ≡ length c.files → positions ≡ range_with_len (n - m) (n - (n - m))
-    → IsCommand words called (record { depth = c.depth; place = c.place; files = words_at words positions })
+    → IsCommand words called (record { depth = c.depth; stats = c.stats; place = c.place; files = words_at words positions })
 by_positions words called c positions n m g many few e = record {
   request = g.request;
   is_request = g.is_request;
-  plain = g.plain;
+  stats = g.stats;
   place = g.place;
   depth = g.depth;
   files = ap (words_at words) e ∙ ap (λ k. words_at words (range_with_len (k - m) (k - (k - m)))) many

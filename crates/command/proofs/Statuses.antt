@@ -58,24 +58,16 @@ module _ (run : Run) where
 
     module _ (t : HasTask (may_hold run.told) run.words (called_in run) (rendered_in run) run.failed_before run.failed_after run.status text line) where
       of_reported : (d : IsReported (may_hold run.told) t.command (rendered_in run) run.failed_before run.failed_after run.status text line) → (IsAsked : List Report → Type 0) → IsAsked d.reports → Prints run IsAsked
-      of_reported d IsAsked asked =
-          let cause : IsReported (may_hold run.told) t.command (rendered_in run) run.failed_before run.failed_after run.status text [] = record {
-            reports = d.reports;
-            accepted = d.accepted;
-            none_failed = d.none_failed;
-            status_is = d.status_is;
-            text_is = d.text_is;
-            line_is = refl;
-          } in
-          record {
-            command = t.command;
-            given = t.given;
-            text = text;
-            cause = cause;
-            asked = asked;
-            writes = subst (λ (l : Bytes). Writes run text l) d.line_is writes;
-            empty = empty_of run.words (reporters_in run) d.reports (subst (Leaves run.words (reporters_in run)) d.status_is leaves);
-          }
+      of_reported d IsAsked asked = record {
+        command = t.command;
+        given = t.given;
+        text = text;
+        line = line;
+        cause = d;
+        asked = asked;
+        writes = writes;
+        empty = empty_of run.words (reporters_in run) d.reports (subst (Leaves run.words (reporters_in run)) d.status_is leaves);
+      }
 
       of_refused : IsRefused (may_hold run.told) t.command run.failed_before run.failed_after run.status text line → Refuses run
       of_refused d = record {

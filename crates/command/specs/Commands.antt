@@ -1,5 +1,5 @@
 -- THE COMMAND that words give, where reporters are handed in.
-use Rattle.std.specs.Prelude.{◌≡◌, ℕ, false, List, filter, Option, None, Some}
+use Rattle.std.specs.Prelude.{◌≡◌, ℕ, Bool, false, List, filter, Option, None, Some}
 use Rattle.std.specs.List.{position}
 use Rattle.std.specs.Str.{bytes_eq}
 use Rattle.command_words.specs.Generation.{IsGeneration}
@@ -7,9 +7,10 @@ use Rattle.command_words.specs.Words.{Request, IsRequest, is_checker_word, is_so
 use Rattle.request_files.specs.Turns.{Turn, turns}
 use Rattle.mx_io.specs.Bytes.{Bytes, Words}
 
--- what is to be done: objects with at most so many steps, the reporter at this place or none, and these files
+-- what is to be done: objects with at most so many steps, the reporter at this place or none, whether statistics are asked for, and these files
 pub record Command : Type 0 where
   pub depth : ℕ
+  pub stats : Bool
   pub place : Option ℕ
   pub files : Words
 
@@ -18,11 +19,11 @@ abbrev pub IsPlace : Words → Option Bytes → Option ℕ → Type 0
 IsPlace called None place = place ≡ None
 IsPlace called (Some name) place = (k : ℕ) × (place ≡ Some k) × (position (bytes_eq name) called ≡ Some k)
 
--- the words stand for a request that asks for no statistics, and whose format is the name of a reporter
+-- the words stand for a request whose format is the name of a reporter
 pub record IsCommand (words called : Words) (command : Command) : Type 0 where
   pub request : Request
   pub is_request : IsRequest words request
-  pub plain : request.stats ≡ false
+  pub stats : command.stats ≡ request.stats
   pub place : IsPlace called request.format command.place
   pub depth : command.depth ≡ request.depth
   pub files : command.files ≡ request.files
@@ -35,6 +36,10 @@ GiveNoCommand words called = (command : Command) → IsCommand words called comm
 pub record GiveNone (words called : Words) : Type 0 where
   pub no_command : GiveNoCommand words called
   pub no_generation : (count : ℕ) → IsGeneration words count → ⊥
+
+-- the words ask for no statistics
+abbrev pub AskForNone : Words → Words → Type 0
+AskForNone words called = (command : Command) → IsCommand words called command → command.stats ≡ false
 
 -- the reporter at this place isn't the one that the words choose
 abbrev pub IsOther : Words → Words → ℕ → Type 0

@@ -1,15 +1,17 @@
 -- What a run is due: a status, the text for `out` and the line for `errs`. There are five causes, each with what is due by it. Which bytes stand in a
 -- file is said by a word that is handed in.
-use Rattle.std.specs.Prelude.{◌≡◌, ◌⊎◌, ℕ, List, [], ◌∷◌, ◌++◌, codes}
+use Rattle.std.specs.Prelude.{◌≡◌, ◌⊎◌, ℕ, true, List, [], ◌∷◌, ◌++◌, codes}
 use Rattle.report_model.specs.declared.report.Report.{Report}
 use Rattle.command_words.specs.Generation.{IsGeneration}
 use Rattle.mx_io.specs.Bytes.{Bytes, Words}
 use Rattle.command.specs.Commands.{Command, IsCommand, GiveNone, checkers_of, sources_of, turns_of}
+use Rattle.command.specs.Counted.{IsLineFor, IsStatsLine}
 use Rattle.command.specs.Measured.{IsMeasured, measure_line}
 use Rattle.command.specs.Rendered.{IsText}
 use Rattle.command.specs.declared.status.Status.{Status}
 use Rattle.command.specs.declared.status.Status.TheVariants.{Usage, Refused, ReadFault}
 use Rattle.command.specs.Statuses.{status_of}
+use Rattle.command.specs.CheckerReports.Checkers.{checkers_in}
 use Rattle.command.specs.JudgedFiles.FirstFault.{IsFirstFault}
 use Rattle.command.specs.JudgedFiles.Judged.{AreAccepted}
 use Rattle.request_files.specs.Faults.{Located, refused_line}
@@ -30,14 +32,15 @@ FailedInTurn Holds words called old new = (new ≡ old) ⊎ ((command : Command)
 
 -- ---- THE FIVE CAUSES
 
--- the files of the command were read without a fault, and these are their reports
+-- the files of the command were read without a fault, these are their reports, and the line says how many entries the logs of their checkers have,
+-- where that is asked for
 pub record IsReported (Holds : Bytes → Bytes → Type 0) (command : Command) (rendered : List Report → List Bytes) (old new : Words) (status : Status) (text line : Bytes) : Type 0 where
   pub reports : List Report
   pub accepted : AreAccepted Holds (checkers_of command) (sources_of command) command.depth reports
   pub none_failed : new ≡ old
   pub status_is : status ≡ status_of reports
   pub text_is : IsText command.place (rendered reports) reports text
-  pub line_is : line ≡ []
+  pub line_is : IsLineFor command.stats (checkers_in accepted.judged.machines command.depth accepted.judged.names) accepted.judged.texts line
 
 -- a file has the first fault, or linking has it, and no read failed before
 pub record IsRefused (Holds : Bytes → Bytes → Type 0) (command : Command) (old new : Words) (status : Status) (text line : Bytes) : Type 0 where
@@ -96,3 +99,19 @@ pub record HasGeneration (words old new : Words) (status : Status) (text line : 
 abbrev pub IsDue : (Bytes → Bytes → Type 0) → Words → Words → (List Report → List Bytes) → Words → Words → Status → Bytes → Bytes → Type 0
 IsDue Holds words called rendered old new status text line =
     IsMisused words called old new status text line ⊎ (HasTask Holds words called rendered old new status text line ⊎ HasGeneration words old new status text line)
+
+-- ---- WHAT IS LEFT OPEN: one number, where statistics are asked for. How many entries a log has is given by the blocks into which the functions are
+-- cut, and graphs may cut them in more than one way.
+
+-- the command asks for statistics, its files were read without a fault, and both of these lines say how many entries the logs of their checkers have
+pub record AreStatistics (Holds : Bytes → Bytes → Type 0) (command : Command) (status : Status) (line next : Bytes) : Type 0 where
+  pub asked : command.stats ≡ true
+  pub reports : List Report
+  pub accepted : AreAccepted Holds (checkers_of command) (sources_of command) command.depth reports
+  pub status_is : status ≡ status_of reports
+  pub line_is : IsStatsLine (checkers_in accepted.judged.machines command.depth accepted.judged.names) accepted.judged.texts line
+  pub next_is : IsStatsLine (checkers_in accepted.judged.machines command.depth accepted.judged.names) accepted.judged.texts next
+
+-- ONE LINE: the same, or both are such lines of the command that the words give
+abbrev pub IsOneLine : (Bytes → Bytes → Type 0) → Words → Words → Status → Bytes → Bytes → Type 0
+IsOneLine Holds words called status line next = (line ≡ next) ⊎ ((command : Command) × IsCommand words called command × AreStatistics Holds command status line next)

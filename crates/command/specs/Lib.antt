@@ -1,5 +1,6 @@
 pub mod Checker
 pub mod Commands
+pub mod Counted
 pub mod Due
 pub mod Handed
 pub mod Measured

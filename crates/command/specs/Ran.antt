@@ -4,7 +4,7 @@ use Rattle.report_model.specs.declared.report.Report.{Report}
 use Rattle.command_words.specs.Generation.{IsGeneration}
 use Rattle.mx_io.specs.Bytes.{Bytes, Words}
 use Rattle.command.specs.Commands.{Command, IsCommand}
-use Rattle.command.specs.Due.{IsDue, FailedInTurn}
+use Rattle.command.specs.Due.{IsDue, IsOneLine, FailedInTurn}
 use Rattle.command.specs.declared.status.Status.{Status}
 use Rattle.command.specs.declared.status.Status.TheVariants.{NoMemory}
 use Rattle.command.specs.Statuses.{is_of_reports}
@@ -66,3 +66,7 @@ RanHanding Hands Holds words r old new result out errs =
 -- this was written, as far as the sinks took it, or there was no memory before the first write
 abbrev pub DidAs : Status → Bytes → Bytes → Status → SinkStep → SinkStep → Type 0
 DidAs status text line result out errs = ((result ≡ NoMemory) × Untouched out × Untouched errs) ⊎ Written status text line result out errs
+
+-- the same with one line: this one, or another of the same statistics
+abbrev pub DidOneAs : (Bytes → Bytes → Type 0) → Words → Words → Status → Bytes → Bytes → Status → SinkStep → SinkStep → Type 0
+DidOneAs Holds words called status text line result out errs = (next : Bytes) × IsOneLine Holds words called status line next × DidAs status text next result out errs

@@ -1,6 +1,7 @@
 -- WHAT A RUN PROMISES: the contract of `run`, and the page to begin with. First what a run is handed and what it leaves, then what it did by
 -- each way in which it can end, and last the promise, field by field. What words ask for stands in `Commands`, what is due in `Due`, how reports
--- look in `Rendered`, what a sink takes and is handed in `Written`, what files mean in `JudgedFiles`, and a generated program in `Measured`.
+-- look in `Rendered`, the line of statistics in `Counted`, what a sink takes and is handed in `Written`, what files mean in `JudgedFiles`, and a
+-- generated program in `Measured`.
 use Rattle.std.specs.Prelude.{◌≡◌, ◌≢◌, ◌⊎◌, ℕ, List, [], map, slice_get}
 use Rattle.command_words.specs.Generation.{IsGeneration}
 use Rattle.report_model.specs.declared.report.Report.{Report}
@@ -8,12 +9,14 @@ use Rattle.request_files.specs.Faults.{Located, refused_line}
 use Rattle.request_files.specs.Reading.{UnsoundAt, at_first}
 use Rattle.request_files.specs.Telling.{AreReadable, Tells, may_hold, surely_holds}
 use Rattle.mx_io.specs.Bytes.{Bytes, Readable, Told, Words}
+use Rattle.command.specs.CheckerReports.Checkers.{checkers_in}
 use Rattle.command.specs.Commands.{Command, GiveNone, IsCommand, IsOther, checkers_of, sources_of, turns_of}
-use Rattle.command.specs.Due.{IsDue, IsLacking, IsMeasuredAs, IsMisused, IsRefused, IsReported, usage_line}
+use Rattle.command.specs.Counted.{IsLineFor}
+use Rattle.command.specs.Due.{IsDue, IsLacking, IsMeasuredAs, IsMisused, IsOneLine, IsRefused, IsReported, usage_line}
 use Rattle.command.specs.JudgedFiles.FirstFault.{IsFirstFault}
 use Rattle.command.specs.JudgedFiles.Judged.{AreJudged, AreLinked}
 use Rattle.command.specs.Measured.{IsMeasured, measure_line}
-use Rattle.command.specs.Ran.{DidAs, IsEmptied, Ran, RanHanding, ReporterStep, Stops, reporter_step}
+use Rattle.command.specs.Ran.{DidAs, DidOneAs, IsEmptied, Ran, RanHanding, ReporterStep, Stops, reporter_step}
 use Rattle.command.specs.Rendered.{IsText}
 use Rattle.command.specs.Statuses.{status_of}
 use Rattle.command.specs.Written.{Fits, IsStill, NoWriteFailed, SinkStep, Took, WriteFailed}
@@ -94,6 +97,14 @@ IsSurelyDue run status text line = IsDue (surely_holds run.told) run.words (call
 abbrev pub Did : Run → Status → Bytes → Bytes → Type 0
 Did run status text line = DidAs status text line run.status run.out run.errs
 
+-- the lines are the same, or both are lines of statistics, for which the words ask, of what is told of the files
+abbrev pub AreOneLine : Run → Status → Bytes → Bytes → Type 0
+AreOneLine run status line next = IsOneLine (surely_holds run.told) run.words (called_in run) status line next
+
+-- the text and one such line was written, as far as the sinks took it, or there was no memory before the first write
+abbrev pub DidOne : Run → Status → Bytes → Bytes → Type 0
+DidOne run status text line = DidOneAs (surely_holds run.told) run.words (called_in run) status text line run.status run.out run.errs
+
 -- the run ended with this status, but for a failed write or want of memory
 abbrev pub EndsIn : Run → Status → Type 0
 EndsIn run status = (run.status ≡ status) ⊎ ((run.status ≡ WriteFault) ⊎ (run.status ≡ NoMemory))
@@ -108,15 +119,16 @@ RanAsDue run = Ran (may_hold run.told) run.words (reporters_in run) run.failed_b
 abbrev pub HandsAsDue : (Bytes → Bytes → Type 0) → Run → Type 0
 HandsAsDue Hands run = RanHanding Hands (may_hold run.told) run.words (reporters_in run) run.failed_before run.failed_after run.status run.out run.errs
 
--- the words give a command, its files were read and have no fault, and their reports, which are of the kind that is asked, were written; the
--- chosen reporter is empty
+-- the words give a command, its files were read and have no fault, and their reports, which are of the kind that is asked, were written, and the
+-- line of statistics, where the command asks for it; the chosen reporter is empty
 pub record Prints (run : Run) (IsAsked : List Report → Type 0) : Type 0 where
   pub command : Command
   pub given : Gives run command
   pub text : Bytes
-  pub cause : IsReported (may_hold run.told) command (rendered_in run) run.failed_before run.failed_after run.status text []
+  pub line : Bytes
+  pub cause : IsReported (may_hold run.told) command (rendered_in run) run.failed_before run.failed_after run.status text line
   pub asked : IsAsked cause.reports
-  pub writes : Writes run text []
+  pub writes : Writes run text line
   pub empty : IsEmptied run.words (reporters_in run)
 
 -- the words ask for a generation, no read failed, and the line of the generated program was written, whose reports are of the kind that is asked
@@ -162,7 +174,7 @@ pub record Misses (run : Run) : Type 0 where
 abbrev pub StopsFirst : Run → Type 0
 StopsFirst run = Stops (may_hold run.told) run.words (reporters_in run) run.failed_before run.failed_after run.status run.out run.errs
 
--- the reports of these contents were written, and the status says whether there are any
+-- the reports of these contents were written, and the line of statistics, where the command asks for it; the status says whether there are any reports
 pub record Completes (run : Run) (command : Command) (contents : List Bytes) : Type 0 where
   pub reports : List Report
   pub judged : AreJudged (checkers_of command) (sources_of command) contents command.depth reports
@@ -170,7 +182,9 @@ pub record Completes (run : Run) (command : Command) (contents : List Bytes) : T
   pub text : Bytes
   pub text_is : IsText command.place (rendered_in run reports) reports text
   pub printed : Took run.out text
-  pub nothing : Took run.errs []
+  pub line : Bytes
+  pub line_is : IsLineFor command.stats (checkers_in judged.machines command.depth judged.names) judged.texts line
+  pub noted : Took run.errs line
 
 -- the line of the generated program of this number was written, and the status says whether there are reports
 pub record CompletesMeasure (run : Run) (count : ℕ) : Type 0 where
@@ -188,8 +202,8 @@ pub record Promise {Files : Type 0} (files_before files_after : Files) (Hands : 
   -- Each write is handed all that isn't taken yet.
   pub handed : HandsAsDue Hands run
   -- And nothing else: what is due by what is told of the files that are read is what the run did. At most one status, one text and one line is
-  -- due (`one_answer::due_is_unique`).
-  pub determined : (status : Status) (text line : Bytes) → IsSurelyDue run status text line → Did run status text line
+  -- due, up to the number in a line of statistics (`one_answer::due_is_unique`); without statistics one line (`one_answer::plain_due_is_unique`).
+  pub determined : (status : Status) (text line : Bytes) → IsSurelyDue run status text line → DidOne run status text line
   -- THE SEVEN STATUSES, and what each says.
   -- 0: no error was found. The exact list of reports is empty.
   pub clean : run.status ≡ Clean → Answers run (λ reports. reports ≡ [])
@@ -231,8 +245,9 @@ pub record Promise {Files : Type 0} (files_before files_after : Files) (Hands : 
   pub generation : (count : ℕ) → IsGeneration run.words count → (run.status ≡ Clean) ⊎ EndsIn run Reports
   -- Words that give nothing to do are misused.
   pub no_command : GiveNone run.words (called_in run) → EndsIn run Usage
-  -- What is due and fits into sinks that are known not to fail ends in its status: no write fails.
-  pub fitting : (status : Status) (text line : Bytes) → IsSurelyDue run status text line → Fits text line run.out run.errs → (run.status ≡ status) ⊎ (run.status ≡ NoMemory)
+  -- What is due and fits, with its line or another of the same statistics, into sinks that are known not to fail ends in its status: no write fails.
+  pub fitting : (status : Status) (text line : Bytes) → IsSurelyDue run status text line →
+      ((next : Bytes) → AreOneLine run status line next → Fits text next run.out run.errs) → (run.status ≡ status) ⊎ (run.status ≡ NoMemory)
   -- A command whose files are readable is read: no read fails, and it doesn't end in one.
   pub readable : (command : Command) → Gives run command → AreReadable run.readable (turns_of command) → NoReadFailed run × (run.status ≢ ReadFault)
   -- A failed read is told.

@@ -7,7 +7,7 @@ use Rattle.command.specs.Statuses.{is_of_reports}
 use Rattle.command.specs.declared.words.Task.{Task}
 
 abbrev pub command_of : Task → Command
-command_of task = record { depth = task.depth; place = task.place; files = map string_bytes task.files.now }
+command_of task = record { depth = task.depth; stats = task.stats; place = task.place; files = map string_bytes task.files.now }
 
 -- the reporter at the place, if there is one, is empty
 abbrev pub IsEmptiedAt : Option ℕ → List (List Report) → Type 0

@@ -11,6 +11,7 @@ mod words;
 mod lines;
 mod refusal;
 mod rendering;
+mod statistics;
 mod status;
 
 // files and their reports

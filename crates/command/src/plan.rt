@@ -76,8 +76,8 @@ fn plan_task<F: Files>(
 {
     let checkers = checkers_among(alloc, task.files)?;
     let sources = sources_among(alloc, task.files)?;
-    match reports_of(alloc, files, &checkers, &sources, task.depth) {
-        Ok(reports) => plan_reports(alloc, task.place, reporters, &reports),
+    match reports_of(alloc, files, &checkers, &sources, task.depth, task.stats) {
+        Ok(found) => plan_reports(alloc, task.place, reporters, &found.reports, found.entries),
         Err(unjudged) => plan_refusal(alloc, &checkers, &sources, unjudged),
     }
 }

@@ -4,6 +4,7 @@ ghost use Rattle.std.specs.Prelude.{◌≡◌, [], ◌∷◌, IfOk};
 ghost use Rattle.command.specs.Checker.{free_text};
 ghost use Rattle.command.specs.Measured.{AreReportsOf, checker_name, program_name};
 
+use crate::checker_reports::Found;
 use crate::outcome::reports_of;
 use mx_io::MemFiles;
 use report_model::Report;
@@ -34,8 +35,21 @@ pub(crate) fn program_reports(alloc: Global, program: &[u8]) -> Result<Vec<Repor
     ensures { IfOk result (λ reports. AreReportsOf program.now reports.items) }
 {
     let mut files = files_with(alloc, program)?;
-    match reports_of(alloc, &mut files, &["free.metal"], &["generated.c"], 4) {
-        Ok(reports) => Ok(reports),
+    match reports_of(
+        alloc,
+        &mut files,
+        &["free.metal"],
+        &["generated.c"],
+        4,
+        false,
+    ) {
+        Ok(found) => {
+            let Found {
+                reports,
+                entries: _,
+            } = found;
+            Ok(reports)
+        }
         Err(_) => Err(AllocError),
     }
 }

@@ -1,6 +1,6 @@
 //! The request that words stand for, by positions.
 
-ghost use Rattle.std.specs.Prelude.{◌≡◌, ◌⊎◌, ◌<◌, ◌≤◌, ◌-◌, ◌^◌, ℕ, Err, Some, false, length, map, string_bytes, IfOk, IfSome, MatchResult};
+ghost use Rattle.std.specs.Prelude.{◌≡◌, ◌⊎◌, ◌<◌, ◌≤◌, ◌-◌, ◌^◌, ℕ, Err, Some, length, map, string_bytes, IfOk, IfSome, MatchResult};
 ghost use Rattle.std.specs.List.{range_with_len};
 ghost use Rattle.command.specs.Commands.{GiveNone};
 ghost use Rattle.command.specs.Requests.{AskFor};
@@ -70,7 +70,6 @@ pub fn read_words(
     requires few { length reporters.now < 2 ^ 32 }
     ensures request { IfOk result (λ request. AskFor (map string_bytes words.now) (map (λ b. called b) reporters.now) request request.generate) }
     ensures generation { (count : ℕ) → IsGeneration (map string_bytes words.now) count → MatchResult result (λ request. request.generate ≡ Some count) (λ fault. ⊥) }
-    ensures plain { IfOk result (λ request. request.stats ≡ false) }
     ensures usage { result ≡ Err WordsFault.Usage → GiveNone (map string_bytes words.now) (map (λ b. called b) reporters.now) }
     ensures none { GiveNone (map string_bytes words.now) (map (λ b. called b) reporters.now) → (result ≡ Err WordsFault.Usage) ⊎ (result ≡ Err WordsFault.NoMemory) }
 {
@@ -93,7 +92,7 @@ pub fn read_words(
     Ok(Request {
         depth: task.depth,
         format: short_place(task.place),
-        stats: false,
+        stats: task.stats,
         files,
         generate: None,
     })

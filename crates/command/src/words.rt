@@ -12,14 +12,15 @@ use report_model::{Reporter, place_of};
 pub(crate) struct Task<'a> {
     /// How many steps an object may have.
     pub depth: u8,
+    /// Whether statistics are asked for.
+    pub stats: bool,
     /// The place of the reporter that renders the reports, if one does.
     pub place: Option<usize>,
     /// The FILE words, checkers and C files, in order.
     pub files: &'a [String],
 }
 
-/// The task that the words give; `None` exactly where they give no command. Nothing reports statistics yet, so words that ask for
-/// them give none. It takes no memory.
+/// The task that the words give; `None` exactly where they give no command. It takes no memory.
 pub(crate) fn task_of<'a>(words: &'a [String], reporters: &[Box<dyn Reporter>]) -> Option<Task<'a>>
     ensures given { IfSome result (λ task. IsCommand (map string_bytes words.now) (map (λ b. called b) reporters.now) (command_of task)) }
     ensures only { IfSome result (λ task. (command : Command) → IsCommand (map string_bytes words.now) (map (λ b. called b) reporters.now) command → command ≡ command_of task) }
@@ -29,12 +30,10 @@ pub(crate) fn task_of<'a>(words: &'a [String], reporters: &[Box<dyn Reporter>]) 
     ensures within { IfSome result (λ task. IfSome task.place (λ place. place < length reporters.now)) }
 {
     let asked = read_asked(words)?;
-    if asked.stats {
-        return None;
-    }
     let Some(name) = asked.format else {
         return Some(Task {
             depth: asked.depth,
+            stats: asked.stats,
             place: None,
             files: asked.files,
         });
@@ -43,6 +42,7 @@ pub(crate) fn task_of<'a>(words: &'a [String], reporters: &[Box<dyn Reporter>]) 
         None => None,
         Some(place) => Some(Task {
             depth: asked.depth,
+            stats: asked.stats,
             place: Some(place),
             files: asked.files,
         }),

@@ -51,7 +51,7 @@ module _ (t : Tables) (n : ℕ) (f : Frame) (p : IsPlace t n f) where
   fn = function_of p.defined
 
   abbrev b : ℕ
-  b = (graph_in f.table.now.graph).entry
+  b = (graph_in f.table.now.graph.now).entry
 
   first-there : b ≡ (graph_at (texts_in t) (graphs_in t) fn).entry
   first-there = ap (λ (g : Graph). g.entry) (sym p.graph)

@@ -48,14 +48,14 @@ module _ (t : Tables) (e : Edge) (f : Frame) (p : IsPlace t e.context.function f
   Behind = StandsBehind c ts (graphs_in t) lists e
 
   -- the events of the block, by the graph of its function
-  events-are : map (happening ts fn) (events_at (slice_get (graph_in f.table.now.graph).blocks e.block)) ≡ (flow_graphs c ts (graphs_in t)).events fn e.block
+  events-are : map (happening ts fn) (events_at (slice_get (graph_in f.table.now.graph.now).blocks e.block)) ≡ (flow_graphs c ts (graphs_in t)).events fn e.block
   events-are = ap (λ (g : Graph). map (happening ts fn) (events_at (slice_get g.blocks e.block))) (sym p.graph)
 
   abbrev Ended : List Happening → Tuple → Type 0
   Ended hs = IsEnd c hs fn e.is_root f.objects.now.keys e.tuple
 
   abbrev here : List Happening
-  here = map (happening ts fn) (events_at (slice_get (graph_in f.table.now.graph).blocks e.block))
+  here = map (happening ts fn) (events_at (slice_get (graph_in f.table.now.graph.now).blocks e.block))
 
   -- what crosses where these objects alone are followed is what crosses among those of the function
   abbrev Crossing : Function → List Happening → Tuple → Type 0

@@ -72,17 +72,17 @@ pub no-function : (c : Checker) (ts : List Text) (gs : List Graph) (lists : List
 no-function c ts gs lists e none k = (λ h. absurd (no-context k h), λ h. absurd (nowhere h.fn (sym none ∙ h.named)))
 
 module _ (t : Tables) (e : Edge) (f : Frame) (p : IsPlace t e.context.function f) where
-  is-last : (k : Context) → IsEndOf (checker_in t) (texts_in t) (graphs_in t) (objects_in t) e k → IsLast (graph_in f.table.now.graph).blocks e.block
+  is-last : (k : Context) → IsEndOf (checker_in t) (texts_in t) (graphs_in t) (objects_in t) e k → IsLast (graph_in f.table.now.graph.now).blocks e.block
   is-last k h =
       let same : h.fn ≡ function_of p.defined = one-function h.fn (function_of p.defined) (sym h.named ∙ named t e.context.function p.defined p.is) in
       let there = subst (λ (z : Function). IsLast (graph_at (texts_in t) (graphs_in t) z).blocks e.block) same h.ends in
       subst (λ (g : Graph). IsLast g.blocks e.block) p.graph there
 
   -- it doesn't end here
-  pub not-here : (IsLast (graph_in f.table.now.graph).blocks e.block → e.is_root ≡ false → ⊥) → (k : Context) → (None ≡ Some k) ↔ IsEndOf (checker_in t) (texts_in t) (graphs_in t) (objects_in t) e k
+  pub not-here : (IsLast (graph_in f.table.now.graph.now).blocks e.block → e.is_root ≡ false → ⊥) → (k : Context) → (None ≡ Some k) ↔ IsEndOf (checker_in t) (texts_in t) (graphs_in t) (objects_in t) e k
   not-here never k = (λ h. absurd (no-context k h), λ h. absurd (never (is-last k h) h.called))
 
-  pub ends-here : IsLast (graph_in f.table.now.graph).blocks e.block → e.is_root ≡ false → (k : Context) → (Some e.context ≡ Some k) ↔ IsEndOf (checker_in t) (texts_in t) (graphs_in t) (objects_in t) e k
+  pub ends-here : IsLast (graph_in f.table.now.graph.now).blocks e.block → e.is_root ≡ false → (k : Context) → (Some e.context ≡ Some k) ↔ IsEndOf (checker_in t) (texts_in t) (graphs_in t) (objects_in t) e k
   ends-here last called k = (
     λ h. record {
       fn = function_of p.defined;

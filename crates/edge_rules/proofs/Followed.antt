@@ -81,7 +81,7 @@ module _ (t : Tables) (a : Edge) (f : Frame) (p : IsPlace t a.context.function f
   fn = function_of p.defined
 
   abbrev blocks : List Block
-  blocks = (graph_in f.table.now.graph).blocks
+  blocks = (graph_in f.table.now.graph.now).blocks
 
   abbrev is-named : function_at ts a.context.function ≡ Some fn
   is-named = named t a.context.function p.defined p.is
@@ -131,7 +131,7 @@ module _ (t : Tables) (a : Edge) (f : Frame) (p : IsPlace t a.context.function f
       callee = function_of q.defined
 
       abbrev first : ℕ
-      first = (graph_in g.table.now.graph).entry
+      first = (graph_in g.table.now.graph.now).entry
 
       abbrev Given : Tuple → Edge → Type 0
       Given = IsEntry c (site c.depth ts fn n) callee f.objects.now.keys g.objects.now.keys k first

@@ -30,7 +30,7 @@ pub(crate) fn callee_of<'t, 'u, 'a>(
     block: u32,
 ) -> Option<Callee<'t, 'u, 'a>>
     ensures there { IfSome result (λ k. IsFrame tables.now k.number k.frame) }
-    ensures followed { AreKnown tables.now → (n : ℕ) (d : Defined) (es : List Event) (call : Node) (next : ℕ) → slice_get (functions_in (texts_in tables.now)) n ≡ Some d → AreBlockTables (checker_in tables.now).machine tables.now.depth (texts_in tables.now) d (graph_in table.now.graph).blocks table.now.blocks.items → Has (graph_in table.now.graph).blocks block es (Calls call next) → followed_into (checker_in tables.now).machine (site tables.now.depth (texts_in tables.now) (function_of d) call) ≡ (result >? λ k. function_at (texts_in tables.now) k.number) }
+    ensures followed { AreKnown tables.now → (n : ℕ) (d : Defined) (es : List Event) (call : Node) (next : ℕ) → slice_get (functions_in (texts_in tables.now)) n ≡ Some d → AreBlockTables (checker_in tables.now).machine tables.now.depth (texts_in tables.now) d (graph_in table.now.graph.now).blocks table.now.blocks.items → Has (graph_in table.now.graph.now).blocks block es (Calls call next) → followed_into (checker_in tables.now).machine (site tables.now.depth (texts_in tables.now) (function_of d) call) ≡ (result >? λ k. function_at (texts_in tables.now) k.number) }
 {
     let number = callee_at(table, block)?;
     let frame = tables.frame(number)?;

@@ -27,7 +27,7 @@ fn entered_with(
     tuple: &Tuple,
 ) -> Result<Vec<Edge>, AllocError>
     requires { depth ≤ 8 }
-    ensures { IfOk result (λ list. (c : Checker) (s : Form) (h : Function) → c.depth ≡ depth → IsSite depth site.now s → IsExactly list.items (IsEntry c s h caller_objects.now.keys callee.now.frame.objects.now.keys callee.now.number (graph_in callee.now.frame.table.now.graph).entry tuple.now)) }
+    ensures { IfOk result (λ list. (c : Checker) (s : Form) (h : Function) → c.depth ≡ depth → IsSite depth site.now s → IsExactly list.items (IsEntry c s h caller_objects.now.keys callee.now.frame.objects.now.keys callee.now.number (graph_in callee.now.frame.table.now.graph.now).entry tuple.now)) }
 {
     let callee_objects = callee.frame.objects;
     let entries = into_call(alloc, site, depth, tuple, caller_objects, callee_objects)?;
@@ -49,7 +49,7 @@ pub(crate) fn entered_edges(
     tuples: &[Tuple],
 ) -> Result<Vec<Edge>, AllocError>
     requires { depth ≤ 8 }
-    ensures { IfOk result (λ list. (c : Checker) (s : Form) (h : Function) → c.depth ≡ depth → IsSite depth site.now s → IsExactly list.items (SomeGives (IsEntry c s h caller_objects.now.keys callee.now.frame.objects.now.keys callee.now.number (graph_in callee.now.frame.table.now.graph).entry) tuples.now)) }
+    ensures { IfOk result (λ list. (c : Checker) (s : Form) (h : Function) → c.depth ≡ depth → IsSite depth site.now s → IsExactly list.items (SomeGives (IsEntry c s h caller_objects.now.keys callee.now.frame.objects.now.keys callee.now.number (graph_in callee.now.frame.table.now.graph.now).entry) tuples.now)) }
 {
     let mut edges = Vec::new(alloc);
     for tuple in tuples {

@@ -30,7 +30,7 @@ fn at_call<'a>(
     call: &Tree<'a>,
     next: u32,
 ) -> Result<Vec<Edge>, AllocError>
-    ensures { IfOk result (λ list. AreKnown tables.now → IsFrame tables.now edge.now.context.function frame.now → option_map (λ b. b.ending) (slice_get (graph_in frame.now.table.now.graph).blocks edge.now.block) ≡ Some (Calls (node_of call.now) next) → IsExactly tuples.now (StandsBehind (checker_in tables.now) (texts_in tables.now) (graphs_in tables.now) (objects_in tables.now) edge.now) → IsExactly list.items (LeadsTo (checker_in tables.now) (texts_in tables.now) (graphs_in tables.now) (objects_in tables.now) edge.now)) }
+    ensures { IfOk result (λ list. AreKnown tables.now → IsFrame tables.now edge.now.context.function frame.now → option_map (λ b. b.ending) (slice_get (graph_in frame.now.table.now.graph.now).blocks edge.now.block) ≡ Some (Calls (node_of call.now) next) → IsExactly tuples.now (StandsBehind (checker_in tables.now) (texts_in tables.now) (graphs_in tables.now) (objects_in tables.now) edge.now) → IsExactly list.items (LeadsTo (checker_in tables.now) (texts_in tables.now) (graphs_in tables.now) (objects_in tables.now) edge.now)) }
 {
     let Some(callee) = callee_of(tables, frame.table, edge.block) else {
         return onward(alloc, edge, &[next], tuples);
@@ -51,7 +51,7 @@ fn behind_end<'a>(
     tuples: &[Tuple],
     end: &End<'a>,
 ) -> Result<Vec<Edge>, AllocError>
-    ensures { IfOk result (λ list. AreKnown tables.now → IsFrame tables.now edge.now.context.function frame.now → option_map (λ b. b.ending) (slice_get (graph_in frame.now.table.now.graph).blocks edge.now.block) ≡ Some (ending_of end.now) → IsExactly tuples.now (StandsBehind (checker_in tables.now) (texts_in tables.now) (graphs_in tables.now) (objects_in tables.now) edge.now) → IsExactly list.items (LeadsTo (checker_in tables.now) (texts_in tables.now) (graphs_in tables.now) (objects_in tables.now) edge.now)) }
+    ensures { IfOk result (λ list. AreKnown tables.now → IsFrame tables.now edge.now.context.function frame.now → option_map (λ b. b.ending) (slice_get (graph_in frame.now.table.now.graph.now).blocks edge.now.block) ≡ Some (ending_of end.now) → IsExactly tuples.now (StandsBehind (checker_in tables.now) (texts_in tables.now) (graphs_in tables.now) (objects_in tables.now) edge.now) → IsExactly list.items (LeadsTo (checker_in tables.now) (texts_in tables.now) (graphs_in tables.now) (objects_in tables.now) edge.now)) }
 {
     match end {
         End::Goto(targets) => onward(alloc, edge, targets.as_slice(), tuples),
@@ -70,7 +70,7 @@ fn next_in<'a>(
 ) -> Result<Vec<Edge>, AllocError>
     ensures { IfOk result (λ list. AreKnown tables.now → IsFrame tables.now edge.now.context.function frame.now → IsExactly tuples.now (StandsBehind (checker_in tables.now) (texts_in tables.now) (graphs_in tables.now) (objects_in tables.now) edge.now) → IsExactly list.items (LeadsTo (checker_in tables.now) (texts_in tables.now) (graphs_in tables.now) (objects_in tables.now) edge.now)) }
 {
-    match end_at(&frame.table.graph, edge.block) {
+    match end_at(frame.table.graph, edge.block) {
         Some(end) => behind_end(alloc, tables, frame, edge, tuples, end),
         None => Ok(Vec::new(alloc)),
     }

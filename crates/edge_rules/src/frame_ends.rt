@@ -45,7 +45,7 @@ pub fn end_of(tables: &Tables, edge: &Edge) -> Option<Context>
     ensures { AreKnown tables.now → (k : Called) → (result ≡ Some k) ↔ IsEndOf (checker_in tables.now) (texts_in tables.now) (graphs_in tables.now) (objects_in tables.now) edge.now k }
 {
     let frame = tables.frame(edge.context.function)?;
-    if ends_call(&frame.table.graph, edge) {
+    if ends_call(frame.table.graph, edge) {
         Some(copy_context(&edge.context))
     } else {
         None

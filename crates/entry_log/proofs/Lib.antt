@@ -3,3 +3,4 @@ pub mod Placing
 pub mod Reading
 pub mod Inserting
 pub mod Near
+pub mod Marking

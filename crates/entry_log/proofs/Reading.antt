@@ -89,17 +89,18 @@ module _ {K : Type 0} (eq : K → K → Bool) (laws : IsEquivalence eq) (keys : 
       ∙ ap (λ t. (t && nat_eq block p.block) || list_any (same_entry eq (k, block)) (entries_at keys ps)) (same_row row p.row k x.0 e x.1)
       ∙ ap (λ t. is_at row block p || t) (has_where_placed row k block e ps h.1)
 
+-- a list of which nothing passes
+pub unlike : {K : Type 0} (test : K → Bool) (ks : List K) (i : ℕ) (x : K) → list_any test ks ≡ false → slice_get ks i ≡ Some x → test x ≡ false
+unlike {K = K} test [] i x n e = absurd (omega (arith, slice_get_within {A = K} [] i x e))
+unlike test (y ∷ ks) zero x n e = ap test (sym (same_Some y x e)) ∙ (or_parts (test y) (list_any test ks) n).0
+unlike test (y ∷ ks) (suc i) x n e = unlike test ks i x (or_parts (test y) (list_any test ks) n).1 e
+
 -- an entry isn't there where its key isn't
 pub not_without_key : {K : Type 0} (eq : K → K → Bool) (keys : List K) (k : K) (block : ℕ) → list_any (eq k) keys ≡ false → (ps : List Place) → Within keys ps
     → list_any (same_entry eq (k, block)) (entries_at keys ps) ≡ false
-not_without_key {K = K} eq keys k block none [] h = refl
-not_without_key {K = K} eq keys k block none (p ∷ ps) h =
+not_without_key eq keys k block none [] h = refl
+not_without_key eq keys k block none (p ∷ ps) h =
     let x = there keys p.row h.0 in
     ap (λ o. list_any (same_entry eq (k, block)) (before o p.block (entries_at keys ps))) x.1
-    ∙ ap (λ t. (t && nat_eq block p.block) || list_any (same_entry eq (k, block)) (entries_at keys ps)) (unlike keys p.row x.0 none x.1)
+    ∙ ap (λ t. (t && nat_eq block p.block) || list_any (same_entry eq (k, block)) (entries_at keys ps)) (unlike (eq k) keys p.row x.0 none x.1)
     ∙ not_without_key eq keys k block none ps h.1
-  where
-    unlike : (ks : List K) (i : ℕ) (x : K) → list_any (eq k) ks ≡ false → slice_get ks i ≡ Some x → eq k x ≡ false
-    unlike [] i x n e = absurd (omega (arith, slice_get_within {A = K} [] i x e))
-    unlike (y ∷ ks) zero x n e = ap (eq k) (sym (same_Some y x e)) ∙ (or_parts (eq k y) (list_any (eq k) ks) n).0
-    unlike (y ∷ ks) (suc i) x n e = unlike ks i x (or_parts (eq k y) (list_any (eq k) ks) n).1 e

@@ -1,4 +1,5 @@
 mod OneByOne
+mod Gathered
 mod OfBlocks
 mod OfFunctions
 pub mod EngineTables

@@ -5,6 +5,15 @@ use Rattle.std.proofs.lemmas.Option.{get_or_from_slice_get, slice_get_within, sl
 use Rattle.std.specs.List.{AllZip}
 use Rattle.std.specs.Option.{option_map}
 
+-- one more of a list
+module _ {A : Type 0} (xs : List A) (n : ℕ) (x : A) (at : slice_get xs n ≡ Some x) where
+  take-next : take (n + 1) xs ≡ take n xs ++ (x ∷ [])
+  take-next = take_more xs n x (slice_get_within xs n x at) ∙ ap (λ (z : A). take n xs ++ (z ∷ [])) (get_or_from_slice_get xs n x x at)
+
+  -- what was taken, with one more behind it
+  pub taken-next : (old new : List A) → new ≡ old ++ (x ∷ []) → old ≡ take n xs → new ≡ take (n + 1) xs
+  taken-next old new e h = e ∙ ap (λ (l : List A). l ++ (x ∷ [])) h ∙ sym take-next
+
 module _ {A B : Type 0} (R : A → B → Type 0) where
   zip-push : (xs : List A) (ys : List B) (x : A) (y : B) → AllZip R xs ys → R x y → AllZip R (xs ++ (x ∷ [])) (ys ++ (y ∷ []))
   zip-push [] [] x y h r = (r, tt)
@@ -15,8 +24,7 @@ module _ {A B : Type 0} (R : A → B → Type 0) where
   -- one more of each
   pub zip-next : (xs : List A) (old new : List B) (n : ℕ) (x : A) (y : B) → slice_get xs n ≡ Some x → new ≡ old ++ (y ∷ []) → AllZip R (take n xs) old → R x y → AllZip R (take (n + 1) xs) new
   zip-next xs old new n x y at e h r =
-      let more : take (n + 1) xs ≡ take n xs ++ (x ∷ []) = take_more xs n x (slice_get_within xs n x at) ∙ ap (λ (z : A). take n xs ++ (z ∷ [])) (get_or_from_slice_get xs n x x at) in
-      subst (λ (l : List A). AllZip R l new) (sym more) (subst (AllZip R (take n xs ++ (x ∷ []))) (sym e) (zip-push (take n xs) old x y h r))
+      subst (λ (l : List A). AllZip R l new) (sym (take-next xs n x at)) (subst (AllZip R (take n xs ++ (x ∷ []))) (sym e) (zip-push (take n xs) old x y h r))
 
   -- all of them
   pub zip-all : (xs : List A) (ys : List B) (n : ℕ) → length xs ≤ n → AllZip R (take n xs) ys → AllZip R xs ys

@@ -28,11 +28,11 @@ AreBlockTables m depth ts d bs tables = AllZip (IsBlockTable m depth ts d) bs ta
 
 -- THE TABLE OF A FUNCTION
 pub record IsFunctionTable (m : Machine) (depth : ℕ) (ts : List Text) (d : Defined) (t : FunctionTable) : Type 0 where
-  pub graph : IsFlowGraphIn ts d (graph_in t.graph)
-  pub blocks : AreBlockTables m depth ts d (graph_in t.graph).blocks t.blocks.items
+  pub graph : IsFlowGraphIn ts d (graph_in t.graph.now)
+  pub blocks : AreBlockTables m depth ts d (graph_in t.graph.now).blocks t.blocks.items
 
 -- THE TABLES of a program: of each function one, in their order
 pub record AreTables (m : Machine) (depth : ℕ) (ts : List Text) (tables : List FunctionTable) : Type 0 where
-  pub graphs : AreGraphs ts (map (λ t. graph_in t.graph) tables)
+  pub graphs : AreGraphs ts (map (λ t. graph_in t.graph.now) tables)
   pub blocks : (n : ℕ) (d : Defined) (t : FunctionTable) → slice_get (functions_in ts) n ≡ Some d → slice_get tables n ≡ Some t
-      → AreBlockTables m depth ts d (graph_in t.graph).blocks t.blocks.items
+      → AreBlockTables m depth ts d (graph_in t.graph.now).blocks t.blocks.items

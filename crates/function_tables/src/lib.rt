@@ -2,6 +2,9 @@
 //! followed objects and roots, all by number.
 #![tactic(auto)]
 
+// the graphs, which no checker changes
+mod graphs;
+
 // tables of blocks and functions
 mod blocks;
 mod events;
@@ -12,5 +15,6 @@ mod engine_tables;
 mod tables;
 
 pub use engine_tables::{Frame, Tables, callee_at, end_at, item};
+pub use graphs::build_graphs;
 pub use table::{BlockTable, FunctionTable};
 pub use tables::build_tables;

@@ -15,7 +15,7 @@ pub struct BlockTable<'u, 'a> {
 /// What is asked of a function.
 #[derive(Drop)]
 pub struct FunctionTable<'u, 'a> {
-    pub graph: Graph<'a>,
+    pub graph: &'u Graph<'a>,
     /// One for each block of the graph, by the block's number.
     pub blocks: Vec<BlockTable<'u, 'a>>,
 }

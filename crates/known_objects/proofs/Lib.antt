@@ -7,3 +7,5 @@ pub mod MaskedLists
 pub mod KnownLists
 pub mod FollowedMask
 pub mod EmptySets
+mod SetSteps
+pub mod RelevantSets

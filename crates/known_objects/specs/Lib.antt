@@ -4,3 +4,4 @@ pub mod ByFunction
 pub mod Followed
 pub mod FollowedSets
 pub mod Theorems
+pub mod RelevantSets

@@ -1,12 +1,14 @@
 -- What is printed by the format that words name.
-use Rattle.std.proofs.Common.{◌≡◌, ◌≢◌, ◌⊎◌, inl, inr, ℕ, zero, suc, List, [], Option, None, Some, filter, slice_get, ap, ◌∙◌, subst, codes}
+use Rattle.std.proofs.Common.{◌≡◌, ◌≢◌, ◌⊎◌, inl, inr, ℕ, zero, suc, Bool, List, [], Option, None, Some, filter, slice_get, ap, ◌∙◌, subst, codes}
 use Rattle.std.proofs.lemmas.List.Quantifiers.{position-Some}
 use Rattle.std.proofs.lemmas.Slice.Eq.{bytes_eq-Decides}
 use Rattle.std.specs.List.{position}
 use Rattle.std.specs.Str.{bytes_eq}
 use Rattle.command.proofs.Promised.{left_alone, run_of}
 use Rattle.mx_io.specs.Bytes.{Bytes, Readable, Told, Words}
+use Rattle.command.specs.CheckerReports.Checkers.{checkers_in}
 use Rattle.command.specs.Commands.{IsPlace}
+use Rattle.command.specs.Counted.{IsLineFor}
 use Rattle.command.specs.Handed.{AreAccepted, may_hold}
 use Rattle.command.specs.Rendered.{IsText}
 use Rattle.command.specs.Run.{Answers, Promise, Run}
@@ -28,6 +30,11 @@ text-in : (format : Option Bytes) (place : Option ℕ) (reports : List Report) (
 text-in None place reports text p h = subst (λ (o : Option ℕ). IsText o (styles reports) reports text) p h
 text-in (Some name) place reports text p h = rendered-in name p.0 reports text p.2 (subst (λ (o : Option ℕ). IsText o (styles reports) reports text) p.1 h)
 
+-- files of which these are the reports, and the line beside them
+abbrev AreFilesWith : Told → List Report → Bytes → Words → ℕ → Bool → Type 0
+AreFilesWith told reports line files depth stats =
+    (a : AreAccepted (may_hold told) (filter is_checker_word files) (filter is_source_word files) depth reports) × IsLineFor stats (checkers_in a.judged.machines depth a.judged.names) a.judged.texts line
+
 module _ (run : Run) (request : Request) (is : IsRequest run.words request) where
   printed-as-asked : (IsAsked : List Report → Type 0) → Answers (styled run) IsAsked → PrintsAsAsked (styled run) request
   printed-as-asked IsAsked (inr m) = absurd (no_request run.words m.count m.is_generation request is)
@@ -35,17 +42,23 @@ module _ (run : Run) (request : Request) (is : IsRequest run.words request) wher
       let same : p.given.request ≡ request = one_request run.words p.given.request request p.given.is_request is in
       let files : p.command.files ≡ request.files = p.given.files ∙ ap (λ (r : Request). r.files) same in
       let depth : p.command.depth ≡ request.depth = p.given.depth ∙ ap (λ (r : Request). r.depth) same in
+      let stats : p.command.stats ≡ request.stats = p.given.stats ∙ ap (λ (r : Request). r.stats) same in
       let format : p.given.request.format ≡ request.format = ap (λ (r : Request). r.format) same in
       let reports = p.cause.reports in
+      let with-line : AreFilesWith run.told reports p.line request.files request.depth request.stats =
+      subst (λ (s : Bool). AreFilesWith run.told reports p.line request.files request.depth s) stats
+      (subst (λ (d : ℕ). AreFilesWith run.told reports p.line request.files d p.command.stats) depth
+      (subst (λ (fs : Words). AreFilesWith run.told reports p.line fs p.command.depth p.command.stats) files (p.cause.accepted, p.cause.line_is))) in
       record {
         reports = reports;
-        accepted = subst (λ (d : ℕ). AreAccepted (may_hold run.told) (filter is_checker_word request.files) (filter is_source_word request.files) d reports) depth
-            (subst (λ (fs : Words). AreAccepted (may_hold run.told) (filter is_checker_word fs) (filter is_source_word fs) p.command.depth reports) files p.cause.accepted);
+        accepted = with-line.0;
         status = p.cause.status_is;
         text = p.text;
         text_is = subst (λ (f : Option Bytes). IsTextIn f reports p.text) format (text-in p.given.request.format p.command.place reports p.text p.given.place p.cause.text_is);
         printed = p.writes.text_taken;
-        nothing = p.writes.line_taken;
+        line = p.line;
+        line_is = with-line.1;
+        noted = p.writes.line_taken;
       }
 
   -- of a run that ends in one of the two

@@ -2,6 +2,8 @@
 -- in the style that the words name.
 use Rattle.std.specs.Prelude.{◌≡◌, ◌⊎◌, List, [], ◌∷◌, filter, map, Option, None, Some, codes}
 use Rattle.mx_io.specs.Bytes.{Bytes}
+use Rattle.command.specs.CheckerReports.Checkers.{checkers_in}
+use Rattle.command.specs.Counted.{IsLineFor}
 use Rattle.command.specs.Handed.{AreAccepted, may_hold}
 use Rattle.command.specs.Run.{Promise, ReporterState, Run, reporter_state}
 use Rattle.command.specs.Statuses.{status_of}
@@ -26,7 +28,8 @@ abbrev pub IsTextIn : Option Bytes → List Report → Bytes → Type 0
 IsTextIn None reports text = text ≡ text_of reports
 IsTextIn (Some name) reports text = ((name ≡ codes "table") × (text ≡ report_table reports)) ⊎ ((name ≡ codes "json") × (text ≡ json_of reports))
 
--- the reports of the files of a request were printed in its format, and nothing else, and the status says whether there are any
+-- the reports of the files of a request were printed in its format, and nothing else but a line of statistics, where it asks for them; and the status
+-- says whether there are any reports
 pub record PrintsAsAsked (run : Run) (request : Request) : Type 0 where
   pub reports : List Report
   pub accepted : AreAccepted (may_hold run.told) (filter is_checker_word request.files) (filter is_source_word request.files) request.depth reports
@@ -34,7 +37,9 @@ pub record PrintsAsAsked (run : Run) (request : Request) : Type 0 where
   pub text : Bytes
   pub text_is : IsTextIn request.format reports text
   pub printed : Took run.out text
-  pub nothing : Took run.errs []
+  pub line : Bytes
+  pub line_is : IsLineFor request.stats (checkers_in accepted.judged.machines request.depth accepted.judged.names) accepted.judged.texts line
+  pub noted : Took run.errs line
 
 pub record PromiseInStyles {Files : Type 0} (files_before files_after : Files) (Hands : Bytes → Bytes → Type 0) (run : Run) : Type 0 where
   -- What every run promises.

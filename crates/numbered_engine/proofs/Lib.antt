@@ -2,3 +2,4 @@ pub mod Results
 pub mod Stable
 pub mod Given
 pub mod Steps
+pub mod Mapped

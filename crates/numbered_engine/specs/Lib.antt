@@ -6,3 +6,4 @@ pub mod Rules
 pub mod Showing
 pub mod Ways
 pub mod Counted
+pub mod EdgeLists

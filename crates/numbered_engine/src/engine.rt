@@ -11,13 +11,13 @@ ghost use Rattle.numbered_engine.specs.Tables.{own_in, rows_in};
 ghost use Rattle.numbered_engine.specs.declared.edges.NumberedEdge.{NumberedEdge as Edge};
 ghost use Rattle.row_flows.specs.declared.rows.EventRow.{EventRow};
 
+use crate::edge_log::EdgeLog;
 use crate::edges::{NumberedContext, NumberedEdge, NumberedWaiter};
 use crate::following::led;
 use crate::program::{Block, Call, Ending, FunctionRows, ProgramRows};
 use crate::waiting::{ended, waiting, woken};
 use block_summary::{BlockSummary, Entered};
-use indexmap::IndexSet;
-use least_set::{CachingRules, Entered as Given, least_caching};
+use least_set::{CachingRules, Entered as Given, least_in};
 use mx_base::Steps;
 use row_flows::NumberedTuple;
 use std::alloc::{AllocError, Global};
@@ -276,10 +276,7 @@ impl<L> CachingRules for NumberedEngine<'_, L> {
 
 /// The edges of a program: what follows by the rules of tabulation, each once, and nothing else. The block of each was entered once: the steps of
 /// the engine rise by their number.
-pub fn tabulate<L>(
-    alloc: Global,
-    engine: &mut NumberedEngine<L>,
-) -> Result<IndexSet<NumberedEdge>, AllocError>
+pub fn tabulate<L>(alloc: Global, engine: &mut NumberedEngine<L>) -> Result<EdgeLog, AllocError>
     ensures same { engine.new.program.now ≡ engine.old.program.now }
     ensures closed { IfOk result (λ log. (e : Edge) → FollowsFrom engine.old.program.now log.keys e → Contains log.keys e) }
     ensures only { IfOk result (λ log. (e : Edge) → Contains log.keys e → IsDerived engine.old.program.now e) }
@@ -287,5 +284,5 @@ pub fn tabulate<L>(
     ensures steps { IfOk result (λ log. engine.new.steps.count ≡ min (engine.old.steps.count + length log.keys) (2 ^ 64 - 1)) }
 {
     let _before = engine.steps.count();
-    least_caching(alloc, engine)
+    least_in(alloc, engine, EdgeLog::new(alloc))
 }

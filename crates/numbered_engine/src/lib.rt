@@ -1,7 +1,8 @@
 //! Tabulation over numbers: the path edges of a program whose functions are tables of rows, and the rules with an action that are taken on them.
 #![tactic(auto)]
 
-// the tables of a program
+// the tables of a program, and the log of its edges
+mod edge_log;
 mod edges;
 mod program;
 
@@ -13,6 +14,7 @@ mod waiting;
 mod engine;
 mod showing;
 
+pub use edge_log::EdgeLog;
 pub use edges::{NumberedContext, NumberedEdge};
 pub use engine::{NumberedEngine, tabulate};
 pub use program::{Block, Call, Ending, FunctionRows, ProgramRows};

@@ -49,7 +49,7 @@ module _ (states : List State) (s : FunctionSource) (f : Function) (i : IsSource
   t = s.tables.now
 
   abbrev graph : Graph
-  graph = graph_in s.table.now.graph
+  graph = graph_in s.table.now.graph.now
 
   abbrev own : List Object
   own = s.own.now.numbering.objects.now.keys

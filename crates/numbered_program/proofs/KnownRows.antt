@@ -52,7 +52,7 @@ module _ (states : List State) (s : FunctionSource) (f : Function) (i : IsSource
   t = s.tables.now
 
   abbrev graph : Graph
-  graph = graph_in s.table.now.graph
+  graph = graph_in s.table.now.graph.now
 
   -- whether it is a root
   root_is : (roots : List ℕ) (b : Bool) → AreRootsOf t roots → b ≡ list_any (nat_eq s.function) roots → (b ≡ true) ↔ IsRoot (Leads (checker_in t).machine (texts_in t)) s.function

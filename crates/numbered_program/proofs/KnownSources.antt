@@ -38,7 +38,7 @@ module _ (states : List State) (s : FunctionSource) (f : Function) (i : IsSource
   t = s.tables.now
 
   abbrev graph : Graph
-  graph = graph_in s.table.now.graph
+  graph = graph_in s.table.now.graph.now
 
   abbrev keys : List Object
   keys = s.own.now.numbering.objects.now.keys
@@ -60,7 +60,7 @@ module _ (states : List State) (s : FunctionSource) (f : Function) (i : IsSource
   own_function = same_Some f (function_of here.defined) (sym i.named ∙ named t s.function here.defined here.is)
 
   pub own_graph : slice_get (graphs_in t) s.function ≡ Some graph
-  own_graph = slice_get-map (λ (x : FunctionTable). graph_in x.graph) t.functions.now s.function ∙ ap (option_map (λ (x : FunctionTable). graph_in x.graph)) i.table
+  own_graph = slice_get-map (λ (x : FunctionTable). graph_in x.graph.now) t.functions.now s.function ∙ ap (option_map (λ (x : FunctionTable). graph_in x.graph.now)) i.table
 
   -- its first block is one of its blocks
   pub first_within : graph.entry < length graph.blocks

@@ -19,17 +19,17 @@ use Rattle.path_model.specs.CheckerPrograms.Texts.{functions_in}
 module _ (states : List State) (s : FunctionSource) (f : Function) where
   -- the end of a block that ends so in the function's graph
   abbrev pub IsEndingIn : graphs.Ending → Ending → Type 0
-  IsEndingIn end e = IsEndingOf (checker_in s.tables.now) (texts_in s.tables.now) (graphs_in s.tables.now) (objects_in s.tables.now) states s.function (graph_in s.table.now.graph).entry f end e
+  IsEndingIn end e = IsEndingOf (checker_in s.tables.now) (texts_in s.tables.now) (graphs_in s.tables.now) (objects_in s.tables.now) states s.function (graph_in s.table.now.graph.now).entry f end e
 
   -- the block of the graph with this number
   abbrev pub IsBlockAt : ℕ → Block → Type 0
-  IsBlockAt b r = (d : graphs.Block) × (slice_get (graph_in s.table.now.graph).blocks b ≡ Some d)
-      × IsBlockOf (checker_in s.tables.now) (texts_in s.tables.now) (graphs_in s.tables.now) (objects_in s.tables.now) states s.function f (graph_in s.table.now.graph) d r
+  IsBlockAt b r = (d : graphs.Block) × (slice_get (graph_in s.table.now.graph.now).blocks b ≡ Some d)
+      × IsBlockOf (checker_in s.tables.now) (texts_in s.tables.now) (graphs_in s.tables.now) (objects_in s.tables.now) states s.function f (graph_in s.table.now.graph.now) d r
 
   -- ALL BLOCKS of the graph, the first in front
   pub record AreBlocksOf (blocks : List Block) : Type 0 where
-    pub made : (b : ℕ) (r : Block) → slice_get blocks b ≡ Some r → IsBlockAt (swapped (graph_in s.table.now.graph).entry b) r
-    pub missing : (b : ℕ) → slice_get blocks b ≡ None → slice_get (graph_in s.table.now.graph).blocks (swapped (graph_in s.table.now.graph).entry b) ≡ None
+    pub made : (b : ℕ) (r : Block) → slice_get blocks b ≡ Some r → IsBlockAt (swapped (graph_in s.table.now.graph.now).entry b) r
+    pub missing : (b : ℕ) → slice_get blocks b ≡ None → slice_get (graph_in s.table.now.graph.now).blocks (swapped (graph_in s.table.now.graph.now).entry b) ≡ None
 
 -- the rows of the function with a number, if there is one
 abbrev pub AreRowsAt : Tables → List State → ℕ → FunctionRows → Type 0

@@ -43,7 +43,7 @@ pub record IsSourceOf (states : List State) (s : FunctionSource) (f : Function) 
 
 -- the block of its graph with this number ends so
 abbrev pub EndsIn : FunctionSource → ℕ → Ending → Type 0
-EndsIn s b end = option_map (λ d. d.ending) (slice_get (graph_in s.table.now.graph).blocks b) ≡ Some end
+EndsIn s b end = option_map (λ d. d.ending) (slice_get (graph_in s.table.now.graph.now).blocks b) ≡ Some end
 
 -- the function into which a call in it is followed
 abbrev pub followed_from : FunctionSource → Function → Node → Option Function

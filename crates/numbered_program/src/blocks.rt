@@ -54,7 +54,7 @@ fn block_with<'a>(
 ) -> Result<Block, AllocError>
     ensures { IfOk result (λ r. (states : List State) (f : Function) → IsSourceOf states source.now f → slice_get source.now.table.now.blocks.items block ≡ Some table.now → IsBlockAt states source.now f block r) }
 {
-    match end_at(&source.table.graph, block) {
+    match end_at(source.table.graph, block) {
         Some(end) => made_block(alloc, source, block, table, end),
         None => empty(alloc),
     }
@@ -66,7 +66,7 @@ fn block_at<'a>(
     source: &FunctionSource<'_, '_, '_, 'a>,
     block: u32,
 ) -> Result<Block, AllocError>
-    ensures { IfOk result (λ r. (states : List State) (f : Function) → IsSourceOf states source.now f → block < length (graph_in source.now.table.now.graph).blocks → IsBlockAt states source.now f block r) }
+    ensures { IfOk result (λ r. (states : List State) (f : Function) → IsSourceOf states source.now f → block < length (graph_in source.now.table.now.graph.now).blocks → IsBlockAt states source.now f block r) }
 {
     match item(source.table.blocks.as_slice(), block) {
         Some(table) => block_with(alloc, source, block, table),
@@ -81,7 +81,7 @@ pub(crate) fn all_blocks<'a>(
 ) -> Result<Vec<Block>, AllocError>
     ensures { IfOk result (λ blocks. (states : List State) (f : Function) → IsSourceOf states source.now f → AreBlocksOf states source.now f blocks.items) }
 {
-    let graph = &source.table.graph;
+    let graph = source.table.graph;
     let mut blocks = Vec::new(alloc);
     for number in 0..graph.count() {
         let block = block_at(alloc, source, swapped(graph.entry(), number))?;

@@ -1,6 +1,6 @@
 //! A few entries of a few keys.
 
-use entry_log::EntryLog;
+use entry_log::{EntryLog, EntrySet};
 use indexmap::IndexSet;
 use least_set::Log;
 use std::alloc::AllocError;
@@ -22,6 +22,18 @@ fn keeps_each_entry_once(rt: HostRuntime) -> Result<(), Fail> {
     assert_eq!(rt; log.get(2), Some((&7, 200)));
     assert_eq!(rt; log.get(3), Some((&9, 64)));
     assert_eq!(rt; log.get(4), None);
+    Ok(())
+}
+
+#[test]
+fn has_what_was_inserted(rt: HostRuntime) -> Result<(), Fail> {
+    let mut set = EntrySet::new(rt.alloc());
+    assert!(rt; set.insert(7u32, 3)?);
+    assert!(rt; set.insert(9, 200)?);
+    assert!(rt; !set.insert(7, 3)?);
+    assert!(rt; set.contains(&9, 200));
+    assert!(rt; !set.contains(&7, 200));
+    assert!(rt; !set.contains(&8, 3));
     Ok(())
 }
 

@@ -13,7 +13,9 @@ mod trees;
 #[cfg(test)]
 mod system;
 
-// least sets, logs, and searches
+// least sets, logs, summaries of blocks, and searches
+#[cfg(test)]
+mod block_summaries;
 #[cfg(test)]
 mod entry_logs;
 #[cfg(test)]

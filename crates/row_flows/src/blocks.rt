@@ -80,6 +80,16 @@ fn distinct(alloc: Global, numbers: &[u32]) -> Result<IndexSet<u32>, AllocError>
     Ok(set)
 }
 
+// Whether a number is among these. Where there are few, as of most blocks, they are looked through.
+fn is_among(numbers: &IndexSet<u32>, number: u32) -> bool
+    ensures { result ≡ list_any (nat_eq number) numbers.now.keys }
+{
+    if numbers.len() <= 8 {
+        return numbers.as_slice().iter().any(|other| number == *other);
+    }
+    numbers.contains(&number)
+}
+
 impl BlockRows {
     /// A block with events of these rows.
     pub fn new(alloc: Global, rows: Vec<EventRow>) -> Result<BlockRows, AllocError>
@@ -99,6 +109,6 @@ impl BlockRows {
     pub fn leaves_calm(&self, object: u32) -> bool
         ensures { IsTrue result → all_calm object self.now.rows.items ≡ true }
     {
-        !self.stirs && !self.concerned.contains(&object)
+        !self.stirs && !is_among(&self.concerned, object)
     }
 }

@@ -7,6 +7,7 @@ ghost use Rattle.ordered_reports.specs.Reporting.{checker_of};
 
 use crate::checked_programs::reports_of;
 use call_graph::Program;
+use function_tables::build_graphs;
 use metal_tree::Machine;
 use mx_base::Names;
 use report_model::{Report, sorted};
@@ -26,6 +27,15 @@ pub fn analyse<'u, 'a>(
     requires { depth ≤ 8 }
     ensures { IfOk result (λ list. ∥ AreReports (checker_of number machine.now names.now depth ∷ []) (texts_of program.now.units.items) list.items ∥₁) }
 {
-    let found = reports_of(alloc, program, machine, number, names, depth)?;
+    let graphs = build_graphs(alloc, program)?;
+    let found = reports_of(
+        alloc,
+        program,
+        graphs.as_slice(),
+        machine,
+        number,
+        names,
+        depth,
+    )?;
     sorted(alloc, found)
 }

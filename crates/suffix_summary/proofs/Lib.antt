@@ -15,3 +15,6 @@ pub mod KnownSets
 pub mod StandingTables
 pub mod EdgeReports
 pub mod MetStates
+-- the log over all relevant objects
+mod Readings
+mod KnownLogs

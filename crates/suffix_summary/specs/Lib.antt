@@ -1,3 +1,5 @@
 pub mod StandingRows
 pub mod EdgeReports
 pub mod MetStates
+pub mod Entries
+pub mod Reading

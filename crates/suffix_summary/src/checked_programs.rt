@@ -1,6 +1,8 @@
 //! A program under a checker, from its trees to its reports.
 
-ghost use Rattle.std.specs.Prelude.{◌≤◌, ◌↔◌, Contains, IfOk};
+ghost use Rattle.std.specs.Prelude.{◌≤◌, ◌↔◌, Contains, map, IfOk};
+ghost use Rattle.flow_graph.specs.Seen.{graph_in};
+ghost use Rattle.path_model.specs.CheckerGraphs.Graphs.{AreGraphs};
 ghost use Rattle.path_model.specs.CheckerModel.Checkers.{model};
 ghost use Rattle.path_model.specs.CheckerPrograms.Paths.{program as paths};
 ghost use Rattle.typed_unit.specs.Texts.{texts_of};
@@ -12,6 +14,7 @@ use crate::followed_sets::followed_sets;
 use crate::known_tables::KnownTables;
 use crate::tabulated_reports::reported;
 use call_graph::Program;
+use flow_graph::Graph;
 use function_tables::{Tables, build_tables};
 use known_objects::empty_sets;
 use metal_tree::Machine;
@@ -23,19 +26,21 @@ use std::marker::PhantomData;
 
 /// The reports of a checker over a program: exactly those that some path of the program takes, in no order, and one may be there more than
 /// once. The number is the checker's place among those of the command, from 0 on, the names have the texts of all names, and objects have at
-/// most `depth` selectors. The only fault is want of memory.
+/// most `depth` selectors. The graphs are those of the program's functions. The only fault is want of memory.
 pub fn reports_of<'u, 'a>(
     alloc: Global,
     program: &Program<'u, 'a>,
+    graphs: &'u [Graph<'a>],
     machine: &Machine<'u>,
     number: u16,
     names: &Names,
     depth: u8,
 ) -> Result<Vec<Report>, AllocError>
-    requires { depth ≤ 8 }
+    requires deep { depth ≤ 8 }
+    requires graphs { ∥ AreGraphs (texts_of program.now.units.items) (map (λ g. graph_in g) graphs.now) ∥₁ }
     ensures { IfOk result (λ list. ∥ ((r : Said) → Contains list.items r ↔ Reported (model (checker_of number machine.now names.now depth)) (paths (checker_of number machine.now names.now depth) (texts_of program.now.units.items)) r) ∥₁) }
 {
-    let functions = build_tables(alloc, program, machine, depth)?;
+    let functions = build_tables(alloc, program, graphs, machine, depth)?;
     let roots = roots(alloc, program, machine)?;
     let none = empty_sets(alloc, program.count())?;
     let bare = Tables {

@@ -29,7 +29,7 @@ pub(crate) fn followed_sets(
     let rows = standing_rows(alloc, tables)?;
     let mut engine: NumberedEngine<BlockEntries> = NumberedEngine::new(alloc, &rows);
     let log = tabulate(alloc, &mut engine)?;
-    let bound = bound_where_met(alloc, tables.functions, &rows, log.as_slice())?;
+    let bound = bound_where_met(alloc, tables.functions, &rows, &log)?;
     known_sets(
         alloc,
         tables.program,

@@ -1,5 +1,5 @@
-//! The exact analysis of a program, over numbers: the rows of its tables, the path edges to which these are tabulated, what they show, and the
-//! list of reports of one checker.
+//! The exact analysis of a program, over numbers: the rows of its tables, the path edges to which these are tabulated, what they show, and what is
+//! found under one checker: its list of reports, and its log over all objects that are relevant.
 #![tactic(auto)]
 
 // the rows of a program, and the reports of its edges
@@ -13,7 +13,12 @@ mod followed_sets;
 mod met_states;
 
 // reports of a checker
-mod analysis;
 mod checked_programs;
+mod checker_reports;
 
-pub use analysis::analyse;
+// its reports and its log
+mod analysis;
+
+pub use analysis::{Analysis, analyse};
+pub use checker_reports::reports;
+pub use function_tables::build_graphs;

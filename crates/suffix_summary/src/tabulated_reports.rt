@@ -28,5 +28,5 @@ pub(crate) fn reported(alloc: Global, known: &KnownTables) -> Result<Vec<Report>
     let rows = standing_rows(alloc, &known.tables)?;
     let mut engine: NumberedEngine<BlockEntries> = NumberedEngine::new(alloc, &rows);
     let log = tabulate(alloc, &mut engine)?;
-    all_shown(alloc, &known.tables, &engine, log.as_slice())
+    all_shown(alloc, &known.tables, &engine, &log)
 }

@@ -29,27 +29,31 @@ def files_of(words):
         if words[at] == "--":
             return words[at + 1:], True
         name, equals, value = words[at].partition("=")
-        if name not in VALUES:
-            return without_value(words[at]), False
-        if not equals:
-            at += 1
-            value = words[at] if at < len(words) else ""
+        if name not in VALUES and words[at] != "--stats":
+            return no_option(words[at]), False
         if name in seen:
             return f"{name} stands twice", False
         seen.add(name)
-        pattern, wanted = VALUES[name]
-        if not value:
-            return f"{name}: a value is wanted behind it, {wanted}", False
-        if not re.fullmatch(pattern, value):
-            return f"{name} {value}: the value is {wanted}", False
+        if name in VALUES and not equals:
+            at += 1
+            value = words[at] if at < len(words) else ""
+        wrong = wrong_value(name, value)
+        if wrong:
+            return wrong, False
         at += 1
     return words[at:], False
 
 
-def without_value(word):
-    """What is said of an option that isn't one of those with a value."""
+def wrong_value(name, value):
+    """What is wrong with the value of an option, or nothing."""
+    pattern, wanted = VALUES.get(name, ("", ""))
+    if not value and wanted:
+        return f"{name}: a value is wanted behind it, {wanted}"
+    return "" if re.fullmatch(pattern, value) else f"{name} {value}: the value is {wanted}"
+
+
+def no_option(word):
+    """What is said of a word that is no option."""
     if word.partition("=")[0] == "--generate":
         return "--generate stands alone, with a number from 1 to 9999 in a word of its own and no zero in front"
-    if word == "--stats":
-        return "--stats: there are no statistics yet"
-    return f"{word}: there is no such option; there are --depth N and --format NAME (docs/COMMAND.md)"
+    return f"{word}: there is no such option; there are --depth N, --format NAME and --stats (docs/COMMAND.md)"

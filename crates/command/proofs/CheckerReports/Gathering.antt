@@ -41,7 +41,7 @@ module _ (ts : List Text) (depth : ℕ) (names : List (List ℕ)) where
   abbrev checker_at : ℕ → Machine → Checker
   checker_at n m = record { number = n; machine = m; depth = depth; names = names }
 
-  numbered-push : (n : ℕ) (ms : List Machine) (m : Machine) → numbered_from n (ms ++ m ∷ []) depth names ≡ numbered_from n ms depth names ++ checker_at (n + length ms) m ∷ []
+  pub numbered-push : (n : ℕ) (ms : List Machine) (m : Machine) → numbered_from n (ms ++ m ∷ []) depth names ≡ numbered_from n ms depth names ++ checker_at (n + length ms) m ∷ []
   numbered-push n [] m = let e : n ≡ n + 0 = omega arith in ap (λ k. checker_at k m ∷ []) e
   numbered-push n (x ∷ xs) m =
       let e : suc n + length xs ≡ n + suc (length xs) = omega arith in

@@ -1,5 +1,5 @@
 -- The files of a request that were read and have no fault of their own: they can be linked, or have the fault of linking.
-use Rattle.std.proofs.Common.{◌≡◌, inr, ℕ, suc, ◌+◌, List, [], ◌∷◌, ◌++◌, length, None, refl, ap, arith, length-append}
+use Rattle.std.proofs.Common.{◌≡◌, inr, ℕ, suc, ◌+◌, Bool, List, [], ◌∷◌, ◌++◌, length, Option, None, refl, ap, arith, length-append}
 use Rattle.std.proofs.Math.Logic.{∥∥₁_map}
 use Rattle.path_model.specs.CheckerPrograms.Reported.{AreReports}
 use Rattle.path_model.specs.CheckerPrograms.Texts.{functions_in}
@@ -13,6 +13,7 @@ use Rattle.request_files.specs.InTurn.{AreReadFiles}
 use Rattle.request_files.specs.Meanings.{HaveMachines, HaveTexts}
 use Rattle.command.specs.JudgedFiles.FirstFault.{AnswersUnjudged, AnswersUnlinked}
 use Rattle.command.specs.JudgedFiles.Judged.{AreAccepted, AreAllSound, HaveMeanings}
+use Rattle.command.specs.Ways.Counts.{AreCounted, IsCountFor}
 use Rattle.command.specs.declared.judged_files.unjudged.Unjudged.{Unjudged}
 use Rattle.command.specs.declared.judged_files.unjudged.Unjudged.TheVariants.{NotRead, Faulty, NoMemory}
 
@@ -55,12 +56,18 @@ module _ (Holds : List ℕ → List ℕ → Type 0) (checkers sources names : Li
   meanings = record { checker_contents = read.checker_contents; source_contents = read.source_contents; whole = refl; between = read.between; machines_are = read.machines_are; texts_are = read.texts_are }
 
   -- they can be linked, and these are their reports
-  pub accepted : (depth : ℕ) (reports : List Report) → link_fault (functions_in texts) ≡ None → ∥ AreReports (checkers_in machines depth names) texts reports ∥₁ → AreAccepted Holds checkers sources depth reports
+  accepted : (depth : ℕ) (reports : List Report) → link_fault (functions_in texts) ≡ None → ∥ AreReports (checkers_in machines depth names) texts reports ∥₁ → AreAccepted Holds checkers sources depth reports
   accepted depth reports linked are = record {
     contents = read.checker_contents ++ read.source_contents;
     sound = all-sound;
     judged = record { names = names; machines = machines; texts = texts; meanings = meanings; linked = linked; reports_are = ∥∥₁_map are (errors (checkers_in machines depth names) texts reports) };
   }
+
+  -- and this is the count of what the logs of their checkers have
+  pub counted : (depth : ℕ) (stats : Bool) (reports : List Report) (entries : Option ℕ) → link_fault (functions_in texts) ≡ None → ∥ AreReports (checkers_in machines depth names) texts reports ∥₁
+      → IsCountFor stats (checkers_in machines depth names) texts entries → AreCounted Holds checkers sources depth stats reports entries
+  unfolding accepted
+  counted depth stats reports entries linked are count = record { accepted = accepted depth reports linked are; counted = count }
 
   -- or they can't
   pub unlinked : (old new : List (List ℕ)) (u : Unjudged) → new ≡ old → AnswersUnlinked names texts u → AnswersUnjudged Holds checkers sources old new u

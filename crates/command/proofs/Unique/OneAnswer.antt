@@ -11,7 +11,7 @@ use Rattle.command.proofs.Turns.{all_turns}
 use Rattle.command.specs.CheckerReports.Checkers.{checkers_in}
 use Rattle.command.specs.CheckerReports.Errors.{AreErrors}
 use Rattle.command.specs.JudgedFiles.FirstFault.{IsFirstFault}
-use Rattle.command.specs.JudgedFiles.Judged.{AreJudged, AreAllSound, AreAccepted}
+use Rattle.command.specs.JudgedFiles.Judged.{AreJudged, AreAllSound, AreAccepted, HaveMeanings}
 use Rattle.command.specs.JudgedFiles.Linking.{AreUnlinked, HaveLinkFault}
 use Rattle.mx_io.specs.Reads.{Stands}
 use Rattle.request_files.specs.Reading.{FaultyAt, UnsoundAt, at_first}
@@ -60,6 +60,14 @@ module _ (H K : List ℕ → List ℕ → Type 0) (meet : (w x y : List ℕ) →
   one_accepted depth a b x y =
       let c = same_contents x.contents y.contents x.sound y.sound in
       one_judged checkers sources y.contents depth a b (subst (λ z. AreJudged checkers sources z depth a) c x.judged) y.judged
+
+  -- which mean the same
+  pub one_meant : (depth : ℕ) (a b : List Report) (x : AreAccepted H checkers sources depth a) (y : AreAccepted K checkers sources depth b)
+      → (x.judged.names ≡ y.judged.names) × (x.judged.machines ≡ y.judged.machines) × (x.judged.texts ≡ y.judged.texts)
+  one_meant depth a b x y =
+      let c = same_contents x.contents y.contents x.sound y.sound in
+      one_meaning checkers sources y.contents x.judged.names y.judged.names x.judged.machines y.judged.machines x.judged.texts y.judged.texts
+      (subst (λ z. HaveMeanings checkers sources z x.judged.names x.judged.machines x.judged.texts) c x.judged.meanings) y.judged.meanings
 
   not_faulty : (contents : List (List ℕ)) (p : ℕ) (l : Located) → FaultyAt H at_first (turns checkers sources) p l → AreAllSound K checkers sources contents → ⊥
   not_faulty contents p l f a = all_sound H K meet (turns checkers sources) contents a.end p l f a.sound (a.count ∙ sym (all_turns checkers sources))

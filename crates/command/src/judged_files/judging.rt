@@ -1,4 +1,4 @@
-//! The reports of the files of a request.
+//! What the checkers of a request find in its files.
 
 ghost use Rattle.std.specs.Prelude.{◌≡◌, ◌≤◌, ◌<◌, ◌^◌, [], ℕ, Contains, IfOk, IfErr, OnOk, None, Some, length, map, slice_get};
 ghost use Rattle.type_rules.specs.Functions.{Defined};
@@ -6,8 +6,8 @@ ghost use Rattle.path_model.specs.CheckerPrograms.Reported.{AreReports};
 ghost use Rattle.path_model.specs.CheckerPrograms.Texts.{functions_in};
 ghost use Rattle.command.specs.CheckerReports.Checkers.{checkers_in};
 ghost use Rattle.command.specs.JudgedFiles.FirstFault.{AnswersUnjudged, AnswersUnlinked};
-ghost use Rattle.command.specs.JudgedFiles.Judged.{AreAccepted};
 ghost use Rattle.command.specs.JudgedFiles.Linking.{HaveToken};
+ghost use Rattle.command.specs.Ways.Counts.{AreCounted, IsCountFor};
 ghost use Rattle.metal_tree.specs.Whole.{machine_view};
 ghost use Rattle.call_graph.specs.OfPrograms.Repeats.{link_fault};
 ghost use Rattle.mx_io.specs.Reads.{ReadsReadable};
@@ -15,7 +15,7 @@ ghost use Rattle.request_files.specs.Telling.{may_hold};
 ghost use Rattle.request_files.specs.Views.{machines_of, texts_of, words_of};
 ghost use Rattle.typed_unit.specs.declared.typed_unit.TypedUnit.{TypedUnit as UnitValue};
 
-use crate::checker_reports::all_reports;
+use crate::checker_reports::{Found, all_found};
 use crate::judged_files::lending::lent_units;
 use crate::judged_files::locating::defined_again;
 use crate::judged_files::unjudged::Unjudged;
@@ -25,19 +25,19 @@ use call_graph::{LinkFault, link};
 use metal_tree::Machine;
 use mx_base::Names;
 use mx_io::Files;
-use report_model::Report;
 use request_files::{Unread, read_files};
 use std::alloc::Global;
 use typed_unit::TypedUnit;
 
-/// The reports of checkers over units, each of which has its position as the number of its file.
+/// What checkers find in units, each of which has its position as the number of its file.
 fn judge_units<'u, 'a>(
     alloc: Global,
     machines: &[Machine<'u>],
     units: &'u [TypedUnit<'a>],
     names: &Names,
     depth: u8,
-) -> Result<Vec<Report>, Unjudged>
+    stats: bool,
+) -> Result<Found, Unjudged>
     requires deep { depth ≤ 8 }
     requires few_machines { length machines.now ≤ 65535 }
     requires few_units { length units.now ≤ 65535 }
@@ -45,15 +45,16 @@ fn judge_units<'u, 'a>(
     requires few_functions { length (functions_in (texts_of units.now)) < 2 ^ 32 }
     requires placed { (f : Defined) → Contains (functions_in (texts_of units.now)) f → HaveToken names.now (texts_of units.now) f.place }
     ensures linked { OnOk result (link_fault (functions_in (texts_of units.now)) ≡ None) }
-    ensures reports { IfOk result (λ list. ∥ AreReports (checkers_in (machines_of machines.now) depth names.now) (texts_of units.now) list.items ∥₁) }
+    ensures reports { IfOk result (λ found. ∥ AreReports (checkers_in (machines_of machines.now) depth names.now) (texts_of units.now) found.reports.items ∥₁) }
+    ensures counted { IfOk result (λ found. IsCountFor stats (checkers_in (machines_of machines.now) depth names.now) (texts_of units.now) found.entries) }
     ensures unlinked { IfErr result (λ e. AnswersUnlinked names.now (texts_of units.now) e) }
 {
     let Ok(lent) = lent_units(alloc, units) else {
         return Err(Unjudged::NoMemory);
     };
     match link(lent) {
-        Ok(program) => match all_reports(alloc, &program, machines, names, depth) {
-            Ok(reports) => Ok(reports),
+        Ok(program) => match all_found(alloc, &program, machines, names, depth, stats) {
+            Ok(found) => Ok(found),
             Err(_) => Err(Unjudged::NoMemory),
         },
         Err(LinkFault::DuplicateFunction { place, .. }) => {
@@ -66,8 +67,8 @@ fn judge_units<'u, 'a>(
     }
 }
 
-/// Reads and judges the files of a request, links its C files, and finds the reports of its checkers over them. Objects have at most
-/// `depth` steps.
+/// Reads and judges the files of a request, links its C files, and finds the reports of its checkers over them, and how many entries their
+/// logs have, where statistics are asked for. Objects have at most `depth` steps.
 ///
 /// Trees stand in the arena. The tokens of each checker, and those that are kept of each C file, stand in a place of its own. No name stands
 /// before the first file, so that the numbers of names are given by the files.
@@ -78,17 +79,18 @@ pub fn judge_files<'a, F: Files>(
     checkers: &[&str],
     sources: &[&str],
     depth: u8,
+    stats: bool,
     checker_places: &'a mut [Option<Tokens>],
     source_places: &'a mut [Option<Tokens>],
     names: &mut Names,
-) -> Result<Vec<Report>, Unjudged>
+) -> Result<Found, Unjudged>
     requires few_checkers { length checkers.now ≤ 65535 }
     requires few_sources { length sources.now ≤ 65535 }
     requires enough_for_checkers { length checkers.now ≤ length checker_places.old }
     requires enough_for_sources { length sources.now ≤ length source_places.old }
     requires deep { depth ≤ 8 }
     requires fresh { names.old ≡ [] }
-    ensures accepted { IfOk result (λ reports. AreAccepted (may_hold (F.contents files.old)) (words_of checkers.now) (words_of sources.now) depth reports.items) }
+    ensures accepted { IfOk result (λ found. AreCounted (may_hold (F.contents files.old)) (words_of checkers.now) (words_of sources.now) depth stats found.reports.items found.entries) }
     ensures unjudged { IfErr result (λ e. AnswersUnjudged (may_hold (F.contents files.old)) (words_of checkers.now) (words_of sources.now) (F.failed files.old) (F.failed files.new) e) }
     ensures none_failed { OnOk result (F.failed files.new ≡ F.failed files.old) }
     ensures readable { ReadsReadable (F.readable files.old) (F.failed files.old) (F.failed files.new) }
@@ -114,8 +116,9 @@ pub fn judge_files<'a, F: Files>(
         &read.sources.units,
         names,
         depth,
+        stats,
     ) {
-        Ok(reports) => Ok(reports),
+        Ok(found) => Ok(found),
         Err(unjudged) => Err(unjudged),
     }
 }

@@ -95,7 +95,7 @@ module _ (t : Tables) (n b : ℕ) (f : Frame) (p : IsPlace t n f) where
   fn = function_of p.defined
 
   abbrev g : Graph
-  g = graph_in f.table.now.graph
+  g = graph_in f.table.now.graph.now
 
   -- a call at the end of the block, by the graph of the table
   record EndsIn (called : Function) (s : Site) (behind : ℕ) : Type 0 where
@@ -163,16 +163,16 @@ module _ (t : Tables) (n b : ℕ) (f : Frame) (p : IsPlace t n f) where
 
 -- the site of a waiter at the block, by the call in which it ends
 module _ (t : Tables) (n b : ℕ) (f : Frame) (p : IsPlace t n f) where
-  pub site-at-call : (call : Node) (next : ℕ) → Some (Calls call next) ≡ (ending_at (graph_in f.table.now.graph).blocks b >? if_call)
+  pub site-at-call : (call : Node) (next : ℕ) → Some (Calls call next) ≡ (ending_at (graph_in f.table.now.graph.now).blocks b >? if_call)
       → site_at t.depth (texts_in t) (graphs_in t) n b ≡ site t.depth (texts_in t) (function_of p.defined) call
   site-at-call call next e =
       site-by-call (checker_in t) (texts_in t) (graphs_in t) n b (function_of p.defined) (Some call) (named t n p.defined p.is)
-      (ap (λ (g : Graph). call_at g b) p.graph ∙ call-there (graph_in f.table.now.graph) b call next e)
+      (ap (λ (g : Graph). call_at g b) p.graph ∙ call-there (graph_in f.table.now.graph.now) b call next e)
 
-  pub site-at-none : None ≡ (ending_at (graph_in f.table.now.graph).blocks b >? if_call) → site_at t.depth (texts_in t) (graphs_in t) n b ≡ no_site
+  pub site-at-none : None ≡ (ending_at (graph_in f.table.now.graph.now).blocks b >? if_call) → site_at t.depth (texts_in t) (graphs_in t) n b ≡ no_site
   site-at-none e =
       site-by-call (checker_in t) (texts_in t) (graphs_in t) n b (function_of p.defined) None (named t n p.defined p.is)
-      (ap (λ (g : Graph). call_at g b) p.graph ∙ call-missing (graph_in f.table.now.graph) b e)
+      (ap (λ (g : Graph). call_at g b) p.graph ∙ call-missing (graph_in f.table.now.graph.now) b e)
 
 -- the objects that are followed in the callee, by the call in which the block ends
 module _ (t : Tables) (n b : ℕ) (f : Frame) (p : IsPlace t n f) where
@@ -186,10 +186,10 @@ module _ (t : Tables) (n b : ℕ) (f : Frame) (p : IsPlace t n f) where
   own-objects : followed_into (checker_in t).machine (site_at t.depth (texts_in t) (graphs_in t) n b) ≡ None → AreOfCallee t n b f.objects.now.keys
   own-objects none = subst (λ g. Followed g f.objects.now.keys) (sym (own-callee (checker_in t) (texts_in t) (graphs_in t) n b own (named t n p.defined p.is) none)) p.follows
 
-  pub without-call : None ≡ (ending_at (graph_in f.table.now.graph).blocks b >? if_call) → AreOfCallee t n b f.objects.now.keys
+  pub without-call : None ≡ (ending_at (graph_in f.table.now.graph.now).blocks b >? if_call) → AreOfCallee t n b f.objects.now.keys
   without-call e = own-objects (ap (followed_into (checker_in t).machine) (site-at-none t n b f p e))
 
-  module _ (call : Node) (next : ℕ) (ends : Some (Calls call next) ≡ (ending_at (graph_in f.table.now.graph).blocks b >? if_call)) where
+  module _ (call : Node) (next : ℕ) (ends : Some (Calls call next) ≡ (ending_at (graph_in f.table.now.graph.now).blocks b >? if_call)) where
     at-site : followed_into (checker_in t).machine (site_at t.depth (texts_in t) (graphs_in t) n b) ≡ followed_into (checker_in t).machine (site t.depth (texts_in t) own call)
     at-site = ap (followed_into (checker_in t).machine) (site-at-call t n b f p call next ends)
 

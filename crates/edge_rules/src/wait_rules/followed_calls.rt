@@ -35,7 +35,7 @@ pub(crate) fn followed_call<'s, 'a>(
     ensures missing { result ≡ None → AreKnown tables.now → HasNoCall (checker_in tables.now) (texts_in tables.now) (graphs_in tables.now) function block }
 {
     let frame = tables.frame(function)?;
-    let end = call_end(&frame.table.graph, block)?;
+    let end = call_end(frame.table.graph, block)?;
     let callee = callee_at(frame.table, block)?;
     let entered = tables.frame(callee)?;
     let site = tables.site(function, end.call)?;

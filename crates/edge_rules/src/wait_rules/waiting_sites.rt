@@ -48,7 +48,7 @@ pub(crate) fn waiting_site<'s, 'a>(
     ensures there { IfSome result (λ s. AreKnown tables.now → IsFrame tables.now function frame.now → HandBackAlike tables.now.depth (site_of tables.now.depth s) (site_at tables.now.depth (texts_in tables.now) (graphs_in tables.now) function block)) }
     ensures missing { result ≡ None → function_at (texts_in tables.now) function ≡ None }
 {
-    match call_end(&frame.table.graph, block) {
+    match call_end(frame.table.graph, block) {
         Some(end) => tables.site(function, end.call),
         None => passing_nothing(tables, function),
     }
@@ -61,7 +61,7 @@ fn objects_of_callee<'t, 'u, 'a>(
     frame: &Frame<'t, 'u, 'a>,
     block: u32,
 ) -> &'t IndexSet<Object>
-    ensures { AreKnown tables.now → (function : ℕ) → IsFrame tables.now function frame.now → (call : Node) (next : ℕ) → Some (Calls call next) ≡ (ending_at (graph_in frame.now.table.now.graph).blocks block >? if_call) → AreOfCallee tables.now function block result.now.keys }
+    ensures { AreKnown tables.now → (function : ℕ) → IsFrame tables.now function frame.now → (call : Node) (next : ℕ) → Some (Calls call next) ≡ (ending_at (graph_in frame.now.table.now.graph.now).blocks block >? if_call) → AreOfCallee tables.now function block result.now.keys }
 {
     match callee_of(tables, frame.table, block) {
         Some(callee) => callee.frame.objects,
@@ -78,7 +78,7 @@ pub(crate) fn called_objects<'t, 'u, 'a>(
 ) -> &'t IndexSet<Object>
     ensures { AreKnown tables.now → (function : ℕ) → IsFrame tables.now function frame.now → AreOfCallee tables.now function block result.now.keys }
 {
-    match call_end(&frame.table.graph, block) {
+    match call_end(frame.table.graph, block) {
         Some(_end) => objects_of_callee(tables, frame, block),
         None => frame.objects,
     }

@@ -64,8 +64,8 @@ apart-in t = apart-texts t.program.now.units.items t.program.now.numbered
 pub record IsPlace (t : Tables) (n : ℕ) (f : Frame) : Type 0 where
   pub defined : Defined
   pub is : slice_get (functions_in (texts_in t)) n ≡ Some defined
-  pub graph : graph_at (texts_in t) (graphs_in t) (function_of defined) ≡ graph_in f.table.now.graph
-  pub blocks : AreBlockTables (checker_in t).machine t.depth (texts_in t) defined (graph_in f.table.now.graph).blocks f.table.now.blocks.items
+  pub graph : graph_at (texts_in t) (graphs_in t) (function_of defined) ≡ graph_in f.table.now.graph.now
+  pub blocks : AreBlockTables (checker_in t).machine t.depth (texts_in t) defined (graph_in f.table.now.graph.now).blocks f.table.now.blocks.items
   pub follows : (o : Object) → is_followed (texts_in t) (objects_in t) (function_of defined) o ≡ is_in f.objects.now.keys o
   pub plain : AreObjects t.depth f.objects.now.keys
 
@@ -82,11 +82,11 @@ followed-at t n d os e h o =
 pub place : (t : Tables) (n : ℕ) (f : Frame) → AreKnown t → IsFrame t n f → IsPlace t n f
 place t n f k h =
     let d = there-too (objects_in t) (functions_in (texts_in t)) n f.objects.now.keys k.count h.objects in
-    let g : slice_get (graphs_in t) n ≡ Some (graph_in f.table.now.graph) = slice_get-map (λ (x : FunctionTable). graph_in x.graph) t.functions.now n ∙ ap (option_map (λ (x : FunctionTable). graph_in x.graph)) h.table in
+    let g : slice_get (graphs_in t) n ≡ Some (graph_in f.table.now.graph.now) = slice_get-map (λ (x : FunctionTable). graph_in x.graph.now) t.functions.now n ∙ ap (option_map (λ (x : FunctionTable). graph_in x.graph.now)) h.table in
     record {
       defined = d.0;
       is = d.1;
-      graph = graph-at (texts_in t) (apart-in t) (graphs_in t) n d.0 (graph_in f.table.now.graph) d.1 g;
+      graph = graph-at (texts_in t) (apart-in t) (graphs_in t) n d.0 (graph_in f.table.now.graph.now) d.1 g;
       blocks = k.tables.blocks n d.0 f.table.now d.1 h.table;
       follows = λ o. followed-at t n d.0 f.objects.now.keys d.1 h.objects o;
       plain = k.plain n f.objects.now.keys h.objects;
@@ -96,7 +96,7 @@ place t n f k h =
 pub no-table : (t : Tables) (n : ℕ) → AreKnown t → slice_get t.functions.now n ≡ None → function_at (texts_in t) n ≡ None
 no-table t n k e =
     ap (option_map function_of)
-    (missing-too (graphs_in t) (functions_in (texts_in t)) n k.tables.graphs.count (slice_get-map (λ (x : FunctionTable). graph_in x.graph) t.functions.now n ∙ ap (option_map (λ (x : FunctionTable). graph_in x.graph)) e))
+    (missing-too (graphs_in t) (functions_in (texts_in t)) n k.tables.graphs.count (slice_get-map (λ (x : FunctionTable). graph_in x.graph.now) t.functions.now n ∙ ap (option_map (λ (x : FunctionTable). graph_in x.graph.now)) e))
 
 pub no-objects : (t : Tables) (n : ℕ) → AreKnown t → slice_get (objects_in t) n ≡ None → function_at (texts_in t) n ≡ None
 no-objects t n k e = ap (option_map function_of) (missing-too (objects_in t) (functions_in (texts_in t)) n k.count e)

@@ -29,7 +29,7 @@ abbrev pub texts_in : Tables → List Text
 texts_in t = texts_of t.program.now.units.items
 
 abbrev pub graphs_in : Tables → List Graph
-graphs_in t = map (λ f. graph_in f.graph) t.functions.now
+graphs_in t = map (λ f. graph_in f.graph.now) t.functions.now
 
 -- the objects that are followed in each function
 abbrev pub objects_in : Tables → List (List Object)

@@ -32,7 +32,7 @@ pub fn end_at<'g, 'a>(graph: &'g Graph<'a>, block: u32) -> Option<&'g End<'a>>
 
 /// The number of the function into which the call at the end of a block is followed, if it ends in one that is.
 pub fn callee_at(table: &FunctionTable, block: u32) -> Option<u32>
-    ensures { (m : Machine) (depth : ℕ) (ts : List Text) (d : Defined) (es : List Event) (n : Node) (next : ℕ) → AreBlockTables m depth ts d (graph_in table.now.graph).blocks table.now.blocks.items → Has (graph_in table.now.graph).blocks block es (Calls n next) → result ≡ followed m (type_table ts d.file) d.file (functions_in ts) n }
+    ensures { (m : Machine) (depth : ℕ) (ts : List Text) (d : Defined) (es : List Event) (n : Node) (next : ℕ) → AreBlockTables m depth ts d (graph_in table.now.graph.now).blocks table.now.blocks.items → Has (graph_in table.now.graph.now).blocks block es (Calls n next) → result ≡ followed m (type_table ts d.file) d.file (functions_in ts) n }
 {
     match item(table.blocks.as_slice(), block) {
         Some(found) => found.callee,

@@ -108,7 +108,7 @@ module _ (sources : RuleSources) (m : Machine) (depth n : ℕ) where
 -- ---- programs
 
 abbrev graphs_of : List FunctionTable → List Graph
-graphs_of tables = map (λ (t : FunctionTable). graph_in t.graph) tables
+graphs_of tables = map (λ (t : FunctionTable). graph_in t.graph.now) tables
 
 module _ (sources : RuleSources) (c : Checker) (ts : List Text) (tables : List FunctionTable) (are : AreTables c.machine c.depth ts tables) where
   abbrev gs : List Graph
@@ -117,26 +117,26 @@ module _ (sources : RuleSources) (c : Checker) (ts : List Text) (tables : List F
   -- a table is that of a function
   named : (n : ℕ) (t : FunctionTable) → slice_get tables n ≡ Some t → (d : Defined) × (slice_get (functions_in ts) n ≡ Some d)
   named n t at =
-      let count : length tables ≡ length (functions_in ts) = sym (length-map tables (λ (x : FunctionTable). graph_in x.graph)) ∙ are.graphs.count in
+      let count : length tables ≡ length (functions_in ts) = sym (length-map tables (λ (x : FunctionTable). graph_in x.graph.now)) ∙ are.graphs.count in
       there (functions_in ts) n (subst (λ k. n < k) count (slice_get_within tables n t at))
 
-  graph-at : (n : ℕ) (t : FunctionTable) → slice_get tables n ≡ Some t → slice_get gs n ≡ Some (graph_in t.graph)
-  graph-at n t at = slice_get-map (λ (x : FunctionTable). graph_in x.graph) tables n ∙ ap (option_map (λ (x : FunctionTable). graph_in x.graph)) at
+  graph-at : (n : ℕ) (t : FunctionTable) → slice_get tables n ≡ Some t → slice_get gs n ≡ Some (graph_in t.graph.now)
+  graph-at n t at = slice_get-map (λ (x : FunctionTable). graph_in x.graph.now) tables n ∙ ap (option_map (λ (x : FunctionTable). graph_in x.graph.now)) at
 
   pub with-number : (n : ℕ) (t : FunctionTable) (old new : List Member) → slice_get tables n ≡ Some t
-      → ((d : Defined) → AreBlockTables c.machine c.depth ts d (graph_in t.graph).blocks t.blocks.items → Adds (BoundOf sources c.machine c.depth n ts d (graph_in t.graph)) old new)
+      → ((d : Defined) → AreBlockTables c.machine c.depth ts d (graph_in t.graph.now).blocks t.blocks.items → Adds (BoundOf sources c.machine c.depth n ts d (graph_in t.graph.now)) old new)
       → Adds (BoundWith sources c ts gs n) old new
   with-number n t old new at v = adds_same (v d.0 (are.blocks n d.0 t d.1 at)) to from
     where
       d : (x : Defined) × (slice_get (functions_in ts) n ≡ Some x)
       d = named n t at
 
-      to : (y : Member) → BoundOf sources c.machine c.depth n ts d.0 (graph_in t.graph) y → BoundWith sources c ts gs n y
+      to : (y : Member) → BoundOf sources c.machine c.depth n ts d.0 (graph_in t.graph.now) y → BoundWith sources c ts gs n y
       to y h = (
         (h.2).0,
         subst (λ k. IsBound c ts gs sources k y.1) (h.2).0 (record {
           function = function_of d.0;
-          graph = graph_in t.graph;
+          graph = graph_in t.graph.now;
           is = record { named = ap (option_map function_of) d.1; graph = graph-at n t at };
           event = h.0;
           happens = h.1;
@@ -144,13 +144,13 @@ module _ (sources : RuleSources) (c : Checker) (ts : List Text) (tables : List F
         }),
       )
 
-      bound-there : (y : Member) → n ≡ y.0 → IsBound c ts gs sources n y.1 → BoundOf sources c.machine c.depth n ts d.0 (graph_in t.graph) y
+      bound-there : (y : Member) → n ≡ y.0 → IsBound c ts gs sources n y.1 → BoundOf sources c.machine c.depth n ts d.0 (graph_in t.graph.now) y
       bound-there y e b =
           let f : b.function ≡ function_of d.0 = same_Some b.function (function_of d.0) (sym b.is.named ∙ ap (option_map function_of) d.1) in
-          let g : b.graph ≡ graph_in t.graph = same_Some b.graph (graph_in t.graph) (sym b.is.graph ∙ graph-at n t at) in
+          let g : b.graph ≡ graph_in t.graph.now = same_Some b.graph (graph_in t.graph.now) (sym b.is.graph ∙ graph-at n t at) in
           (b.event, subst (λ (x : Graph). Happens x b.event) g b.happens, (e, subst (λ (x : Function). BindsFrom sources c.machine c.depth x (happening ts x b.event) y.1) f b.binds))
 
-      from : (y : Member) → BoundWith sources c ts gs n y → BoundOf sources c.machine c.depth n ts d.0 (graph_in t.graph) y
+      from : (y : Member) → BoundWith sources c ts gs n y → BoundOf sources c.machine c.depth n ts d.0 (graph_in t.graph.now) y
       from y h = bound-there y h.0 (subst (λ k. IsBound c ts gs sources k y.1) (sym h.0) h.1)
 
   pub no-number : (n : ℕ) (old : List Member) → slice_get tables n ≡ None → Adds (BoundWith sources c ts gs n) old old
@@ -158,7 +158,7 @@ module _ (sources : RuleSources) (c : Checker) (ts : List Text) (tables : List F
     where
       away : (y : Member) → n ≡ y.0 → IsBound c ts gs sources y.0 y.1 → ⊥
       away y e b =
-          let none : slice_get gs n ≡ None = slice_get-map (λ (x : FunctionTable). graph_in x.graph) tables n ∙ ap (option_map (λ (x : FunctionTable). graph_in x.graph)) at in
+          let none : slice_get gs n ≡ None = slice_get-map (λ (x : FunctionTable). graph_in x.graph.now) tables n ∙ ap (option_map (λ (x : FunctionTable). graph_in x.graph.now)) at in
           none-some b.graph (sym none ∙ ap (slice_get gs) e ∙ b.is.graph)
 
   -- one function more, and all

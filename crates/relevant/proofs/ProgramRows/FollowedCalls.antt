@@ -41,12 +41,12 @@ module _ (t : FunctionTable) (caller : ℕ) where
   calls-next blocks i d k start old new within is e v = adds_next EndsIn blocks i d within v (one-added k (followed_at t caller (get_or blocks i d)) old new is e)
 
   -- those of the blocks that control reaches are those of the function
-  pub calls-of : (tables : List FunctionTable) (blocks : List ℕ) (old new : List Followed) → slice_get tables caller ≡ Some t → IsExactly blocks (Reaches (graph_in t.graph)) → Adds (SomeGives EndsIn blocks) old new → Adds (HasFollowed tables caller) old new
+  pub calls-of : (tables : List FunctionTable) (blocks : List ℕ) (old new : List Followed) → slice_get tables caller ≡ Some t → IsExactly blocks (Reaches (graph_in t.graph.now)) → Adds (SomeGives EndsIn blocks) old new → Adds (HasFollowed tables caller) old new
   calls-of tables blocks old new at all v = adds_same v
       (λ f s. record { table = t; is = at; block = s.0; reached = all.0 s.0 s.1; ends = s.2 })
       (λ f h.
       let same : h.table ≡ t = same_Some h.table t (sym h.is ∙ at) in
-      (h.block, all.1 h.block (subst (λ (x : FunctionTable). Reaches (graph_in x.graph) h.block) same h.reached), subst (λ (x : FunctionTable). followed_at x caller h.block ≡ Some f) same h.ends))
+      (h.block, all.1 h.block (subst (λ (x : FunctionTable). Reaches (graph_in x.graph.now) h.block) same h.reached), subst (λ (x : FunctionTable). followed_at x caller h.block ≡ Some f) same h.ends))
 
 module _ (tables : List FunctionTable) where
   -- at first there are none

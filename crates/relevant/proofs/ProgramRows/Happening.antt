@@ -24,10 +24,10 @@ happens-exactly g blocks es is all = (
 )
 
 -- of the function with a number
-pub happens-in : (tables : List FunctionTable) (n : ℕ) (t : FunctionTable) (es : List Event) → slice_get tables n ≡ Some t → IsExactly es (Happens (graph_in t.graph)) → IsExactly es (HappensIn tables n)
+pub happens-in : (tables : List FunctionTable) (n : ℕ) (t : FunctionTable) (es : List Event) → slice_get tables n ≡ Some t → IsExactly es (Happens (graph_in t.graph.now)) → IsExactly es (HappensIn tables n)
 happens-in tables n t es at all = (
   λ e h. record { table = t; is = at; happens = all.0 e h },
-  λ e h. all.1 e (subst (λ (x : FunctionTable). Happens (graph_in x.graph) e) (same_Some h.table t (sym h.is ∙ at)) h.happens),
+  λ e h. all.1 e (subst (λ (x : FunctionTable). Happens (graph_in x.graph.now) e) (same_Some h.table t (sym h.is ∙ at)) h.happens),
 )
 
 -- nothing happens where there is no such function

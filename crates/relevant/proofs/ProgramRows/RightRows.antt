@@ -40,7 +40,7 @@ module _ (c : Checker) (units : List (Bor TypedUnit)) (tables : List FunctionTab
   fs = definitions (trees_in units)
 
   abbrev gs : List Graph
-  gs = map (λ t. graph_in t.graph) tables
+  gs = map (λ t. graph_in t.graph.now) tables
 
   at-text : (n : ℕ) (d : Defined) → slice_get fs n ≡ Some d → slice_get (functions_in ts) n ≡ Some d
   at-text n d e = ap (λ (l : List Defined). slice_get l n) (functions-are units) ∙ e
@@ -56,18 +56,18 @@ module _ (c : Checker) (units : List (Bor TypedUnit)) (tables : List FunctionTab
     named : function_of defined ≡ f
     table : FunctionTable
     is : slice_get tables n ≡ Some table
-    same : graph_in table.graph ≡ g
+    same : graph_in table.graph.now ≡ g
 
   tabled : (n : ℕ) (f : Function) (g : Graph) → IsNumbered c ts gs n f g → IsTabled n f g
   tabled n f g is =
       let d = of-map function_of (slice_get (functions_in ts) n) f is.named in
-      let t = of-map (λ (x : FunctionTable). graph_in x.graph) (slice_get tables n) g (sym (slice_get-map (λ (x : FunctionTable). graph_in x.graph) tables n) ∙ is.graph) in
+      let t = of-map (λ (x : FunctionTable). graph_in x.graph.now) (slice_get tables n) g (sym (slice_get-map (λ (x : FunctionTable). graph_in x.graph.now) tables n) ∙ is.graph) in
       record { defined = d.0; at = sym (ap (λ (l : List Defined). slice_get l n) (functions-are units)) ∙ d.1; named = d.2; table = t.0; is = t.1; same = t.2 }
 
-  numbered : (n : ℕ) (d : Defined) (t : FunctionTable) → slice_get fs n ≡ Some d → slice_get tables n ≡ Some t → IsNumbered c ts gs n (function_of d) (graph_in t.graph)
+  numbered : (n : ℕ) (d : Defined) (t : FunctionTable) → slice_get fs n ≡ Some d → slice_get tables n ≡ Some t → IsNumbered c ts gs n (function_of d) (graph_in t.graph.now)
   numbered n d t at is = record {
     named = function-named n d at;
-    graph = slice_get-map (λ (x : FunctionTable). graph_in x.graph) tables n ∙ ap (option_map (λ (x : FunctionTable). graph_in x.graph)) is;
+    graph = slice_get-map (λ (x : FunctionTable). graph_in x.graph.now) tables n ∙ ap (option_map (λ (x : FunctionTable). graph_in x.graph.now)) is;
   }
 
   -- a call is followed by the file in which the function stands
@@ -87,7 +87,7 @@ module _ (c : Checker) (units : List (Bor TypedUnit)) (tables : List FunctionTab
   happens-there : (n : ℕ) (f : Function) (g : Graph) (e : Event) → IsNumbered c ts gs n f g → HappensIn tables n e → Happens g e
   happens-there n f g e is h =
       let k = tabled n f g is in
-      let same : graph_in (h.table).graph ≡ g = ap (λ (t : FunctionTable). graph_in t.graph) (same_Some h.table k.table (sym h.is ∙ k.is)) ∙ k.same in
+      let same : graph_in (h.table).graph.now ≡ g = ap (λ (t : FunctionTable). graph_in t.graph.now) (same_Some h.table k.table (sym h.is ∙ k.is)) ∙ k.same in
       subst (λ (x : Graph). Happens x e) same h.happens
 
   there-happens : (n : ℕ) (f : Function) (g : Graph) (e : Event) → IsNumbered c ts gs n f g → Happens g e → HappensIn tables n e
@@ -110,12 +110,12 @@ module _ (c : Checker) (units : List (Bor TypedUnit)) (tables : List FunctionTab
         let follows = end-follows c.machine c.depth ts d.0 has.table (A.blocks k.caller d.0 has.table (at-text k.caller d.0 d.1) is) has.block k.callee call e.1 in
         let within : k.callee < length fs = subst (λ (l : List Defined). k.callee < length l) (functions-are units) (followed-within c.machine (type_table ts (d.0).file) (d.0).file (functions_in ts) call k.callee follows) in
         let callee = there fs k.callee within in
-        let ends = has-call (graph_in (has.table).graph) has.block call e.1.call_is in
+        let ends = has-call (graph_in (has.table).graph.now) has.block call e.1.call_is in
         record {
           site = site c.depth ts (function_of d.0) call;
           call = record {
             function = function_of d.0;
-            graph = graph_in (has.table).graph;
+            graph = graph_in (has.table).graph.now;
             is = numbered k.caller d.0 has.table d.1 is;
             call = call;
             called = record { block = has.block; events = (ends.1).events; next = ends.0; reached = has.reached; has = ends.2 };
@@ -142,7 +142,7 @@ module _ (c : Checker) (units : List (Bor TypedUnit)) (tables : List FunctionTab
         let t : FunctionTable = k.table in
         let file : v.function.place.file ≡ d.file = ap (λ (x : Function). x.place.file) (sym k.named) ∙ place-filed (trees_in units) n d k.at in
         let follows : followed c.machine (type_table ts d.file) d.file (functions_in ts) v.call ≡ Some m = ap (λ (i : ℕ). followed c.machine (type_table ts i) i (functions_in ts) v.call) (sym file) ∙ v.follows in
-        let called : Called (graph_in t.graph) v.call = subst (λ (x : Graph). Called x v.call) (sym k.same) v.called in
+        let called : Called (graph_in t.graph.now) v.call = subst (λ (x : Graph). Called x v.call) (sym k.same) v.called in
         let ends = follows-end c.machine c.depth ts d t (A.blocks n d t (at-text n d k.at) k.is) called.block m called.next _ v.call called.has refl follows in
         let f : Followed = record { caller = n; callee = m; call = v.call } in
         let one = map-contains followed_in calls f (D.1 f (n, slice_get_within fs n d k.at, record { table = t; is = k.is; block = called.block; reached = called.reached; ends = end-followed t n called.block m v.call ends })) in

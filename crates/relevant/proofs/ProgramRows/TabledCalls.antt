@@ -42,12 +42,12 @@ behind (Some x) f y e = (x, refl, e)
 -- what is known of the end of a block by a table
 pub record IsEnd (t : FunctionTable) (b : ℕ) (callee : ℕ) (call : Node) : Type 0 where
   pub callee_is : callee_at t b ≡ Some callee
-  pub call_is : call_at (graph_in t.graph) b ≡ Some call
+  pub call_is : call_at (graph_in t.graph.now) b ≡ Some call
 
 pub end-of : (t : FunctionTable) (caller b : ℕ) (f : Followed) → followed_at t caller b ≡ Some f → (caller ≡ f.caller) × IsEnd t b f.callee f.call
-end-of t caller b f e = by (callee_at t b) (call_at (graph_in t.graph) b) refl refl e
+end-of t caller b f e = by (callee_at t b) (call_at (graph_in t.graph.now) b) refl refl e
   where
-    by : (m : Option ℕ) (n : Option Node) → callee_at t b ≡ m → call_at (graph_in t.graph) b ≡ n → (m >? λ k. option_map (λ c. record { caller = caller; callee = k; call = c }) n) ≡ Some f → (caller ≡ f.caller) × IsEnd t b f.callee f.call
+    by : (m : Option ℕ) (n : Option Node) → callee_at t b ≡ m → call_at (graph_in t.graph.now) b ≡ n → (m >? λ k. option_map (λ c. record { caller = caller; callee = k; call = c }) n) ≡ Some f → (caller ≡ f.caller) × IsEnd t b f.callee f.call
     by None n a c e = cc
     by (Some m) None a c e = cc
     by (Some m) (Some n) a c e =
@@ -56,7 +56,7 @@ end-of t caller b f e = by (callee_at t b) (call_at (graph_in t.graph) b) refl r
 
 pub end-followed : (t : FunctionTable) (caller b callee : ℕ) (call : Node) → IsEnd t b callee call → followed_at t caller b ≡ Some (record { caller = caller; callee = callee; call = call })
 end-followed t caller b callee call e =
-    ap (λ m. m >? λ k. option_map (λ n. record { caller = caller; callee = k; call = n }) (call_at (graph_in t.graph) b)) e.callee_is
+    ap (λ m. m >? λ k. option_map (λ n. record { caller = caller; callee = k; call = n }) (call_at (graph_in t.graph.now) b)) e.callee_is
     ∙ ap (option_map (λ n. record { caller = caller; callee = callee; call = n })) e.call_is
 
 calls-in : (end : Ending) (n : Node) → call_in end ≡ Some n → (next : ℕ) × (end ≡ Calls n next)
@@ -76,23 +76,23 @@ has-call g b n e =
 
 -- ---- what the tables say of it
 
-module _ (m : Machine) (depth : ℕ) (ts : List Text) (d : Defined) (t : FunctionTable) (A : AreBlockTables m depth ts d (graph_in t.graph).blocks t.blocks.items) where
+module _ (m : Machine) (depth : ℕ) (ts : List Text) (d : Defined) (t : FunctionTable) (A : AreBlockTables m depth ts d (graph_in t.graph.now).blocks t.blocks.items) where
   abbrev Follows : Node → ℕ → Type 0
   Follows call callee = followed m (type_table ts d.file) d.file (functions_in ts) call ≡ Some callee
 
   -- the call is followed into this function
   pub end-follows : (b callee : ℕ) (call : Node) → IsEnd t b callee call → followed m (type_table ts d.file) d.file (functions_in ts) call ≡ Some callee
   end-follows b callee call e =
-      let s = block-ends (graph_in t.graph) b call e.call_is in
+      let s = block-ends (graph_in t.graph.now) b call e.call_is in
       let k = behind (slice_get t.blocks.items b) (λ x. x.callee) callee e.callee_is in
-      let is = zip-at (IsBlockTable m depth ts d) (graph_in t.graph).blocks t.blocks.items b s.0 k.0 A s.1 k.1 in
+      let is = zip-at (IsBlockTable m depth ts d) (graph_in t.graph.now).blocks t.blocks.items b s.0 k.0 A s.1 k.1 in
       sym (is.callee call s.2) ∙ k.2
 
   -- and each that is stands so in the table
-  pub follows-end : (b callee next : ℕ) (s : Block) (call : Node) → slice_get (graph_in t.graph).blocks b ≡ Some s → s.ending ≡ Calls call next → followed m (type_table ts d.file) d.file (functions_in ts) call ≡ Some callee → IsEnd t b callee call
+  pub follows-end : (b callee next : ℕ) (s : Block) (call : Node) → slice_get (graph_in t.graph.now).blocks b ≡ Some s → s.ending ≡ Calls call next → followed m (type_table ts d.file) d.file (functions_in ts) call ≡ Some callee → IsEnd t b callee call
   follows-end b callee next s call at ends f =
-      let k = zip-there (IsBlockTable m depth ts d) (graph_in t.graph).blocks t.blocks.items b s A at in
-      let is = zip-at (IsBlockTable m depth ts d) (graph_in t.graph).blocks t.blocks.items b s k.0 A at k.1 in
+      let k = zip-there (IsBlockTable m depth ts d) (graph_in t.graph.now).blocks t.blocks.items b s A at in
+      let is = zip-at (IsBlockTable m depth ts d) (graph_in t.graph.now).blocks t.blocks.items b s k.0 A at k.1 in
       let calls : call_in s.ending ≡ Some call = ap call_in ends in
       record {
         callee_is = ap (λ o. o >? λ (x : BlockTable). x.callee) k.1 ∙ is.callee call calls ∙ f;

@@ -30,14 +30,14 @@ followed_in k = record { caller = k.caller; callee = k.callee; call = node_of k.
 
 -- the one at the end of a block of the function with this number, which has this table
 abbrev pub followed_at : FunctionTable → ℕ → ℕ → Option Followed
-followed_at t caller b = callee_at t b >? λ m. option_map (λ n. record { caller = caller; callee = m; call = n }) (call_at (graph_in t.graph) b)
+followed_at t caller b = callee_at t b >? λ m. option_map (λ n. record { caller = caller; callee = m; call = n }) (call_at (graph_in t.graph.now) b)
 
 -- the function with this number has the followed call at the end of a block that control reaches
 pub record HasFollowed (tables : List FunctionTable) (caller : ℕ) (f : Followed) : Type 0 where
   pub table : FunctionTable
   pub is : slice_get tables caller ≡ Some table
   pub block : ℕ
-  pub reached : Reaches (graph_in table.graph) block
+  pub reached : Reaches (graph_in table.graph.now) block
   pub ends : followed_at table caller block ≡ Some f
 
 -- one of the first functions, so many, has it

@@ -17,7 +17,7 @@ use Rattle.typed_unit.specs.declared.typed_unit.TypedUnit.{TypedUnit}
 pub record HappensIn (tables : List FunctionTable) (n : ℕ) (e : Event) : Type 0 where
   pub table : FunctionTable
   pub is : slice_get tables n ≡ Some table
-  pub happens : Happens (graph_in table.graph) e
+  pub happens : Happens (graph_in table.graph.now) e
 
 -- the call is one of these, and comes from the function with this number or leads into it
 abbrev pub IsOf : List FollowedCall → ℕ → FollowedCall → Type 0

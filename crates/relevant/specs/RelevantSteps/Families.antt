@@ -7,6 +7,11 @@ use Rattle.path_model.specs.CheckerPrograms.Relevant.{RelevantFrom}
 use Rattle.typed_unit.specs.Texts.{Text}
 use Rattle.state_tuples.specs.AppliedRules.Bound.{BindsFrom}
 use Rattle.state_tuples.specs.declared.applied_rules.sources.RuleSources.{RuleSources}
+use Rattle.state_tuples.specs.declared.applied_rules.sources.RuleSources.TheVariants as sources
+
+-- rules that begin in any state
+abbrev pub any_state : RuleSources
+any_state = sources.AnyState
 
 -- the relevant objects, where that is any state; those that are followed, where it is a global one
 abbrev pub RelevantTo : RuleSources → Checker → List Text → Function → Object → Type 0

@@ -28,9 +28,9 @@ fn add_in_function(
     number: u32,
     sources: RuleSources,
 ) -> Result<(), AllocError>
-    ensures { IfOk result (λ _. (m : Machine) (depth : ℕ) (ts : List Text) (d : Defined) → AreBlockTables m depth ts d (graph_in table.now.graph).blocks table.now.blocks.items → Adds (BoundOf sources m depth number ts d (graph_in table.now.graph)) found.old.items found.new.items) }
+    ensures { IfOk result (λ _. (m : Machine) (depth : ℕ) (ts : List Text) (d : Defined) → AreBlockTables m depth ts d (graph_in table.now.graph.now).blocks table.now.blocks.items → Adds (BoundOf sources m depth number ts d (graph_in table.now.graph.now)) found.old.items found.new.items) }
 {
-    let blocks = reached(alloc, &table.graph)?;
+    let blocks = reached(alloc, table.graph)?;
     add_in_blocks(
         alloc,
         found,
@@ -49,7 +49,7 @@ fn add_with_number(
     number: u32,
     sources: RuleSources,
 ) -> Result<(), AllocError>
-    ensures { IfOk result (λ _. (c : Checker) (ts : List Text) → AreTables c.machine c.depth ts tables.now → Adds (BoundWith sources c ts (map (λ t. graph_in t.graph) tables.now) number) found.old.items found.new.items) }
+    ensures { IfOk result (λ _. (c : Checker) (ts : List Text) → AreTables c.machine c.depth ts tables.now → Adds (BoundWith sources c ts (map (λ t. graph_in t.graph.now) tables.now) number) found.old.items found.new.items) }
 {
     match item(tables, number) {
         Some(table) => add_in_function(alloc, found, table, number, sources),
@@ -66,7 +66,7 @@ pub fn bound(
     tables: &[FunctionTable],
     sources: RuleSources,
 ) -> Result<Vec<(u32, Object)>, AllocError>
-    ensures { IfOk result (λ list. (c : Checker) → AreTables c.machine c.depth (texts_of program.now.units.items) tables.now → IsExactly list.items (Base c (texts_of program.now.units.items) (map (λ t. graph_in t.graph) tables.now) sources)) }
+    ensures { IfOk result (λ list. (c : Checker) → AreTables c.machine c.depth (texts_of program.now.units.items) tables.now → IsExactly list.items (Base c (texts_of program.now.units.items) (map (λ t. graph_in t.graph.now) tables.now) sources)) }
 {
     let mut found = Vec::new(alloc);
     for number in 0..program.count() {

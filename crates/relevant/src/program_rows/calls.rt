@@ -54,7 +54,7 @@ fn add_calls_of<'u, 'a>(
         return Ok(());
     };
     let unit = unit_of(program, caller);
-    let blocks = reached(alloc, &table.graph)?;
+    let blocks = reached(alloc, table.graph)?;
     add_calls_in(calls, program, unit, table, caller, blocks.as_slice())
 }
 

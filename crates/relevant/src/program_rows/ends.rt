@@ -66,7 +66,7 @@ pub(crate) fn followed_at<'u, 'a>(
     let Some(callee) = callee_at(table, block) else {
         return None;
     };
-    let Some(call) = call_at(&table.graph, block) else {
+    let Some(call) = call_at(table.graph, block) else {
         return None;
     };
     let formals = formals_of(program, callee);

@@ -60,7 +60,7 @@ pub(crate) fn events_at<'a>(
     ensures { IfOk result (λ events. IsExactly (map event_of events.items) (HappensIn tables.now number)) }
 {
     match table_at(tables, number) {
-        Some(table) => events_of(alloc, &table.graph),
+        Some(table) => events_of(alloc, table.graph),
         None => Ok(Vec::new(alloc)),
     }
 }

@@ -71,7 +71,7 @@ pub fn rows_of<'u, 'a>(
     program: &Program<'u, 'a>,
     tables: &[FunctionTable<'_, 'a>],
 ) -> Result<Vec<FunctionRow<'u, 'a>>, AllocError>
-    ensures { IfOk result (λ rows. (c : Checker) → AreTables c.machine c.depth (texts_of program.now.units.items) tables.now → AreRows c (texts_of program.now.units.items) (map (λ t. graph_in t.graph) tables.now) rows.items) }
+    ensures { IfOk result (λ rows. (c : Checker) → AreTables c.machine c.depth (texts_of program.now.units.items) tables.now → AreRows c (texts_of program.now.units.items) (map (λ t. graph_in t.graph.now) tables.now) rows.items) }
 {
     let calls = followed_calls(alloc, program, tables)?;
     let positions = filed(alloc, calls.as_slice(), program.count())?;

@@ -39,7 +39,7 @@ one-function f g e = cc
 
 -- the events of a block
 abbrev pub events_of : Frame → Edge → List Event
-events_of f e = events_at (slice_get (graph_in f.table.now.graph).blocks e.block)
+events_of f e = events_at (slice_get (graph_in f.table.now.graph.now).blocks e.block)
 
 module _ (t : Tables) (e : Edge) (f : Frame) (p : IsPlace t e.context.function f) (u : Bor TypedUnit) (at : slice_get t.program.now.units.items p.defined.place.file ≡ Some u) where
   abbrev c : Checker
@@ -89,7 +89,7 @@ module _ (t : Tables) (e : Edge) (f : Frame) (p : IsPlace t e.context.function f
   pub rules-are : (b : BlockTable) → slice_get f.table.now.blocks.items e.block ≡ Some b → AreOfEvents c.machine t.depth fn (map (happening_at u.now) (events_of f e)) b.rules.items
   rules-are b q =
       subst (λ hs. AreOfEvents c.machine t.depth fn hs b.rules.items) events-in
-      (rules-there c.machine t.depth (texts_in t) p.defined (graph_in f.table.now.graph).blocks f.table.now.blocks.items e.block b p.blocks q)
+      (rules-there c.machine t.depth (texts_in t) p.defined (graph_in f.table.now.graph.now).blocks f.table.now.blocks.items e.block b p.blocks q)
 
   pub edge-shows : (list : List Report) → IsExactly list (Here (map (happening_at u.now) (events_of f e))) → IsExactly list (ShowsAt c (texts_in t) (graphs_in t) (objects_in t) e)
   edge-shows list x = exactly-same (Here (map (happening_at u.now) (events_of f e))) (ShowsAt c (texts_in t) (graphs_in t) (objects_in t) e) list x here-shown shown-here
@@ -97,7 +97,7 @@ module _ (t : Tables) (e : Edge) (f : Frame) (p : IsPlace t e.context.function f
   -- nothing where there is no such block
   pub nothing-there : slice_get f.table.now.blocks.items e.block ≡ None → IsExactly [] (ShowsAt c (texts_in t) (graphs_in t) (objects_in t) e)
   nothing-there q =
-      let none = rules-none c.machine t.depth (texts_in t) p.defined (graph_in f.table.now.graph).blocks f.table.now.blocks.items e.block p.blocks q in
+      let none = rules-none c.machine t.depth (texts_in t) p.defined (graph_in f.table.now.graph.now).blocks f.table.now.blocks.items e.block p.blocks q in
       edge-shows [] (nothing-here c fn e.is_root keys (map (happening_at u.now) (events_of f e)) e.tuple
       (subst (λ hs. AreOfEvents c.machine t.depth fn hs []) events-in none))
 

@@ -34,43 +34,43 @@ module _ (c : Checker) (ts : List Text) (apart : AreApartPlaces (functions_in ts
 
   module _ (tables : List FunctionTable) (are : AreTables c.machine c.depth ts tables) (e : Edge) where
     abbrev graphs : List Graph
-    graphs = map (λ (t : FunctionTable). graph_in t.graph) tables
+    graphs = map (λ (t : FunctionTable). graph_in t.graph.now) tables
 
     -- the events of a block of a graph of this function
     abbrev events : Defined → List Block → List Happening
     events d bs = map (happening ts (function_of d)) (events_at (slice_get bs e.block))
 
-    graph-of : (t : FunctionTable) (n : ℕ) → slice_get tables n ≡ Some t → slice_get graphs n ≡ Some (graph_in t.graph)
-    graph-of t n at = slice_get-map (λ (x : FunctionTable). graph_in x.graph) tables n ∙ ap (option_map (λ (x : FunctionTable). graph_in x.graph)) at
+    graph-of : (t : FunctionTable) (n : ℕ) → slice_get tables n ≡ Some t → slice_get graphs n ≡ Some (graph_in t.graph.now)
+    graph-of t n at = slice_get-map (λ (x : FunctionTable). graph_in x.graph.now) tables n ∙ ap (option_map (λ (x : FunctionTable). graph_in x.graph.now)) at
 
     pub at-edge : (t : FunctionTable) (old new : List Member) → slice_get tables e.context.function ≡ Some t
         → ((d : Defined) (bs : List Block) → AreBlockTables c.machine c.depth ts d bs t.blocks.items → Adds (GivesAmong c (function_of d) (events d bs) e.tuple.global e) old new)
         → Adds (GivesBound c ts graphs e) old new
-    at-edge t old new at v = adds_same (v d.0 (graph_in t.graph).blocks (are.blocks e.context.function d.0 t d.1 at)) to from
+    at-edge t old new at v = adds_same (v d.0 (graph_in t.graph.now).blocks (are.blocks e.context.function d.0 t d.1 at)) to from
       where
         n : ℕ
         n = e.context.function
 
         d : (x : Defined) × (slice_get (functions_in ts) n ≡ Some x)
-        d = there-too graphs (functions_in ts) n (graph_in t.graph) are.graphs.count (graph-of t n at)
+        d = there-too graphs (functions_in ts) n (graph_in t.graph.now) are.graphs.count (graph-of t n at)
 
         fn : Function
         fn = function_of d.0
 
-        same : graph_at ts graphs fn ≡ graph_in t.graph
-        same = graph-at ts apart graphs n d.0 (graph_in t.graph) d.1 (graph-of t n at)
+        same : graph_at ts graphs fn ≡ graph_in t.graph.now
+        same = graph-at ts apart graphs n d.0 (graph_in t.graph.now) d.1 (graph-of t n at)
 
         named : function_at ts n ≡ Some fn
         named = ap (option_map function_of) d.1
 
-        to : (y : Member) → GivesAmong c fn (events d.0 (graph_in t.graph).blocks) e.tuple.global e y → GivesBound c ts graphs e y
+        to : (y : Member) → GivesAmong c fn (events d.0 (graph_in t.graph.now).blocks) e.tuple.global e y → GivesBound c ts graphs e y
         to y w = record {
           fn = fn;
           named = named;
           gives = subst (λ (x : Graph). GivesAmong c fn (events d.0 x.blocks) e.tuple.global e y) (sym same) w;
         }
 
-        from : (y : Member) → GivesBound c ts graphs e y → GivesAmong c fn (events d.0 (graph_in t.graph).blocks) e.tuple.global e y
+        from : (y : Member) → GivesBound c ts graphs e y → GivesAmong c fn (events d.0 (graph_in t.graph.now).blocks) e.tuple.global e y
         from y w =
             subst (λ (x : Graph). GivesAmong c fn (events d.0 x.blocks) e.tuple.global e y) same
             (subst (λ (z : Function). GivesAmong c z ((flow_graphs c ts graphs).events z e.block) e.tuple.global e y) (same_Some w.fn fn (sym w.named ∙ named)) w.gives)
@@ -82,7 +82,7 @@ module _ (c : Checker) (ts : List Text) (apart : AreApartPlaces (functions_in ts
         missing : function_at ts e.context.function ≡ None
         missing =
             ap (option_map function_of)
-            (missing-too graphs (functions_in ts) e.context.function are.graphs.count (slice_get-map (λ (x : FunctionTable). graph_in x.graph) tables e.context.function ∙ ap (option_map (λ (x : FunctionTable). graph_in x.graph)) at))
+            (missing-too graphs (functions_in ts) e.context.function are.graphs.count (slice_get-map (λ (x : FunctionTable). graph_in x.graph.now) tables e.context.function ∙ ap (option_map (λ (x : FunctionTable). graph_in x.graph.now)) at))
 
   -- ---- all edges
 

@@ -41,7 +41,7 @@ fn add_at_edge(
     tables: &[FunctionTable],
     edge: &Edge,
 ) -> Result<(), AllocError>
-    ensures { IfOk result (λ _. (c : Checker) (ts : List Text) → AreApartPlaces (functions_in ts) → AreTables c.machine c.depth ts tables.now → Adds (GivesBound c ts (map (λ t. graph_in t.graph) tables.now) edge.now) found.old.items found.new.items) }
+    ensures { IfOk result (λ _. (c : Checker) (ts : List Text) → AreApartPlaces (functions_in ts) → AreTables c.machine c.depth ts tables.now → Adds (GivesBound c ts (map (λ t. graph_in t.graph.now) tables.now) edge.now) found.old.items found.new.items) }
 {
     match item(tables, edge.context.function) {
         Some(table) => add_in_block(alloc, found, table, edge),
@@ -57,7 +57,7 @@ pub(crate) fn bound_where_met(
     tables: &[FunctionTable],
     edges: &[Edge],
 ) -> Result<Vec<(u32, Object)>, AllocError>
-    ensures { IfOk result (λ list. (c : Checker) (ts : List Text) → AreApartPlaces (functions_in ts) → AreTables c.machine c.depth ts tables.now → IsExactly list.items (IsBoundWhereMet c ts (map (λ t. graph_in t.graph) tables.now) edges.now)) }
+    ensures { IfOk result (λ list. (c : Checker) (ts : List Text) → AreApartPlaces (functions_in ts) → AreTables c.machine c.depth ts tables.now → IsExactly list.items (IsBoundWhereMet c ts (map (λ t. graph_in t.graph.now) tables.now) edges.now)) }
 {
     let mut found = Vec::new(alloc);
     for edge in edges {

@@ -93,22 +93,22 @@ module _ (t : Tables) (n : ℕ) (f : Frame) (frame : IsFrame t n f) (p : IsPlace
   keys = f.objects.now.keys
 
   abbrev graph : Graph
-  graph = graph_in f.table.now.graph
+  graph = graph_in f.table.now.graph.now
 
   abbrev number : ℕ
-  number = swapped (graph_in f.table.now.graph).entry b
+  number = swapped (graph_in f.table.now.graph.now).entry b
 
   abbrev pub events : List Event
-  events = events_at (slice_get (graph_in f.table.now.graph).blocks (swapped (graph_in f.table.now.graph).entry b))
+  events = events_at (slice_get (graph_in f.table.now.graph.now).blocks (swapped (graph_in f.table.now.graph.now).entry b))
 
   abbrev pub here : List Happening
-  here = map (happening_at u.now) (events_at (slice_get (graph_in f.table.now.graph).blocks (swapped (graph_in f.table.now.graph).entry b)))
+  here = map (happening_at u.now) (events_at (slice_get (graph_in f.table.now.graph.now).blocks (swapped (graph_in f.table.now.graph.now).entry b)))
 
   -- the block with the number, and the objects that are followed there
   block-is : block_at (graphs_in t) n b ≡ number
   block-is =
       ap (λ (o : Option Graph). if_there o b (λ (g : Graph). swapped g.entry b))
-      (slice_get-map (λ (x : FunctionTable). graph_in x.graph) t.functions.now n ∙ ap (option_map (λ (x : FunctionTable). graph_in x.graph)) frame.table)
+      (slice_get-map (λ (x : FunctionTable). graph_in x.graph.now) t.functions.now n ∙ ap (option_map (λ (x : FunctionTable). graph_in x.graph.now)) frame.table)
 
   listed-is : listed_at (objects_in t) n ≡ keys
   listed-is = ap (λ (o : Option (List Object)). if_there o [] (λ (os : List Object). os)) frame.objects

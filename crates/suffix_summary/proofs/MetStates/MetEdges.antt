@@ -36,40 +36,40 @@ module _ (c : Checker) (ts : List Text) (apart : AreApartPlaces (functions_in ts
 
   module _ (tables : List FunctionTable) (are : AreTables c.machine c.depth ts tables) (e : NumberedEdge) (k : Bool) where
     abbrev graphs : List Graph
-    graphs = map (λ (t : FunctionTable). graph_in t.graph) tables
+    graphs = map (λ (t : FunctionTable). graph_in t.graph.now) tables
 
     -- the events of a block of a graph of this function
     abbrev events : Defined → List Block → ℕ → List Happening
     events d bs b = map (happening ts (function_of d)) (events_at (slice_get bs b))
 
-    graph-of : (t : FunctionTable) (n : ℕ) → slice_get tables n ≡ Some t → slice_get graphs n ≡ Some (graph_in t.graph)
-    graph-of t n at = slice_get-map (λ (x : FunctionTable). graph_in x.graph) tables n ∙ ap (option_map (λ (x : FunctionTable). graph_in x.graph)) at
+    graph-of : (t : FunctionTable) (n : ℕ) → slice_get tables n ≡ Some t → slice_get graphs n ≡ Some (graph_in t.graph.now)
+    graph-of t n at = slice_get-map (λ (x : FunctionTable). graph_in x.graph.now) tables n ∙ ap (option_map (λ (x : FunctionTable). graph_in x.graph.now)) at
 
     pub at-edge : (t : FunctionTable) (old new : List Member) → slice_get tables e.context.function ≡ Some t
         → ((d : Defined) (bs : List Block) → AreBlockTables c.machine c.depth ts d bs t.blocks.items
-        → Adds (GivesAmong c (function_of d) k (events d bs (swapped (graph_in t.graph).entry e.block)) e.tuple.global e.context.function) old new)
+        → Adds (GivesAmong c (function_of d) k (events d bs (swapped (graph_in t.graph.now).entry e.block)) e.tuple.global e.context.function) old new)
         → Adds (GivesInKind c ts graphs e k) old new
-    at-edge t old new at v = adds_same (v d.0 (graph_in t.graph).blocks (are.blocks e.context.function d.0 t d.1 at)) to from
+    at-edge t old new at v = adds_same (v d.0 (graph_in t.graph.now).blocks (are.blocks e.context.function d.0 t d.1 at)) to from
       where
         n : ℕ
         n = e.context.function
 
         d : (x : Defined) × (slice_get (functions_in ts) n ≡ Some x)
-        d = there-too graphs (functions_in ts) n (graph_in t.graph) are.graphs.count (graph-of t n at)
+        d = there-too graphs (functions_in ts) n (graph_in t.graph.now) are.graphs.count (graph-of t n at)
 
         fn : Function
         fn = function_of d.0
 
         b : ℕ
-        b = swapped (graph_in t.graph).entry e.block
+        b = swapped (graph_in t.graph.now).entry e.block
 
-        same : graph_at ts graphs fn ≡ graph_in t.graph
-        same = graph-at ts apart graphs n d.0 (graph_in t.graph) d.1 (graph-of t n at)
+        same : graph_at ts graphs fn ≡ graph_in t.graph.now
+        same = graph-at ts apart graphs n d.0 (graph_in t.graph.now) d.1 (graph-of t n at)
 
         block-is : block_at graphs n e.block ≡ b
         block-is = ap (λ (o : Option Graph). if_there o e.block (λ (g : Graph). swapped g.entry e.block)) (graph-of t n at)
 
-        events-are : events d.0 (graph_in t.graph).blocks b ≡ (flow_graphs c ts graphs).events fn (block_at graphs n e.block)
+        events-are : events d.0 (graph_in t.graph.now).blocks b ≡ (flow_graphs c ts graphs).events fn (block_at graphs n e.block)
         events-are =
             ap (λ (x : Graph). events d.0 x.blocks b) (sym same)
             ∙ ap (λ (z : ℕ). (flow_graphs c ts graphs).events fn z) (sym block-is)
@@ -77,14 +77,14 @@ module _ (c : Checker) (ts : List Text) (apart : AreApartPlaces (functions_in ts
         named : function_at ts n ≡ Some fn
         named = ap (option_map function_of) d.1
 
-        to : (y : Member) → GivesAmong c fn k (events d.0 (graph_in t.graph).blocks b) e.tuple.global n y → GivesInKind c ts graphs e k y
+        to : (y : Member) → GivesAmong c fn k (events d.0 (graph_in t.graph.now).blocks b) e.tuple.global n y → GivesInKind c ts graphs e k y
         to y w = record {
           fn = fn;
           named = named;
           gives = subst (λ (hs : List Happening). GivesAmong c fn k hs e.tuple.global n y) events-are w;
         }
 
-        from : (y : Member) → GivesInKind c ts graphs e k y → GivesAmong c fn k (events d.0 (graph_in t.graph).blocks b) e.tuple.global n y
+        from : (y : Member) → GivesInKind c ts graphs e k y → GivesAmong c fn k (events d.0 (graph_in t.graph.now).blocks b) e.tuple.global n y
         from y w =
             subst (λ (hs : List Happening). GivesAmong c fn k hs e.tuple.global n y) (sym events-are)
             (subst (λ (z : Function). GivesAmong c z k ((flow_graphs c ts graphs).events z (block_at graphs n e.block)) e.tuple.global n y) (same_Some w.fn fn (sym w.named ∙ named)) w.gives)
@@ -96,7 +96,7 @@ module _ (c : Checker) (ts : List Text) (apart : AreApartPlaces (functions_in ts
         missing : function_at ts e.context.function ≡ None
         missing =
             ap (option_map function_of)
-            (missing-too graphs (functions_in ts) e.context.function are.graphs.count (slice_get-map (λ (x : FunctionTable). graph_in x.graph) tables e.context.function ∙ ap (option_map (λ (x : FunctionTable). graph_in x.graph)) at))
+            (missing-too graphs (functions_in ts) e.context.function are.graphs.count (slice_get-map (λ (x : FunctionTable). graph_in x.graph.now) tables e.context.function ∙ ap (option_map (λ (x : FunctionTable). graph_in x.graph.now)) at))
 
   -- ---- in frames of all kinds for which it stands
 

@@ -1,14 +1,15 @@
 //! The reports of path edges.
 
-ghost use Rattle.std.specs.Prelude.{List, IfOk};
+ghost use Rattle.std.specs.Prelude.{◌≡◌, List, Some, slice_get, IfOk};
 ghost use Rattle.function_tables.specs.EngineTables.Known.{AreKnown, IsFrame};
 ghost use Rattle.least_set.specs.Logs.{IsExactly, SomeGives};
+ghost use Rattle.numbered_engine.specs.declared.edges.NumberedEdge.{NumberedEdge as Edge};
 ghost use Rattle.path_model.specs.CheckerModel.Choices.{State};
 ghost use Rattle.suffix_summary.specs.EdgeReports.Shown.{SaysAtEdge, ShowsIn};
 
 use crate::edge_reports::said_reports::said_by_all;
 use function_tables::{Frame, Tables, item};
-use numbered_engine::{NumberedEdge, NumberedEngine, firings_at};
+use numbered_engine::{EdgeLog, NumberedEdge, NumberedEngine, firings_at};
 use numbered_program::swapped;
 use ordered_reports::unit_of;
 use report_model::Report;
@@ -70,18 +71,34 @@ fn shown<L>(
     said_at_edge(alloc, tables, edge, firings.as_slice())
 }
 
+// The reports that the edge at an index shows.
+fn shown_at<L>(
+    alloc: Global,
+    tables: &Tables,
+    engine: &NumberedEngine<L>,
+    log: &EdgeLog,
+    index: usize,
+) -> Result<Vec<Report>, AllocError>
+    ensures { IfOk result (λ list. (states : List State) (e : Edge) → AreKnown tables.now → slice_get log.now.keys index ≡ Some e → IsExactly list.items (ShowsIn tables.now states engine.now.program.now e)) }
+{
+    match log.get(index) {
+        Some(edge) => shown(alloc, tables, engine, &edge),
+        None => Ok(Vec::new(alloc)),
+    }
+}
+
 /// The reports that these edges show over the rows of the engine, one edge after the other. One that several edges show is there as often.
 pub(crate) fn all_shown<L>(
     alloc: Global,
     tables: &Tables,
     engine: &NumberedEngine<L>,
-    edges: &[NumberedEdge],
+    log: &EdgeLog,
 ) -> Result<Vec<Report>, AllocError>
-    ensures { IfOk result (λ list. (states : List State) → AreKnown tables.now → IsExactly list.items (SomeGives (ShowsIn tables.now states engine.now.program.now) edges.now)) }
+    ensures { IfOk result (λ list. (states : List State) → AreKnown tables.now → IsExactly list.items (SomeGives (ShowsIn tables.now states engine.now.program.now) log.now.keys)) }
 {
     let mut reports = Vec::new(alloc);
-    for edge in edges {
-        let mut more = shown(alloc, tables, engine, edge)?;
+    for index in 0..log.len() {
+        let mut more = shown_at(alloc, tables, engine, log, index)?;
         reports.append(&mut more)?;
     }
     Ok(reports)

@@ -1,12 +1,13 @@
 //! What takes a rule in the blocks of path edges while it is unknown.
 
-ghost use Rattle.std.specs.Prelude.{◌≡◌, List, map, slice_get, IfOk};
+ghost use Rattle.std.specs.Prelude.{◌≡◌, List, Some, map, slice_get, IfOk};
 ghost use Rattle.flow_graph.specs.CPaths.BlockGraphs.{events_at};
 ghost use Rattle.flow_graph.specs.CPaths.Graphs.{Block};
 ghost use Rattle.flow_graph.specs.Seen.{graph_in};
 ghost use Rattle.function_tables.specs.Tables.{AreBlockTables, AreTables};
 ghost use Rattle.least_set.specs.Logs.{Adds, IsExactly};
 ghost use Rattle.numbered_engine.specs.Program.{is_own_frame};
+ghost use Rattle.numbered_engine.specs.declared.edges.NumberedEdge.{NumberedEdge as Edge};
 ghost use Rattle.numbered_program.specs.Views.{swapped};
 ghost use Rattle.path_model.specs.CheckerGraphs.Graphs.{AreApartPlaces};
 ghost use Rattle.path_model.specs.CheckerModel.Reports.{Checker};
@@ -17,7 +18,7 @@ ghost use Rattle.typed_unit.specs.Texts.{Text};
 
 use crate::met_states::events::{Frames, add_at_events};
 use function_tables::{FunctionTable, item};
-use numbered_engine::{FunctionRows, NumberedEdge, ProgramRows};
+use numbered_engine::{EdgeLog, FunctionRows, NumberedEdge, ProgramRows};
 use numbered_program::swapped;
 use objects::Object;
 use row_flows::NumberedTuple;
@@ -31,7 +32,7 @@ fn add_in_block(
     edge: &NumberedEdge,
     is_root: bool,
 ) -> Result<(), AllocError>
-    ensures { IfOk result (λ _. (c : Checker) (ts : List Text) (d : Defined) (bs : List Block) → AreBlockTables c.machine c.depth ts d bs table.now.blocks.items → Adds (GivesAmong c (function_of d) is_root (map (happening ts (function_of d)) (events_at (slice_get bs (swapped (graph_in table.now.graph).entry edge.now.block)))) edge.now.tuple.global edge.now.context.function) found.old.items found.new.items) }
+    ensures { IfOk result (λ _. (c : Checker) (ts : List Text) (d : Defined) (bs : List Block) → AreBlockTables c.machine c.depth ts d bs table.now.blocks.items → Adds (GivesAmong c (function_of d) is_root (map (happening ts (function_of d)) (events_at (slice_get bs (swapped (graph_in table.now.graph.now).entry edge.now.block)))) edge.now.tuple.global edge.now.context.function) found.old.items found.new.items) }
 {
     let frames = Frames {
         function: edge.context.function,
@@ -55,7 +56,7 @@ fn add_in_kind(
     edge: &NumberedEdge,
     is_root: bool,
 ) -> Result<(), AllocError>
-    ensures { IfOk result (λ _. (c : Checker) (ts : List Text) → AreApartPlaces (functions_in ts) → AreTables c.machine c.depth ts tables.now → Adds (GivesInKind c ts (map (λ t. graph_in t.graph) tables.now) edge.now is_root) found.old.items found.new.items) }
+    ensures { IfOk result (λ _. (c : Checker) (ts : List Text) → AreApartPlaces (functions_in ts) → AreTables c.machine c.depth ts tables.now → Adds (GivesInKind c ts (map (λ t. graph_in t.graph.now) tables.now) edge.now is_root) found.old.items found.new.items) }
 {
     match item(tables, edge.context.function) {
         Some(table) => add_in_block(alloc, found, table, edge, is_root),
@@ -88,13 +89,30 @@ fn add_at_edge(
     program: &ProgramRows,
     edge: &NumberedEdge,
 ) -> Result<(), AllocError>
-    ensures { IfOk result (λ _. (c : Checker) (ts : List Text) → AreApartPlaces (functions_in ts) → AreTables c.machine c.depth ts tables.now → Adds (GivesBound c ts (map (λ t. graph_in t.graph) tables.now) program.now edge.now) found.old.items found.new.items) }
+    ensures { IfOk result (λ _. (c : Checker) (ts : List Text) → AreApartPlaces (functions_in ts) → AreTables c.machine c.depth ts tables.now → Adds (GivesBound c ts (map (λ t. graph_in t.graph.now) tables.now) program.now edge.now) found.old.items found.new.items) }
 {
     add_in_kind(alloc, found, tables, edge, false)?;
     if !is_own(program, edge) {
         return Ok(());
     }
     add_in_kind(alloc, found, tables, edge, true)
+}
+
+// Puts last what takes a rule in the block of the edge at an index, in frames of the kinds for which the edge stands.
+fn add_at_index(
+    alloc: Global,
+    found: &mut Vec<(u32, Object)>,
+    tables: &[FunctionTable],
+    program: &ProgramRows,
+    log: &EdgeLog,
+    index: usize,
+) -> Result<(), AllocError>
+    ensures { IfOk result (λ _. (c : Checker) (ts : List Text) (e : Edge) → AreApartPlaces (functions_in ts) → AreTables c.machine c.depth ts tables.now → slice_get log.now.keys index ≡ Some e → Adds (GivesBound c ts (map (λ t. graph_in t.graph.now) tables.now) program.now e) found.old.items found.new.items) }
+{
+    match log.get(index) {
+        Some(edge) => add_at_edge(alloc, found, tables, program, &edge),
+        None => Ok(()),
+    }
 }
 
 /// The objects that rules bind where their global states are met by these edges over these rows, each with the number of its function: those
@@ -104,13 +122,13 @@ pub(crate) fn bound_where_met(
     alloc: Global,
     tables: &[FunctionTable],
     program: &ProgramRows,
-    edges: &[NumberedEdge],
+    log: &EdgeLog,
 ) -> Result<Vec<(u32, Object)>, AllocError>
-    ensures { IfOk result (λ list. (c : Checker) (ts : List Text) → AreApartPlaces (functions_in ts) → AreTables c.machine c.depth ts tables.now → IsExactly list.items (IsBoundWhereMet c ts (map (λ t. graph_in t.graph) tables.now) program.now edges.now)) }
+    ensures { IfOk result (λ list. (c : Checker) (ts : List Text) → AreApartPlaces (functions_in ts) → AreTables c.machine c.depth ts tables.now → IsExactly list.items (IsBoundWhereMet c ts (map (λ t. graph_in t.graph.now) tables.now) program.now log.now.keys)) }
 {
     let mut found = Vec::new(alloc);
-    for edge in edges {
-        add_at_edge(alloc, &mut found, tables, program, edge)?;
+    for index in 0..log.len() {
+        add_at_index(alloc, &mut found, tables, program, log, index)?;
     }
     Ok(found)
 }

@@ -2,11 +2,11 @@ use Rattle.std.proofs.Common.{length, map, string_bytes, sym, ap, ◌+◌, ◌�
 use Rattle.std.proofs.lemmas.Result.{IfOk-weaker}
 use Rattle.report_model.proofs.OfReporters.Appending.{on_err}
 use Rattle.command_words.specs.Words.{is_checker_word, is_source_word}
+use Rattle.command.specs.Ways.Counts.{AreCounted}
 use Rattle.command.specs.Ways.Plans.{IsAmong, IsPlanOf}
 use Rattle.command.specs.Tasks.{command_of}
 use Rattle.command.proofs.Plans.{due_for_none, due_for_reports, failed_for_none, is_among, kind_few, leaves_for_none, leaves_for_reports, of_both, with_both}
 use Rattle.command.specs.JudgedFiles.FirstFault.{AnswersUnjudged}
-use Rattle.command.specs.JudgedFiles.Judged.{AreAccepted}
 use Rattle.request_files.specs.Telling.{may_hold}
 use Rattle.request_files.specs.Views.{words_of}
 use Rattle.command.proofs.plan.plan_task.Goals as goal
@@ -21,10 +21,10 @@ pub returns-in-Ok-clause-due : goal.returns-in-Ok-clause-due
 returns-in-Ok-clause-due g c =
     let holds = may_hold (g.F.Files.contents c.args.files.now) in
     let command = command_of c.args.task.now in
-    let accepted = of_both (λ xs ys. AreAccepted holds xs ys c.args.task.now.depth c.in-Ok.reports.items) _ _ _ _ (ap words_of c.deref.ensures.value ∙ c.in_ok-checkers.ensures) (ap words_of c.deref-2.ensures.value ∙ c.in_ok-sources.ensures) c.in-Ok.ensures.accepted in
+    let counted = of_both (λ xs ys. AreCounted holds xs ys c.args.task.now.depth c.args.task.now.stats c.in-Ok.found.reports.items c.in-Ok.found.entries) _ _ _ _ (ap words_of c.deref.ensures.value ∙ c.in_ok-checkers.ensures) (ap words_of c.deref-2.ensures.value ∙ c.in_ok-sources.ensures) c.in-Ok.ensures.accepted in
     IfOk-weaker c.plan_reports.result _ _
     (λ plan p. due_for_reports holds command (g.F.Files.failed c.args.files.now) (g.F.Files.failed c.reports_of.new.files)
-    (λ reports. map (λ b. (goal.Reporter-dyn g (b.vtable, b.value)).rendered b.value reports) c.args.reporters.now.items) c.in-Ok.reports.items plan.status plan.text.items plan.line accepted c.in-Ok.ensures.none_failed p)
+    (λ reports. map (λ b. (goal.Reporter-dyn g (b.vtable, b.value)).rendered b.value reports) c.args.reporters.now.items) c.in-Ok.found.reports.items c.in-Ok.found.entries plan.status plan.text.items plan.line counted c.in-Ok.ensures.none_failed p)
     (rw c.deref-in-Ok.ensures.value at c.plan_reports.ensures.plan)
 
 pub returns-in-Ok-clause-leaves : goal.returns-in-Ok-clause-leaves

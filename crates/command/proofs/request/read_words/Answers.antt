@@ -33,7 +33,7 @@ returns-clause-request g c =
     let given = c.in-Some-task_of.ensures.given in
     let whole = by_positions words called command c.in-Ok.files.items _ _ given many few c.in-Ok.ensures in
     let last = last_positions words called command c.in-Ok.files.items _ _ given many few c.in-Ok.ensures in
-    (subst (λ place. IsCommand words called (record { depth = command.depth; place = place; files = words_at words c.in-Ok.files.items })) (sym c.short_place.ensures) whole, last)
+    (subst (λ place. IsCommand words called (record { depth = command.depth; stats = command.stats; place = place; files = words_at words c.in-Ok.files.items })) (sym c.short_place.ensures) whole, last)
 
 pub returns-clause-generation : goal.returns-clause-generation
 returns-clause-generation g c count is = absurd (c.read_generation.ensures.none c.in_default.is count is)

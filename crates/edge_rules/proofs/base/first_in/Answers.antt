@@ -13,5 +13,5 @@ returns c =
     let objects = c.as_slice-objects.result.now in
     if-ok _ _ c.first_edges.result
     (λ list x k h. first-exactly t n f (place t n f k h) list.items
-    (x ∙ ap (λ b. first_edges n b objects) c.entry.ensures.number ∙ ap (first_edges n (graph_in f.table.now.graph).entry) c.as_slice-objects.ensures.keys))
+    (x ∙ ap (λ b. first_edges n b objects) c.entry.ensures.number ∙ ap (first_edges n (graph_in f.table.now.graph.now).entry) c.as_slice-objects.ensures.keys))
     c.first_edges.ensures

@@ -17,7 +17,7 @@ returns-in-Some c =
     (λ list x k h.
     let p = place t e.context.function f k h in
     let there = ap (λ l. slice_get l e.block) (sym c.as_slice.ensures.value) ∙ sym c.item.ensures ∙ ap option_copied c.in-Some.is in
-    let rules = rules-there (checker_in t).machine t.depth (texts_in t) p.defined (graph_in f.table.now.graph).blocks f.table.now.blocks.items e.block c.in-Some.block.now p.blocks there in
+    let rules = rules-there (checker_in t).machine t.depth (texts_in t) p.defined (graph_in f.table.now.graph.now).blocks f.table.now.blocks.items e.block c.in-Some.block.now p.blocks there in
     crossed t e f p list.items (x (checker_in t) (function_of p.defined) _ (subst (AreOfEvents (checker_in t).machine t.depth (function_of p.defined) _) (sym c.as_slice-in-Some.ensures.value) rules) p.plain))
     c.ends.ensures.exact
 
@@ -30,5 +30,5 @@ returns-in-None c =
     (λ list x k h.
     let p = place t e.context.function f k h in
     let missing = ap (λ l. slice_get l e.block) (sym c.as_slice.ensures.value) ∙ sym c.item.ensures ∙ ap option_copied c.in-None.is in
-    crossed t e f p list.items (x (checker_in t) (function_of p.defined) _ (rules-none (checker_in t).machine t.depth (texts_in t) p.defined (graph_in f.table.now.graph).blocks f.table.now.blocks.items e.block p.blocks missing) p.plain))
+    crossed t e f p list.items (x (checker_in t) (function_of p.defined) _ (rules-none (checker_in t).machine t.depth (texts_in t) p.defined (graph_in f.table.now.graph.now).blocks f.table.now.blocks.items e.block p.blocks missing) p.plain))
     c.ends-in-None.ensures.exact

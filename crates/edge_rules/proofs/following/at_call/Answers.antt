@@ -16,7 +16,7 @@ returns-in_default c =
     if-ok _ _ c.onward.result
     (λ list x k h e b.
     let p = place t a.context.function f k h in
-    let has = ending-there (graph_in f.table.now.graph).blocks a.block _ e in
+    let has = ending-there (graph_in f.table.now.graph.now).blocks a.block _ e in
     let none = c.in_default.ensures.followed k a.context.function p.defined has.0 call c.args.next p.is p.blocks has.1 in
     passed-leads t a f p c.args.tuples.now b list.items call c.args.next e none x)
     c.onward.ensures
@@ -31,7 +31,7 @@ returns-in-Some-site c =
     if-ok _ _ c.entered_edges.result
     (λ list x k h e b.
     let p = place t a.context.function f k h in
-    let has = ending-there (graph_in f.table.now.graph).blocks a.block _ e in
+    let has = ending-there (graph_in f.table.now.graph.now).blocks a.block _ e in
     let q = place t callee.number callee.frame k c.in-Some.ensures.there in
     let followed = c.in-Some.ensures.followed k a.context.function p.defined has.0 call c.args.next p.is p.blocks has.1 in
     let same = c.in-Some-site.ensures.there p.defined p.is in

@@ -10,7 +10,7 @@ pub returns : goal.returns
 returns c =
     let units = c.args.program.now.units.items in
     let ts = texts_of units in
-    let gs = map (λ t. graph_in t.graph) c.args.tables.now in
+    let gs = map (λ t. graph_in t.graph.now) c.args.tables.now in
     if-ok _ _ c.sets_over.result
     (λ sets known k deep are plain.
     let rows = subst (AreRows k ts gs) (sym c.as_slice.ensures.value) (c.in_ok-rows.ensures k are) in

@@ -7,4 +7,4 @@ pub returns-clause-steps : goal.returns-clause-steps
 returns-clause-steps g c =
     let before = c.args.engine.now.steps.count in
     let h : before ≤ 2 ^ 64 - 1 = omega (arith, c.count-before.ensures) in
-    IfOk-weaker c.least_caching.result _ _ (λ log same. same ∙ times_counted (length log.keys) before h) c.least_caching.ensures.asked
+    IfOk-weaker c.least_in.result _ _ (λ log same. same ∙ times_counted (length log.keys) before h) c.least_in.ensures.asked

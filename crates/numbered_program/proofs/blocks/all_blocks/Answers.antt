@@ -20,7 +20,7 @@ loop-number-init c = record {
 pub loop-number-preserved : goal.loop-number-preserved
 loop-number-preserved c =
     let at = c.loop-number in
-    let blocks = (graph_in c.args.source.now.table.now.graph).blocks in
+    let blocks = (graph_in c.args.source.now.table.now.graph.now).blocks in
     let further : at.number < length blocks = grind (arith, common_steps) in
     record {
       made = λ states f i.
@@ -33,5 +33,5 @@ loop-number-preserved c =
 pub returns : goal.returns
 returns c = λ states f i.
     let at = c.loop-number in
-    let all : length (graph_in c.args.source.now.table.now.graph).blocks ≤ at.number = grind (arith, common_steps) in
+    let all : length (graph_in c.args.source.now.table.now.graph.now).blocks ≤ at.number = grind (arith, common_steps) in
     blocks_all states c.args.source.now f i at.number at.blocks.items all at.invariant.count (at.invariant.made states f i)

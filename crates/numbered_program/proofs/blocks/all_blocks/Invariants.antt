@@ -12,7 +12,7 @@ use Rattle.numbered_program.proofs.blocks.all_blocks.Given as goal
 abbrev pub invariant-loop-number : goal.invariant-loop-number
 invariant-loop-number l = record {
   made : (states : List State) (f : Function) → IsSourceOf states l.source f → (b : ℕ) (r : Block) → slice_get l.blocks.items b ≡ Some r
-      → IsBlockAt states l.source f (swapped (graph_in l.source.table.now.graph).entry b) r;
+      → IsBlockAt states l.source f (swapped (graph_in l.source.table.now.graph.now).entry b) r;
   count : length l.blocks.items ≡ l.number;
-  within : l.number ≤ length (graph_in l.source.table.now.graph).blocks;
+  within : l.number ≤ length (graph_in l.source.table.now.graph.now).blocks;
 }

@@ -20,14 +20,14 @@ returns c =
     let gs = graphs_in t in
     let p = c.in_ok-rows.rows in
     let log = c.in_ok-log.log.keys in
-    let bound = c.as_slice-2.result.now in
+    let bound = c.as_slice.result.now in
     let closed = subst (λ (q : ProgramRows). (e : NumberedEdge) → FollowsFrom q log e → Contains log e) c.new-engine.ensures c.in_ok-log.ensures.closed in
     let only = subst (λ (q : ProgramRows). (e : NumberedEdge) → Contains log e → IsDerived q e) c.new-engine.ensures c.in_ok-log.ensures.only in
     if-ok _ _ c.known_sets.result
     (λ sets found. ∥∥₁_elim c.args.known.now.known squash₁ (λ a. ∥∥₁_elim (c.in_ok-rows.ensures a) squash₁ (λ s.
     let listed = c.in_ok-bound.ensures k ts (apart-in t) a.tables in
     let exact : IsExactly bound (IsBoundWhereMet k ts gs p log) =
-    subst (λ (l : List Member). IsExactly l (IsBoundWhereMet k ts gs p log)) (sym c.as_slice-2.ensures.value) (subst (λ l. IsExactly c.in_ok-bound.bound.items (IsBoundWhereMet k ts gs p l)) c.as_slice.ensures.keys listed) in
+    subst (λ (l : List Member). IsExactly l (IsBoundWhereMet k ts gs p log)) (sym c.as_slice.ensures.value) listed in
     ∥∥₁_map (found k refl a.tables (bound-objects k ts gs p log bound exact))
     (followable k ts gs p log bound exact a.tables.graphs (edges-meet t p log closed only a s c.requires) c.known_lists_are_enough.ensures (map (λ z. z.keys) sets.items)))))
     c.known_sets.ensures

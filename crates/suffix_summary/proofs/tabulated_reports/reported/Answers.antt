@@ -17,7 +17,5 @@ returns c =
     (λ list shown.
     all-reported t p log list.items c.in_ok-log.ensures.closed c.in_ok-log.ensures.only known.known
     (subst (λ q. AreKnown t → ∥ AreStanding t q ∥₁) (sym c.new-engine.ensures) c.in_ok-rows.ensures) c.requires
-    (λ states k.
-    subst (λ q. IsExactly list.items (SomeGives (ShowsIn t states q) log)) c.in_ok-log.ensures.same
-    (subst (λ l. IsExactly list.items (SomeGives (ShowsIn t states c.tabulate.new.engine.program.now) l)) c.as_slice.ensures.keys (shown states k))))
+    (λ states k. subst (λ q. IsExactly list.items (SomeGives (ShowsIn t states q) log)) c.in_ok-log.ensures.same (shown states k)))
     c.all_shown.ensures

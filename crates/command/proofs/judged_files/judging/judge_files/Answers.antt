@@ -2,7 +2,7 @@ use Rattle.std.proofs.Common.{length, ap, arith}
 use Rattle.std.proofs.lemmas.List.{length-map}
 use Rattle.metal_tree.specs.Whole.{machine_view}
 use Rattle.request_files.specs.Views.{machines_of, text_of, texts_of}
-use Rattle.command.proofs.JudgedFiles.Accepting.{accepted, as_many_machines, as_many_texts, unlinked}
+use Rattle.command.proofs.JudgedFiles.Accepting.{as_many_machines, as_many_texts, counted, unlinked}
 use Rattle.command.proofs.JudgedFiles.Texts.{few_in_all, have_token}
 use Rattle.command.proofs.judged_files.judging.judge_files.Goals as goal
 
@@ -24,8 +24,9 @@ judge_units-requires-clause-placed g c = rw c.deref-2.ensures.value (have_token 
 
 pub returns-in-Ok-judge_units-clause-accepted : goal.returns-in-Ok-judge_units-clause-accepted
 returns-in-Ok-judge_units-clause-accepted g c =
-    accepted _ _ _ c.read_files.new.names (machines_of c.in-Ok.read.checkers.machines.items) (texts_of c.in-Ok.read.sources.units.items) c.in-Ok.ensures.read c.args.depth c.in-Ok-judge_units.reports.items
+    counted _ _ _ c.read_files.new.names (machines_of c.in-Ok.read.checkers.machines.items) (texts_of c.in-Ok.read.sources.units.items) c.in-Ok.ensures.read c.args.depth c.args.stats c.in-Ok-judge_units.found.reports.items c.in-Ok-judge_units.found.entries
     (rw c.deref-2.ensures.value at c.in-Ok-judge_units.ensures.linked) (rw c.deref.ensures.value at (rw c.deref-2.ensures.value at c.in-Ok-judge_units.ensures.reports))
+    (rw c.deref.ensures.value at (rw c.deref-2.ensures.value at c.in-Ok-judge_units.ensures.counted))
 
 pub returns-clause-unjudged : goal.returns-clause-unjudged
 returns-clause-unjudged g c =

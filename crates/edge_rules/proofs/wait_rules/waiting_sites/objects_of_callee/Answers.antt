@@ -11,7 +11,7 @@ returns-in-Some c = λ k n h call next ends.
     let callee = c.in-Some.callee in
     let p = place t n f k h in
     let q = place t callee.number callee.frame k c.in-Some.ensures.there in
-    let has = block-there (graph_in f.table.now.graph).blocks b call next ends in
+    let has = block-there (graph_in f.table.now.graph.now).blocks b call next ends in
     call-followed t n b f p call next ends callee.number callee.frame q (c.in-Some.ensures.followed k n p.defined has.0 call next p.is p.blocks has.1)
 
 pub returns-in-None : goal.returns-in-None
@@ -20,5 +20,5 @@ returns-in-None c = λ k n h call next ends.
     let f = c.args.frame.now in
     let b = c.args.block in
     let p = place t n f k h in
-    let has = block-there (graph_in f.table.now.graph).blocks b call next ends in
+    let has = block-there (graph_in f.table.now.graph.now).blocks b call next ends in
     call-passed t n b f p call next ends (c.in-None.ensures.followed k n p.defined has.0 call next p.is p.blocks has.1)

@@ -9,10 +9,10 @@ pub returns-in-Some : goal.returns-in-Some
 returns-in-Some c = λ m depth ts d es n next tables has.
     let t = c.args.table.now in
     let there = ap (λ l. slice_get l c.args.block) (sym c.as_slice.ensures.value) ∙ sym c.item.ensures ∙ ap option_copied c.in-Some.is in
-    callee-there m depth ts d (graph_in t.graph).blocks t.blocks.items c.args.block c.in-Some.found.now es n next tables has there
+    callee-there m depth ts d (graph_in t.graph.now).blocks t.blocks.items c.args.block c.in-Some.found.now es n next tables has there
 
 pub returns-in-None : goal.returns-in-None
 returns-in-None c = λ m depth ts d es n next tables has.
     let t = c.args.table.now in
     let missing = ap (λ l. slice_get l c.args.block) (sym c.as_slice.ensures.value) ∙ sym c.item.ensures ∙ ap option_copied c.in-None.is in
-    absurd (callee-missing m depth ts d (graph_in t.graph).blocks t.blocks.items c.args.block es (Calls n next) tables has missing)
+    absurd (callee-missing m depth ts d (graph_in t.graph.now).blocks t.blocks.items c.args.block es (Calls n next) tables has missing)

@@ -8,7 +8,7 @@ use Rattle.relevant.proofs.RelevantObjects.Gathered.{if-ok}
 
 pub returns : goal.returns
 returns c =
-    let graph = graph_in c.args.table.now.graph in
+    let graph = graph_in c.args.table.now.graph.now in
     if-ok _ _ c.add_in_blocks.result
     (λ u added m depth ts d are.
     let tables = subst (AreBlockTables m depth ts d graph.blocks) (sym c.as_slice.ensures.value) are in

@@ -12,7 +12,7 @@ use Rattle.call_graph.specs.OfPrograms.Definitions.{definitions, trees_in}
 
 pub loop-number-init : goal.loop-number-init
 loop-number-init c =
-    λ k ts are. let gs = map (λ t. graph_in t.graph) c.args.tables.now in subst (λ l. IsExactly l (BoundBefore c.args.sources k ts gs 0)) (sym c.new-found.ensures.items) (before-none c.args.sources k ts gs)
+    λ k ts are. let gs = map (λ t. graph_in t.graph.now) c.args.tables.now in subst (λ l. IsExactly l (BoundBefore c.args.sources k ts gs 0)) (sym c.new-found.ensures.items) (before-none c.args.sources k ts gs)
 
 pub loop-number-preserved : goal.loop-number-preserved
 loop-number-preserved c =

@@ -10,4 +10,4 @@ use Rattle.least_set.specs.Logs.{IsExactly}
 -- what rules bind in the functions before this one is there
 abbrev pub invariant-loop-number : goal.invariant-loop-number
 invariant-loop-number l =
-    (c : Checker) (ts : List Text) → AreTables c.machine c.depth ts l.tables → IsExactly l.found.items (BoundBefore l.sources c ts (map (λ t. graph_in t.graph) l.tables) l.number)
+    (c : Checker) (ts : List Text) → AreTables c.machine c.depth ts l.tables → IsExactly l.found.items (BoundBefore l.sources c ts (map (λ t. graph_in t.graph.now) l.tables) l.number)

@@ -17,7 +17,7 @@ pub returns : goal.returns
 returns c =
     let units = c.args.program.now.units.items in
     let ts = texts_of units in
-    let gs = map (λ t. graph_in t.graph) c.args.tables.now in
+    let gs = map (λ t. graph_in t.graph.now) c.args.tables.now in
     let sources = c.args.sources in
     let found = c.in_ok-found.found.keys in
     let apart = apart-texts units c.args.program.now.numbered in

@@ -13,4 +13,4 @@ use Rattle.saturation.proofs.met_states.edges.bound_where_met.Given as goal
 abbrev pub invariant-loop-edge : goal.invariant-loop-edge
 invariant-loop-edge l =
     (c : Checker) (ts : List Text) → AreApartPlaces (functions_in ts) → AreTables c.machine c.depth ts l.tables
-    → Adds (SomeGives (GivesBound c ts (map (λ t. graph_in t.graph) l.tables)) (take l.edge-index l.edges)) [] l.found.items
+    → Adds (SomeGives (GivesBound c ts (map (λ t. graph_in t.graph.now) l.tables)) (take l.edge-index l.edges)) [] l.found.items

@@ -1,5 +1,7 @@
-use Rattle.std.proofs.Common.{◌+◌, sym, subst, get_or, take, []}
+use Rattle.std.proofs.Common.{◌+◌, ◌≤◌, ◌<◌, arith, length, sym, subst, get_or, take, []}
+use Rattle.std.proofs.lemmas.Grind.{common_steps}
 use Rattle.std.proofs.lemmas.List.{get_or_default}
+use Rattle.std.proofs.lemmas.Option.{slice_get-get_or}
 use Rattle.block_flows.proofs.Fires.{exactly-joined}
 use Rattle.least_set.specs.Logs.{IsExactly, SomeGives}
 use Rattle.least_set.proofs.Enumerating.{exactly_none}
@@ -15,22 +17,33 @@ no_tuple = record { global = 0; state = 0; object = 0 }
 abbrev zero : NumberedEdge
 zero = record { context = record { function = 0; entry = no_tuple }; block = 0; tuple = no_tuple }
 
-pub loop-edge-init : goal.loop-edge-init
-loop-edge-init g c = λ states k.
-    let G = ShowsIn c.args.tables.now states c.args.engine.now.program.now in
-    subst (λ l. IsExactly l (SomeGives G [])) (sym c.new-reports.ensures.items) (exactly_none G)
+pub loop-index-init : goal.loop-index-init
+loop-index-init g c = record {
+  shown = λ states k.
+      let G = ShowsIn c.args.tables.now states c.args.engine.now.program.now in
+      subst (λ l. IsExactly l (SomeGives G [])) (sym c.new-reports.ensures.items) (exactly_none G);
+  within = omega arith;
+}
 
-pub loop-edge-preserved : goal.loop-edge-preserved
-loop-edge-preserved g c = λ states k.
-    let G = ShowsIn c.args.tables.now states c.args.engine.now.program.now in
-    let xs = c.args.edges.now in
-    let i = c.loop-edge.edge-index in
-    let x = get_or xs i zero in
-    let within = c.loop-edge-test.true in
-    subst (λ l. IsExactly l (SomeGives G (take (i + 1) xs))) (sym c.in_ok-append.ensures.items)
-    (exactly-joined G xs i x c.loop-edge.reports.items c.in_ok-more.more.items within (get_or_default xs i zero x within) (c.loop-edge.invariant states k) (c.in_ok-more.ensures states k))
+pub loop-index-preserved : goal.loop-index-preserved
+loop-index-preserved g c =
+    let at = c.loop-index in
+    let xs = c.args.log.now.keys in
+    let i = at.index in
+    let within : i < length xs = grind (arith, common_steps) in
+    record {
+      shown = λ states k.
+          let G = ShowsIn c.args.tables.now states c.args.engine.now.program.now in
+          let x = get_or xs i zero in
+          subst (λ l. IsExactly l (SomeGives G (take (i + 1) xs))) (sym c.in_ok-append.ensures.items)
+          (exactly-joined G xs i x at.reports.items c.in_ok-more.more.items within (get_or_default xs i zero x within) (at.invariant.shown states k)
+          (c.in_ok-more.ensures states x k (slice_get-get_or xs i zero within)));
+      within = grind (arith, within);
+    }
 
 pub returns : goal.returns
 returns g c = λ states k.
-    all_of (λ l. IsExactly c.loop-edge.reports.items (SomeGives (ShowsIn c.args.tables.now states c.args.engine.now.program.now) l)) c.args.edges.now c.loop-edge.edge-index
-    c.loop-edge-test.false c.loop-edge.auto.edge-index-end (c.loop-edge.invariant states k)
+    let at = c.loop-index in
+    let xs = c.args.log.now.keys in
+    let all : length xs ≤ at.index = grind (arith, common_steps) in
+    all_of (λ l. IsExactly at.reports.items (SomeGives (ShowsIn c.args.tables.now states c.args.engine.now.program.now) l)) xs at.index all at.invariant.within (at.invariant.shown states k)

@@ -14,7 +14,7 @@ pub returns-in-Some : goal.returns-in-Some
 returns-in-Some c =
     let e = c.args.edge.now in
     let tables = c.args.table.now.blocks.items in
-    let b = swapped (graph_in c.args.table.now.graph).entry e.block in
+    let b = swapped (graph_in c.args.table.now.graph.now).entry e.block in
     let number = c.swapped-number.ensures ∙ ap (λ first. swapped first e.block) c.entry.ensures.number in
     let at = ap (λ n. slice_get tables n) (sym number) ∙ ap (λ l. slice_get l c.swapped-number.result) (sym c.as_slice.ensures.value) ∙ sym c.item.ensures ∙ ap option_copied c.in-Some.is in
     if-ok _ _ c.add_at_events.result
@@ -28,7 +28,7 @@ pub returns-in-None : goal.returns-in-None
 returns-in-None c =
     let e = c.args.edge.now in
     let tables = c.args.table.now.blocks.items in
-    let b = swapped (graph_in c.args.table.now.graph).entry e.block in
+    let b = swapped (graph_in c.args.table.now.graph.now).entry e.block in
     let number = c.swapped-number.ensures ∙ ap (λ first. swapped first e.block) c.entry.ensures.number in
     let none = ap (λ n. slice_get tables n) (sym number) ∙ ap (λ l. slice_get l c.swapped-number.result) (sym c.as_slice.ensures.value) ∙ sym c.item.ensures ∙ ap option_copied c.in-None.is in
     λ k ts d bs are.

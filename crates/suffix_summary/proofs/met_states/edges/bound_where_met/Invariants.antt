@@ -1,4 +1,4 @@
-use Rattle.std.proofs.Common.{[], List, map, take}
+use Rattle.std.proofs.Common.{◌≤◌, [], List, length, map, take}
 use Rattle.flow_graph.specs.Seen.{graph_in}
 use Rattle.function_tables.specs.Tables.{AreTables}
 use Rattle.least_set.specs.Logs.{Adds, SomeGives}
@@ -10,7 +10,9 @@ use Rattle.typed_unit.specs.Texts.{Text}
 use Rattle.suffix_summary.proofs.met_states.edges.bound_where_met.Given as goal
 
 -- what the edges give that were gone through
-abbrev pub invariant-loop-edge : goal.invariant-loop-edge
-invariant-loop-edge l =
-    (c : Checker) (ts : List Text) → AreApartPlaces (functions_in ts) → AreTables c.machine c.depth ts l.tables
-    → Adds (SomeGives (GivesBound c ts (map (λ t. graph_in t.graph) l.tables) l.program) (take l.edge-index l.edges)) [] l.found.items
+abbrev pub invariant-loop-index : goal.invariant-loop-index
+invariant-loop-index l = record {
+  gives : (c : Checker) (ts : List Text) → AreApartPlaces (functions_in ts) → AreTables c.machine c.depth ts l.tables
+      → Adds (SomeGives (GivesBound c ts (map (λ t. graph_in t.graph.now) l.tables) l.program) (take l.index l.log.keys)) [] l.found.items;
+  within : l.index ≤ length l.log.keys;
+}
