@@ -85,7 +85,7 @@ pub(crate) fn block_tables<'u, 'a>(
     requires filed { function.now.place.file ≡ function.now.file }
     ensures { IfOk result (λ tables. AreBlockTables (machine_view machine.now) depth (texts_of program.now.units.items) (function_of function.now) (graph_in graph.now).blocks tables.items) }
 {
-    let mut tables = Vec::new(alloc);
+    let mut tables = Vec::with_capacity(alloc, graph.count() as usize)?;
     for number in 0..graph.count() {
         let table = block_table(
             alloc,

@@ -23,7 +23,7 @@ pub(crate) fn rules_of<'u, 'a>(
     requires { depth ≤ 8 }
     ensures { IfOk result (λ rules. AreOfEvents (machine_view machine.now) depth (function_of frame.now) (map (happening_in unit.now) events.now) rules.items) }
 {
-    let mut rules = Vec::new(alloc);
+    let mut rules = Vec::with_capacity(alloc, events.len())?;
     for event in events {
         let applied = EventRules::new(alloc, machine, *event, unit, frame, depth)?;
         rules.push(applied)?;

@@ -19,12 +19,22 @@ pub fn empty_sets(alloc: Global, count: u32) -> Result<Vec<IndexSet<Object>>, Al
     Ok(sets)
 }
 
+// Gives back the room that a set of one object doesn't need: most sets are such.
+fn tighten(set: &mut IndexSet<Object>)
+    ensures { set.new.keys ≡ set.old.keys }
+{
+    if set.len() == 1 {
+        set.shrink_to_fit();
+    }
+}
+
 // Puts an object into the set of its function, if there is one.
 fn add_known(sets: &mut Vec<IndexSet<Object>>, member: &Known<Object>) -> Result<(), AllocError>
     ensures { IfOk result (λ _. map (λ s. s.keys) sets.new.items ≡ with_known member.now.function member.now.object (map (λ s. s.keys) sets.old.items)) }
 {
     if let Some(set) = sets.get_mut(member.function as usize) {
         set.insert(copy(&member.object))?;
+        tighten(set);
     }
     Ok(())
 }

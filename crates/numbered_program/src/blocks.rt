@@ -82,7 +82,7 @@ pub(crate) fn all_blocks<'a>(
     ensures { IfOk result (λ blocks. (states : List State) (f : Function) → IsSourceOf states source.now f → AreBlocksOf states source.now f blocks.items) }
 {
     let graph = source.table.graph;
-    let mut blocks = Vec::new(alloc);
+    let mut blocks = Vec::with_capacity(alloc, graph.count() as usize)?;
     for number in 0..graph.count() {
         let block = block_at(alloc, source, swapped(graph.entry(), number))?;
         blocks.push(block)?;

@@ -30,6 +30,9 @@ pub(crate) fn followed_sets(
     let mut engine: NumberedEngine<BlockEntries> = NumberedEngine::new(alloc, &rows);
     let log = tabulate(alloc, &mut engine)?;
     let bound = bound_where_met(alloc, tables.functions, &rows, &log)?;
+    drop(engine);
+    drop(log);
+    drop(rows);
     known_sets(
         alloc,
         tables.program,

@@ -65,7 +65,7 @@ fn rows_of(
 ) -> Result<Vec<Applied>, AllocError>
     ensures { IfOk result (λ rows. rows.items ≡ map (fired_row numbering.now.objects.now.keys numbering.now.states.now.states.keys (setting_in rules.now.setting) (event_of rules.now.event)) applied.now) }
 {
-    let mut rows = Vec::new(alloc);
+    let mut rows = Vec::with_capacity(alloc, applied.len())?;
     for fired in applied {
         rows.push(alternative_row(numbering, rules, fired))?;
     }

@@ -130,6 +130,7 @@ impl ObjectIndex {
         for (place, object) in objects.iter().enumerate() {
             add_object(alloc, &mut numbers, object, place as u32 + 1)?;
         }
+        numbers.shrink_to_fit();
         Ok(ObjectIndex { numbers })
     }
 

@@ -67,7 +67,7 @@ pub fn event_rows(
 ) -> Result<Vec<EventRow>, AllocError>
     ensures { IfOk result (λ rows. (m : Form) (depth : ℕ) (hs : List Happening) (f : Function) → AreOfEvents m depth f hs rules.now → IsIndexOf numbering.now.objects.now.keys index.now → AreObjects depth numbering.now.objects.now.keys → AreEventRows m depth f numbering.now.objects.now.keys numbering.now.states.now.states.keys hs rows.items) }
 {
-    let mut rows = Vec::new(alloc);
+    let mut rows = Vec::with_capacity(alloc, rules.len())?;
     for event in rules {
         let row = event_row(alloc, numbering, index, event)?;
         rows.push(row)?;

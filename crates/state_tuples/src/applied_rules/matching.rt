@@ -68,6 +68,7 @@ fn applied_at<'m, 'a>(
     for rule in rules {
         add_rule(setting, event, rule, &mut applied)?;
     }
+    applied.shrink_to_fit();
     Ok(applied)
 }
 

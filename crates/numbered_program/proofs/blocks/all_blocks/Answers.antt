@@ -12,8 +12,8 @@ none_yet r e = cc
 
 pub loop-number-init : goal.loop-number-init
 loop-number-init c = record {
-  made = λ states f i b r e. absurd (none_yet r (sym (ap (λ l. slice_get l b) c.new-blocks.ensures.items) ∙ e));
-  count = ap length c.new-blocks.ensures.items;
+  made = λ states f i b r e. absurd (none_yet r (sym (ap (λ l. slice_get l b) c.in_ok-blocks.ensures.items) ∙ e));
+  count = ap length c.in_ok-blocks.ensures.items;
   within = omega arith;
 }
 

@@ -11,7 +11,7 @@ pub loop-event-init : goal.loop-event-init
 loop-event-init c = λ m depth hs f a index are.
     let n = c.args.numbering.now in
     let R = λ (h : Happening) (row : EventRow). IsEventRow m depth h f n.objects.now.keys n.states.now.states.keys row in
-    subst (AllZip R []) (sym c.new-rows.ensures.items) tt
+    subst (AllZip R []) (sym c.in_ok-rows.ensures.items) tt
 
 pub loop-event-preserved : goal.loop-event-preserved
 loop-event-preserved c = λ m depth hs f a index are.

@@ -1,4 +1,4 @@
-use Rattle.std.proofs.Common.{map, []}
+use Rattle.std.proofs.Common.{map, [], ap, ◌∙◌}
 use Rattle.state_tuples.proofs.AppliedRules.Lists.{given-next, given-all}
 use Rattle.state_tuples.specs.AppliedRules.Applied.{applied_rule}
 use Rattle.state_tuples.specs.AppliedRules.Events.{applied_of}
@@ -14,5 +14,6 @@ loop-rule-preserved c =
 
 pub returns : goal.returns
 returns c =
-    given-all (applied_rule (setting_in c.args.setting.now) (event_of c.args.event.now)) rule_view c.args.rules.now c.loop-rule.rule-index [] (map applied_of c.loop-rule.applied.items)
+    ap (map applied_of) c.shrink_to_fit.ensures.items
+    ∙ given-all (applied_rule (setting_in c.args.setting.now) (event_of c.args.event.now)) rule_view c.args.rules.now c.loop-rule.rule-index [] (map applied_of c.loop-rule.applied.items)
     c.loop-rule-test.false c.loop-rule.invariant

@@ -18,5 +18,6 @@ loop-place-preserved c = λ v.
 
 pub returns : goal.returns
 returns c = λ v.
-    objects_all (has_variable v) c.as_slice-objects.result.now c.loop-place.place (numbers_at c.loop-place.numbers v) c.loop-place-test.false (c.loop-place.invariant v)
+    ap (λ l. items_of (lookup (same_object (path v [])) l)) c.shrink_to_fit.ensures.entries
+    ∙ objects_all (has_variable v) c.as_slice-objects.result.now c.loop-place.place (numbers_at c.loop-place.numbers v) c.loop-place-test.false (c.loop-place.invariant v)
     ∙ ap (numbers_from (has_variable v) 1) c.as_slice-objects.ensures.keys
