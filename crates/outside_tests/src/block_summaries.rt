@@ -98,25 +98,34 @@ fn no_object_is_left_alone(rt: HostRuntime) -> Result<(), Fail> {
     Ok(())
 }
 
+/// What a call of `enter` leads to for an unknown object: the tuples at the end of the block, and the alternatives that are taken.
+fn entered_once(
+    alloc: Global,
+    summary: &mut BlockSummary,
+    block: &BlockRows,
+    steps: &mut Steps<Entries>,
+) -> Result<(Vec<NumberedTuple>, Vec<Firing>), AllocError> {
+    let exits = summary.enter(alloc, block, &[true], entered(1), steps)?;
+    let tuples = exits.tuples_of(alloc, entered(1).tuple)?;
+    let mut firings = Vec::new(alloc);
+    firings.extend_from_slice(exits.firings.as_slice())?;
+    Ok((tuples, firings))
+}
+
 #[test]
 fn second_call_is_lent_what_the_first_kept(rt: HostRuntime) -> Result<(), Fail> {
     let block = freed_and_used(rt.alloc())?;
     let mut summary = BlockSummary::new(rt.alloc());
     let mut steps: Steps<Entries> = Steps::new();
     assert!(rt; summary.held(&entered(1)).is_none());
-    let first = summary
-        .enter(rt.alloc(), &block, &[true], entered(1), &mut steps)?
-        .firings
-        .len();
-    let second = summary
-        .enter(rt.alloc(), &block, &[true], entered(1), &mut steps)?
-        .firings
-        .len();
-    assert_eq!(rt; first, 1);
-    assert_eq!(rt; second, 1);
+    let first = entered_once(rt.alloc(), &mut summary, &block, &mut steps)?;
+    let second = entered_once(rt.alloc(), &mut summary, &block, &mut steps)?;
+    assert!(rt; first.0.as_slice() == second.0.as_slice());
+    assert!(rt; first.1.as_slice() == second.1.as_slice());
     assert_eq!(rt; steps.count(), 2);
     assert!(rt; summary.held(&entered(1)).is_some());
     if let Some(exits) = summary.held(&entered(1)) {
+        assert!(rt; exits.firings.as_slice() == first.1.as_slice());
         assert_eq!(rt; exits.firings.get(0), Some(&used()));
     }
     assert!(rt; summary.held(&entered(0)).is_none());
