@@ -1,7 +1,7 @@
--- What is done several times.
-use Rattle.std.specs.Prelude.{ℕ, zero, suc}
+-- What is counted, one member after the other.
+use Rattle.std.specs.Prelude.{ℕ, List, [], ◌∷◌}
 
--- so many times, to a value
-abbrev pub times : {A : Type 0} → (A → A) → ℕ → A → A
-times f zero x = x
-times f (suc n) x = f (times f n x)
+-- the number when each of a list was counted
+abbrev pub counted_by : {M : Type 0} → (M → ℕ → ℕ) → List M → ℕ → ℕ
+counted_by count [] n = n
+counted_by count (e ∷ es) n = counted_by count es (count e n)

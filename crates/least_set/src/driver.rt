@@ -3,7 +3,7 @@
 ghost use Rattle.std.specs.Prelude.{◌≡◌, ℕ, ◌<◌, [], IfOk, Contains, Some, length, slice_get};
 ghost use Rattle.least_set.specs.Logs.{Adds, BeginsWith, InOrder, IsExactly, IsOnce, SomeGives};
 ghost use Rattle.least_set.specs.Indexes.{at, AllBelow, Extends};
-ghost use Rattle.least_set.specs.Counts.{times};
+ghost use Rattle.least_set.specs.Counts.{counted_by};
 ghost use Rattle.least_set.specs.TwoPremises.{Answers, Enters, Follows, Kept, Least, Met, Processed};
 
 use crate::indexes::{list_at, push_at};
@@ -107,7 +107,7 @@ fn enter_at<R: CachingRules, L: Log<R::Member>>(
 ) -> Result<Entered<R::Member, R::Context, R::Waiter>, AllocError>
     requires { place < length (L.keys log.now) }
     ensures same { R.source rules.new ≡ R.source rules.old }
-    ensures asked { R.asked rules.new ≡ R.counting (R.asked rules.old) }
+    ensures asked { (e : R.Member) → slice_get (L.keys log.now) place ≡ Some e → R.asked rules.new ≡ R.counting (R.source rules.old) e (R.asked rules.old) }
     ensures enters { IfOk result (λ v. (e : R.Member) × (slice_get (L.keys log.now) place ≡ Some e) × Enters (R.goes (R.source rules.old)) (R.waits (R.source rules.old)) (R.ends (R.source rules.old)) e v) }
 {
     let found = log.get(place);
@@ -126,7 +126,7 @@ fn process<R: CachingRules, L: Log<R::Member>>(
     requires inside { place < length (L.keys log.old) }
     requires below { AllBelow (length (L.keys log.old)) (at R.Context.eq ended.old) }
     ensures same { R.source rules.new ≡ R.source rules.old }
-    ensures asked { R.asked rules.new ≡ R.counting (R.asked rules.old) }
+    ensures asked { (e : R.Member) → slice_get (L.keys log.old) place ≡ Some e → R.asked rules.new ≡ R.counting (R.source rules.old) e (R.asked rules.old) }
     ensures done { IfOk result (λ _. (e : R.Member) × (slice_get (L.keys log.old) place ≡ Some e) × Processed (R.goes (R.source rules.old)) (R.waits (R.source rules.old)) (R.ends (R.source rules.old)) (R.wakes (R.source rules.old)) place e (L.keys log.old) (L.keys log.new) (at R.Context.eq waiting.old) (at R.Context.eq waiting.new) (at R.Context.eq ended.old) (at R.Context.eq ended.new)) }
 {
     let entered = enter_at(alloc, rules, log, place)?;
@@ -154,7 +154,7 @@ pub fn least_in<R: CachingRules, L: Log<R::Member>>(
     ensures order { IfOk result (λ log. InOrder (Follows (R.base (R.source rules.old)) (R.goes (R.source rules.old)) (R.waits (R.source rules.old)) (R.ends (R.source rules.old)) (R.wakes (R.source rules.old))) (L.keys log)) }
     ensures first { IfOk result (λ log. BeginsWith (R.base (R.source rules.old)) (L.keys log)) }
     ensures once { IfOk result (λ log. IsOnce (L.keys log)) }
-    ensures asked { IfOk result (λ log. R.asked rules.new ≡ times R.counting (length (L.keys log)) (R.asked rules.old)) }
+    ensures asked { IfOk result (λ log. R.asked rules.new ≡ counted_by (R.counting (R.source rules.old)) (L.keys log) (R.asked rules.old)) }
 {
     let mut waiting = IndexMap::new(alloc);
     let mut ended = IndexMap::new(alloc);
@@ -179,7 +179,7 @@ pub fn least_caching<R: CachingRules>(
     ensures order { IfOk result (λ log. InOrder (Follows (R.base (R.source rules.old)) (R.goes (R.source rules.old)) (R.waits (R.source rules.old)) (R.ends (R.source rules.old)) (R.wakes (R.source rules.old))) log.keys) }
     ensures first { IfOk result (λ log. BeginsWith (R.base (R.source rules.old)) log.keys) }
     ensures once { IfOk result (λ log. IsOnce log.keys) }
-    ensures asked { IfOk result (λ log. R.asked rules.new ≡ times R.counting (length log.keys) (R.asked rules.old)) }
+    ensures asked { IfOk result (λ log. R.asked rules.new ≡ counted_by (R.counting (R.source rules.old)) log.keys (R.asked rules.old)) }
 {
     least_in(alloc, rules, IndexSet::new(alloc))
 }

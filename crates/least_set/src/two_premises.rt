@@ -100,8 +100,8 @@ pub trait CachingRules {
     // how many members were asked, as far as the rules count them
     ghost asked: { Self → ℕ };
 
-    // that number when one more was asked
-    ghost counting: { ℕ → ℕ };
+    // that number when one more was asked, this member
+    ghost counting: { Self.Source → Self.Member → ℕ → ℕ };
 
     // what is there from the beginning
     ghost base: { Self.Source → Self.Member → Type 0 };
@@ -129,7 +129,7 @@ pub trait CachingRules {
         member: &Self::Member,
     ) -> Result<Entered<Self::Member, Self::Context, Self::Waiter>, AllocError>
         ensures same { source self.new ≡ source self.old }
-        ensures asked { asked self.new ≡ counting (asked self.old) }
+        ensures asked { asked self.new ≡ counting (source self.old) member.now (asked self.old) }
         ensures goes { IfOk result (λ v. IsExactly v.next.items (goes (source self.old) member.now)) }
         ensures waits { IfOk result (λ v. IsExactly v.waits.items (λ w. waits (source self.old) member.now w.on w.waiter)) }
         ensures ends { IfOk result (λ v. (k : _) → (v.end ≡ Some k) ↔ ends (source self.old) member.now k) };
@@ -161,7 +161,7 @@ impl<R: Rules> CachingRules for Plain<'_, R> {
 
     ghost asked = { λ p. 0 };
 
-    ghost counting = { λ n. n };
+    ghost counting = { λ r m n. n };
 
     ghost base = { R.base };
 

@@ -4,7 +4,7 @@ use Rattle.least_set.specs.Logs.{Adds}
 use Rattle.least_set.specs.Indexes.{at, items_of}
 use Rattle.least_set.specs.TwoPremises.{Processed}
 use Rattle.least_set.proofs.Growing.{adds_exactly, not_shorter, once}
-use Rattle.least_set.proofs.Counting.{times_more, times_all}
+use Rattle.least_set.proofs.Counting.{counted_next, counted_whole}
 use Rattle.least_set.proofs.TwoWorking.{works_begin, works_more, works_all, below}
 use Rattle.least_set.proofs.driver.least_in.Goals as goal
 
@@ -45,7 +45,9 @@ loop-i-preserved g c =
           c.loop-i.i p.0 log (g.L.Log.keys c.process.new.log) (at eq c.loop-i.waiting) (at eq c.process.new.waiting) (at eq c.loop-i.ended) (at eq c.process.new.ended)
           c.loop-i.invariant.works h p.1 p.2;
       same = c.in_ok-process.ensures.same ∙ same;
-      asked = c.in_ok-process.ensures.asked ∙ times_more g.R.CachingRules.counting c.loop-i.i (g.R.CachingRules.asked c.args.rules.now) (g.R.CachingRules.asked c.loop-i.rules) c.loop-i.invariant.asked;
+      asked = c.in_ok-process.ensures.asked p.0 p.1
+          ∙ ap (λ r. g.R.CachingRules.counting r p.0 (g.R.CachingRules.asked c.loop-i.rules)) same
+          ∙ counted_next (g.R.CachingRules.counting rules) p.2.members c.loop-i.i p.0 (g.R.CachingRules.asked c.args.rules.now) (g.R.CachingRules.asked c.loop-i.rules) h p.1 c.loop-i.invariant.asked;
       below = omega (arith, h, not_shorter p.2.members);
     }
 
@@ -61,5 +63,5 @@ returns-clause-once g c = once g.R.Member.PartialEq.eq g.met.R.Member.Eq.laws.re
 
 pub returns-clause-asked : goal.returns-clause-asked
 returns-clause-asked g c =
-    times_all g.R.CachingRules.counting c.loop-i.i (length (g.L.Log.keys c.loop-i.log)) (g.R.CachingRules.asked c.args.rules.now) (g.R.CachingRules.asked c.loop-i.rules)
+    counted_whole (g.R.CachingRules.counting (g.R.CachingRules.source c.args.rules.now)) (g.L.Log.keys c.loop-i.log) c.loop-i.i (g.R.CachingRules.asked c.args.rules.now) (g.R.CachingRules.asked c.loop-i.rules)
     c.loop-i.invariant.below (omega (arith, c.loop-i-test.false, c.len.ensures.len)) c.loop-i.invariant.asked
