@@ -3,3 +3,5 @@ pub mod Stable
 pub mod Given
 pub mod Steps
 pub mod Mapped
+pub mod AtEnds
+pub mod Resuming

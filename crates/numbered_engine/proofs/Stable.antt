@@ -13,6 +13,9 @@ use Rattle.row_flows.proofs.Lists.{the_one}
 use Rattle.row_flows.specs.Ways.Equality.{same_numbers}
 use Rattle.row_flows.specs.contracts.behind.FiringPartialEq.TheImpl.{eq-value as firings_agree}
 use Rattle.row_flows.specs.contracts.tuples.NumberedTuplePartialEq.TheImpl.{eq-value as tuples_agree}
+use Rattle.numbered_engine.specs.Ways.Equality.{contexts_agree, edges_agree}
+use Rattle.numbered_engine.specs.declared.edges.NumberedContext.{NumberedContext}
+use Rattle.numbered_engine.specs.declared.edges.NumberedEdge.{NumberedEdge}
 use Rattle.row_flows.specs.declared.behind.Firing.{Firing}
 use Rattle.row_flows.specs.declared.tuples.NumberedTuple.{NumberedTuple}
 
@@ -40,6 +43,14 @@ module _ {E : Type 0} (eq : E → E → Bool) (same : (x y : E) → eq x y ≡ t
 tuple_itself : (t : NumberedTuple) → tuples_agree.it t t ≡ true
 tuple_itself t = both_so (nat_eq t.global t.global) (nat_eq t.state t.state && nat_eq t.object t.object) (eq-eqb t.global t.global refl)
     (both_so (nat_eq t.state t.state) (nat_eq t.object t.object) (eq-eqb t.state t.state refl) (eq-eqb t.object t.object refl))
+
+-- contexts and edges are equal to themselves
+context_itself : (k : NumberedContext) → contexts_agree k k ≡ true
+context_itself k = both_so (nat_eq k.function k.function) (tuples_agree.it k.entry k.entry) (eq-eqb k.function k.function refl) (tuple_itself k.entry)
+
+pub edge_itself : (e : NumberedEdge) → edges_agree e e ≡ true
+edge_itself e = both_so (contexts_agree e.context e.context) (nat_eq e.block e.block && tuples_agree.it e.tuple e.tuple) (context_itself e.context)
+    (both_so (nat_eq e.block e.block) (tuples_agree.it e.tuple e.tuple) (eq-eqb e.block e.block refl) (tuple_itself e.tuple))
 
 -- tuples
 pub tuples_known : (xs ys : List NumberedTuple) → ∥ IsExactly xs (Contains ys) ∥₁ → IsExactly xs (Contains ys)

@@ -7,3 +7,4 @@ pub mod Showing
 pub mod Ways
 pub mod Counted
 pub mod EdgeLists
+pub mod Held

@@ -1,22 +1,26 @@
 //! The engine: one edge after the other, each block entered through its summary.
 
-ghost use Rattle.std.specs.Prelude.{◌≡◌, ◌+◌, ◌-◌, ◌^◌, min, length, ℕ, List, Bool, IfOk, Contains, None, Some, [], option_copied};
+ghost use Rattle.std.specs.Prelude.{◌≡◌, ◌↔◌, ◌+◌, ◌-◌, ◌^◌, min, length, ℕ, List, Bool, false, IfOk, Contains, None, Some, []};
 ghost use Rattle.block_summary.specs.Kept.{IsRight};
 ghost use Rattle.least_set.specs.Logs.{IsExactly, IsOnce};
 ghost use Rattle.numbered_engine.specs.Counted.{counted};
-ghost use Rattle.numbered_engine.specs.Program.{block_of, call_at, call_in, ends_in, function_at, is_own_frame};
+ghost use Rattle.numbered_engine.specs.Program.{block_of, ends_in, function_at, is_own_frame};
+ghost use Rattle.numbered_engine.specs.Held.{AreRight, GoesOn, WaitsOn, counted_on, first_of, fresh, held_at, is_held};
 ghost use Rattle.numbered_engine.specs.Rules.{FollowsFrom, IsDerived, LeadsTo, WaitsAt};
 ghost use Rattle.numbered_engine.specs.Waiting.{ended, woken};
 ghost use Rattle.numbered_engine.specs.Tables.{own_in, rows_in};
+ghost use Rattle.numbered_engine.specs.declared.edges.NumberedContext.{NumberedContext as Context};
 ghost use Rattle.numbered_engine.specs.declared.edges.NumberedEdge.{NumberedEdge as Edge};
 ghost use Rattle.row_flows.specs.declared.rows.EventRow.{EventRow};
 
 use crate::edge_log::EdgeLog;
 use crate::edges::{NumberedContext, NumberedEdge, NumberedWaiter};
 use crate::following::led;
-use crate::program::{Block, Call, Ending, FunctionRows, ProgramRows};
+use crate::held::{HeldContext, ended_at, held_at, passed_by};
+use crate::program::{Block, FunctionRows, ProgramRows, block_of, call_at, function_at};
 use crate::waiting::{ended, waiting, woken};
 use block_summary::{BlockSummary, Entered};
+use indexmap::IndexMap;
 use least_set::{CachingRules, Entered as Given, least_in};
 use mx_base::Steps;
 use row_flows::NumberedTuple;
@@ -27,6 +31,8 @@ use std::alloc::{AllocError, Global};
 pub struct NumberedEngine<'p, L> {
     pub(crate) program: &'p ProgramRows,
     pub(crate) summary: BlockSummary,
+    // contexts that are passed by, since an earlier run worked them off
+    held: IndexMap<NumberedContext, HeldContext>,
     steps: Steps<L>,
     ghost right: { ∥ IsRight (rows_in program.now) (own_in program.now) summary ∥₁ },
 }
@@ -59,38 +65,6 @@ fn tuples_at_end<L>(
     };
     let exits = summary.enter(alloc, &block.rows, function.own.as_slice(), entered, steps)?;
     exits.tuples_of(alloc, edge.tuple)
-}
-
-// The function with a number.
-pub(crate) fn function_at(program: &ProgramRows, function: u32) -> Option<&FunctionRows>
-    ensures { option_copied result ≡ function_at program.now function }
-{
-    program.functions.get(function as usize)
-}
-
-// The block of a function with a number.
-pub(crate) fn block_of(function: &FunctionRows, block: u32) -> Option<&Block>
-    ensures { option_copied result ≡ block_of function.now block }
-{
-    function.blocks.get(block as usize)
-}
-
-// The call in which a block ends.
-fn call_in(ending: &Ending) -> Option<&Call>
-    ensures { option_copied result ≡ call_in ending.now }
-{
-    match ending {
-        Ending::Next(_) => None,
-        Ending::Calls(call) => Some(call),
-        Ending::Exit => None,
-    }
-}
-
-// The call in which the block with a number ends.
-fn call_at(program: &ProgramRows, function: u32, block: u32) -> Option<&Call>
-    ensures { option_copied result ≡ call_at program.now function block }
-{
-    call_in(&block_of(function_at(program, function)?, block)?.ending)
 }
 
 // The tuples at the end of an edge's block in a program, by a summary that is known to be right for it.
@@ -175,6 +149,48 @@ fn given<L>(
     given_by(alloc, program, function, block, edge, tuples.as_slice())
 }
 
+// What an edge of a held context gives. It isn't counted.
+fn given_held(
+    alloc: Global,
+    program: &ProgramRows,
+    held: &IndexMap<NumberedContext, HeldContext>,
+    context: &HeldContext,
+    edge: &NumberedEdge,
+) -> Result<Given<NumberedEdge, NumberedContext, NumberedWaiter>, AllocError>
+    requires held { held_at held.now.entries edge.now.context ≡ Some context.now }
+    ensures goes { IfOk result (λ v. IsExactly v.next.items (GoesOn program.now held.now.entries edge.now)) }
+    ensures waits { IfOk result (λ v. IsExactly v.waits.items (λ w. WaitsOn program.now held.now.entries edge.now w.on w.waiter)) }
+    ensures ends { IfOk result (λ v. v.end ≡ ended program.now edge.now) }
+{
+    Ok(Given {
+        next: passed_by(alloc, edge, context)?,
+        waits: Vec::new(alloc),
+        end: ended_at(program, edge),
+    })
+}
+
+// What an edge gives in a run that passes held contexts by.
+fn given_on<L>(
+    summary: &mut BlockSummary,
+    steps: &mut Steps<L>,
+    alloc: Global,
+    program: &ProgramRows,
+    held: &IndexMap<NumberedContext, HeldContext>,
+    edge: &NumberedEdge,
+) -> Result<Given<NumberedEdge, NumberedContext, NumberedWaiter>, AllocError>
+    requires known { ∥ IsRight (rows_in program.now) (own_in program.now) summary.now ∥₁ }
+    ensures ticks { steps.new.count ≡ counted_on held.now.entries edge.now steps.old.count }
+    ensures right { ∥ IsRight (rows_in program.now) (own_in program.now) summary.new ∥₁ }
+    ensures goes { IfOk result (λ v. IsExactly v.next.items (GoesOn program.now held.now.entries edge.now)) }
+    ensures waits { IfOk result (λ v. IsExactly v.waits.items (λ w. WaitsOn program.now held.now.entries edge.now w.on w.waiter)) }
+    ensures ends { IfOk result (λ v. v.end ≡ ended program.now edge.now) }
+{
+    match held_at(held, edge.context) {
+        Some(context) => given_held(alloc, program, held, context, edge),
+        None => given(summary, steps, alloc, program, edge),
+    }
+}
+
 // What a waiter and an end give.
 fn woken_in(
     alloc: Global,
@@ -206,6 +222,7 @@ impl<'p, L> NumberedEngine<'p, L> {
         NumberedEngine {
             program,
             summary: BlockSummary::new(alloc),
+            held: IndexMap::new(alloc),
             steps,
         }
     }
@@ -219,8 +236,8 @@ impl<'p, L> NumberedEngine<'p, L> {
 }
 
 impl<L> CachingRules for NumberedEngine<'_, L> {
-    ghost use Rattle.numbered_engine.specs.Counted.{counted};
-    ghost use Rattle.numbered_engine.specs.Rules.{Begins, IsEndOf, IsWoken, LeadsTo, WaitsAt};
+    ghost use Rattle.numbered_engine.specs.Held.{GoesOn, WaitsOn, counted_on};
+    ghost use Rattle.numbered_engine.specs.Rules.{Begins, IsEndOf, IsWoken};
 
     type Member = NumberedEdge;
 
@@ -228,23 +245,23 @@ impl<L> CachingRules for NumberedEngine<'_, L> {
 
     type Waiter = NumberedWaiter;
 
-    type Source = ProgramRows;
+    type Source = (ProgramRows, IndexMap<NumberedContext, HeldContext>);
 
-    ghost source = { λ e. e.program.now };
+    ghost source = { λ e. (e.program.now, e.held) };
 
     ghost asked = { λ e. e.steps.count };
 
-    ghost counting = { counted };
+    ghost counting = { λ s e n. counted_on s.1.entries e n };
 
-    ghost base = { Begins };
+    ghost base = { λ s. Begins s.0 };
 
-    ghost goes = { LeadsTo };
+    ghost goes = { λ s. GoesOn s.0 s.1.entries };
 
-    ghost waits = { WaitsAt };
+    ghost waits = { λ s. WaitsOn s.0 s.1.entries };
 
-    ghost ends = { IsEndOf };
+    ghost ends = { λ s. IsEndOf s.0 };
 
-    ghost wakes = { IsWoken };
+    ghost wakes = { λ s. IsWoken s.0 };
 
     fn begin(&self, alloc: Global) -> Result<Vec<NumberedEdge>, AllocError> {
         self.program.begun.as_slice().to_vec(alloc)
@@ -255,11 +272,12 @@ impl<L> CachingRules for NumberedEngine<'_, L> {
         alloc: Global,
         member: &NumberedEdge,
     ) -> Result<Given<NumberedEdge, NumberedContext, NumberedWaiter>, AllocError> {
-        given(
+        given_on(
             &mut self.summary,
             &mut self.steps,
             alloc,
             self.program,
+            &self.held,
             member,
         )
     }
@@ -274,6 +292,27 @@ impl<L> CachingRules for NumberedEngine<'_, L> {
     }
 }
 
+/// The edges of a program where some contexts are held, which are passed by: of a held context the first edge, if its frame begins, and then its
+/// ends and the first edges of its calls, as they are held; of any other each edge that follows, and nothing else. Where what is held is right, as
+/// of an earlier run over the same tables, the edges of the others are just what `tabulate` finds of them. Their blocks were entered once: the steps
+/// of the engine rise by their number.
+pub fn resume<L>(
+    alloc: Global,
+    engine: &mut NumberedEngine<L>,
+    held: IndexMap<NumberedContext, HeldContext>,
+) -> Result<EdgeLog, AllocError>
+    ensures same { engine.new.program.now ≡ engine.old.program.now }
+    ensures fresh { IfOk result (λ log. AreRight engine.old.program.now held.entries → (e : Edge) → is_held held.entries e.context ≡ false → Contains log.keys e ↔ IsDerived engine.old.program.now e) }
+    ensures begun { IfOk result (λ log. AreRight engine.old.program.now held.entries → (k : Context) → Contains log.keys (first_of k) ↔ IsDerived engine.old.program.now (first_of k)) }
+    ensures once { IfOk result (λ log. IsOnce log.keys) }
+    ensures steps { IfOk result (λ log. engine.new.steps.count ≡ min (engine.old.steps.count + length (fresh held.entries log.keys)) (2 ^ 64 - 1)) }
+{
+    let _before = engine.steps.count();
+    engine.held = held;
+    let log = least_in(alloc, engine, EdgeLog::new(alloc))?;
+    Ok(log)
+}
+
 /// The edges of a program: what follows by the rules of tabulation, each once, and nothing else. The block of each was entered once: the steps of
 /// the engine rise by their number.
 pub fn tabulate<L>(alloc: Global, engine: &mut NumberedEngine<L>) -> Result<EdgeLog, AllocError>
@@ -283,6 +322,6 @@ pub fn tabulate<L>(alloc: Global, engine: &mut NumberedEngine<L>) -> Result<Edge
     ensures once { IfOk result (λ log. IsOnce log.keys) }
     ensures steps { IfOk result (λ log. engine.new.steps.count ≡ min (engine.old.steps.count + length log.keys) (2 ^ 64 - 1)) }
 {
-    let _before = engine.steps.count();
-    least_in(alloc, engine, EdgeLog::new(alloc))
+    let log = resume(alloc, engine, IndexMap::new(alloc))?;
+    Ok(log)
 }

@@ -44,8 +44,8 @@ pub(crate) fn at(context: NumberedContext, tuple: NumberedTuple, block: u32) -> 
     }
 }
 
-// The first edge of a frame.
-fn first(function: u32, tuple: NumberedTuple) -> NumberedEdge
+/// The first edge of a frame.
+pub(crate) fn first(function: u32, tuple: NumberedTuple) -> NumberedEdge
     ensures { result ≡ first function tuple }
 {
     at(

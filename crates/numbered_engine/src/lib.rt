@@ -10,12 +10,14 @@ mod program;
 mod following;
 mod waiting;
 
-// the engine, and what its edges show
+// the engine, the contexts that it may pass by, and what its edges show
 mod engine;
+mod held;
 mod showing;
 
 pub use edge_log::EdgeLog;
 pub use edges::{NumberedContext, NumberedEdge};
-pub use engine::{NumberedEngine, tabulate};
+pub use engine::{NumberedEngine, resume, tabulate};
+pub use held::HeldContext;
 pub use program::{Block, Call, Ending, FunctionRows, ProgramRows};
 pub use showing::firings_at;

@@ -1,5 +1,8 @@
 //! The tables of a program.
 
+ghost use Rattle.std.specs.Prelude.{◌≡◌, option_copied};
+ghost use Rattle.numbered_engine.specs.Program.{block_at, block_of, call_at, call_in, function_at};
+
 use crate::edges::NumberedEdge;
 use row_flows::{BlockRows, Touched};
 
@@ -50,4 +53,43 @@ pub struct FunctionRows {
 pub struct ProgramRows {
     pub functions: Vec<FunctionRows>,
     pub begun: Vec<NumberedEdge>,
+}
+
+/// The function with a number.
+pub(crate) fn function_at(program: &ProgramRows, function: u32) -> Option<&FunctionRows>
+    ensures { option_copied result ≡ function_at program.now function }
+{
+    program.functions.get(function as usize)
+}
+
+/// The block of a function with a number.
+pub(crate) fn block_of(function: &FunctionRows, block: u32) -> Option<&Block>
+    ensures { option_copied result ≡ block_of function.now block }
+{
+    function.blocks.get(block as usize)
+}
+
+// The call in which a block ends.
+fn call_in(ending: &Ending) -> Option<&Call>
+    ensures { option_copied result ≡ call_in ending.now }
+{
+    match ending {
+        Ending::Next(_) => None,
+        Ending::Calls(call) => Some(call),
+        Ending::Exit => None,
+    }
+}
+
+/// The block with a number of the function with a number.
+pub(crate) fn block_at(program: &ProgramRows, function: u32, block: u32) -> Option<&Block>
+    ensures { option_copied result ≡ block_at program.now function block }
+{
+    block_of(function_at(program, function)?, block)
+}
+
+/// The call in which the block with a number ends.
+pub(crate) fn call_at(program: &ProgramRows, function: u32, block: u32) -> Option<&Call>
+    ensures { option_copied result ≡ call_at program.now function block }
+{
+    call_in(&block_at(program, function, block)?.ending)
 }

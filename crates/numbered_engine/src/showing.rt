@@ -8,8 +8,8 @@ ghost use Rattle.numbered_engine.specs.Showing.{shown_at, shown_in};
 ghost use Rattle.numbered_engine.specs.Tables.{own_in, rows_in};
 
 use crate::edges::NumberedEdge;
-use crate::engine::{NumberedEngine, block_of, function_at, is_own_frame};
-use crate::program::{Block, FunctionRows, ProgramRows};
+use crate::engine::{NumberedEngine, is_own_frame};
+use crate::program::{Block, FunctionRows, ProgramRows, block_of, function_at};
 use block_summary::{BlockSummary, Entered};
 use row_flows::{Firing, cross};
 use std::alloc::{AllocError, Global};

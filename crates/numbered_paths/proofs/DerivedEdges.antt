@@ -18,8 +18,9 @@ use Rattle.numbered_engine.specs.declared.program.Ending.{Ending}
 use Rattle.numbered_engine.specs.declared.program.Ending.TheVariants as ending
 use Rattle.numbered_engine.specs.declared.program.FunctionRows.{FunctionRows}
 use Rattle.numbered_engine.specs.declared.program.ProgramRows.{ProgramRows}
-use Rattle.numbered_paths.proofs.BlockTables.{call_there, ends_so, of_led, of_waiting, stand_for, tables_of}
-use Rattle.numbered_paths.proofs.Lists.{of_condition, of_map, owned}
+use Rattle.numbered_engine.proofs.AtEnds.{call_there, of_led, of_waiting}
+use Rattle.numbered_paths.proofs.BlockTables.{ends_so, stand_for, tables_of}
+use Rattle.numbered_paths.proofs.Lists.{of_condition, owned}
 use Rattle.numbered_paths.proofs.SameNumbers.{bare_fact, fact_with, has_object, restored_numbered}
 use Rattle.numbered_paths.specs.Calls.{IsCall}
 use Rattle.numbered_paths.specs.Tables.{AreTables, IsFunction, entry_of}
@@ -35,6 +36,7 @@ use Rattle.row_flows.specs.Choices.{bare}
 use Rattle.row_flows.specs.Numbers.{is_own}
 use Rattle.row_flows.specs.declared.behind.Firing.{Firing}
 use Rattle.row_flows.specs.declared.tuples.NumberedTuple.{NumberedTuple}
+use Rattle.row_flows.proofs.Lists.{of_map}
 
 -- an edge is an end of its own context, at a block that ends the function
 exits : (b : NumberedEdge) (e : Ending) (k : NumberedContext) → ended_in b e ≡ Some k → (e ≡ ending.Exit) × (b.context ≡ k)

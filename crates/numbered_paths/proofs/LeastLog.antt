@@ -14,9 +14,10 @@ use Rattle.numbered_engine.specs.declared.program.Call.{Call}
 use Rattle.numbered_engine.specs.declared.program.Ending.TheVariants as ending
 use Rattle.numbered_engine.specs.declared.program.FunctionRows.{FunctionRows}
 use Rattle.numbered_engine.specs.declared.program.ProgramRows.{ProgramRows}
-use Rattle.numbered_paths.proofs.BlockTables.{IsBlock, call_there, end_of, tables_of, to_led, to_waiting}
+use Rattle.numbered_engine.proofs.AtEnds.{IsBlock, call_there, to_led, to_waiting}
+use Rattle.numbered_paths.proofs.BlockTables.{end_of, tables_of}
 use Rattle.numbered_paths.proofs.DerivedEdges.{Stands, derived_stands}
-use Rattle.numbered_paths.proofs.Lists.{a_single, owned, present, to_map, to_present}
+use Rattle.numbered_paths.proofs.Lists.{owned, present}
 use Rattle.numbered_paths.proofs.SameNumbers.{bare_fact, bare_number, object_of, same_tuple}
 use Rattle.numbered_paths.specs.Calls.{IsCall}
 use Rattle.numbered_paths.specs.Tables.{AreTables, IsFunction, StandsIn, entry_of}
@@ -32,6 +33,7 @@ use Rattle.path_theory.specs.Origins.{Origins}
 use Rattle.row_flows.specs.Choices.{bare}
 use Rattle.row_flows.specs.declared.behind.Firing.{Firing}
 use Rattle.row_flows.specs.declared.tuples.NumberedTuple.{NumberedTuple}
+use Rattle.row_flows.proofs.Lists.{the_first, to_map, to_present}
 
 module _ (M : Model) (L : Origins M) (A : Objects M) (G : FlowGraphs M) (C : Kinds M G) (V : Views M G) (N : AreNumbers M A G V) (report : ℕ → ℕ → Firing → M.Report → Type 0) (p : ProgramRows)
     (T : AreTables M L A G C V report p) (log : List NumberedEdge) (closed : (e : NumberedEdge) → FollowsFrom p log e → Contains log e) (only : (e : NumberedEdge) → Contains log e → IsDerived p e) where
@@ -206,10 +208,10 @@ module _ (M : Model) (L : Origins M) (A : Objects M) (G : FlowGraphs M) (C : Kin
             let v = bare t.tuple.global in
             let same = same_tuple M A G V N x.context.function v x.context.entry (IsBare refl refl) other_stands.entered same_global (bare_fact M A G V N x.context.function v refl ∙ sym entry) in
             let awaited = on (context k.callee v) (waiter a t.tuple) in
-            let waits = Contains-append_right (map (waits_for a k) (passed k.entered.items t.tuple)) (waits_with a k t.tuple) awaited (subst (λ b. Contains (cond b (awaited ∷ []) []) awaited) (sym saved) (a_single awaited)) in
+            let waits = Contains-append_right (map (waits_for a k) (passed k.entered.items t.tuple)) (waits_with a k t.tuple) awaited (subst (λ b. Contains (cond b (awaited ∷ []) []) awaited) (sym saved) (the_first awaited [])) in
             let w = restored t.tuple x.tuple in
             let ended = bare_number M A G V N x.context.function x.tuple other_stands.numbered end in
-            let bare_end = subst (λ b. Contains (cond b (w ∷ []) []) w) (sym (eq-eqb x.tuple.object 0 ended)) (a_single w) in
+            let bare_end = subst (λ b. Contains (cond b (w ∷ []) []) w) (sym (eq-eqb x.tuple.object 0 ended)) (the_first w []) in
             let behind = subst (λ b. Contains (cond b (passed k.handed.items x.tuple) (cond (nat_eq x.tuple.object 0) (w ∷ []) [])) w) (sym (owned k.saved.items t.tuple.object saved)) bare_end in
             record {
               edge = at a.context w k.behind;

@@ -7,7 +7,7 @@ use Rattle.numbered_engine.specs.declared.program.ProgramRows.{ProgramRows}
 use Rattle.numbered_paths.proofs.BlockTables.{stand_for, tables_of}
 use Rattle.numbered_paths.proofs.DerivedEdges.{derived_stands}
 use Rattle.numbered_paths.proofs.LeastLog.{edges_are_entries}
-use Rattle.numbered_paths.proofs.Lists.{of_present, present, to_present}
+use Rattle.numbered_paths.proofs.Lists.{present}
 use Rattle.numbered_engine.specs.Showing.{shown_by, shown_in}
 use Rattle.numbered_paths.specs.Reports.{LogShows}
 use Rattle.numbered_paths.specs.Tables.{AreTables, StandsIn}
@@ -25,6 +25,7 @@ use Rattle.path_theory.specs.Origins.{IsLocal, Origins}
 use Rattle.path_theory.specs.Paths.{Reported}
 use Rattle.path_theory.specs.Relevant.{IsClosed}
 use Rattle.row_flows.specs.declared.behind.Firing.{Firing}
+use Rattle.row_flows.proofs.Lists.{of_present, to_present}
 
 -- no events show nothing
 none_shown : (M : Model) (L : Origins M) (A : Objects M) (f : M.Fn) (k : Bool) (r : M.Report) (es : List M.Event) (g : M.Global) (t : Fact M) → es ≡ [] → Shows M L A f k r es g t → ⊥

@@ -10,12 +10,12 @@ use Rattle.path_theory.specs.FlowGraphs.{FlowGraphs}
 use Rattle.path_theory.specs.Model.{Model}
 use Rattle.path_theory.specs.Origins.{Origins}
 use Rattle.path_theory.proofs.SmallFacts.{if_no_object, some_some}
-use Rattle.row_flows.proofs.Lists.{of_flat, the_one, to_flat}
+use Rattle.row_flows.proofs.Lists.{of_flat, the_first, the_one, to_flat}
 use Rattle.row_flows.specs.Behind.{given, if_kept, moved, touches, with_object}
 use Rattle.row_flows.specs.declared.rows.EventRow.{EventRow}
 use Rattle.row_flows.specs.declared.rows.Touched.{Touched}
 use Rattle.row_flows.specs.declared.tuples.NumberedTuple.{NumberedTuple}
-use Rattle.numbered_paths.proofs.SmallLists.{passing, some_passes, the_first}
+use Rattle.numbered_paths.proofs.SmallLists.{passing, some_passes}
 use Rattle.numbered_paths.proofs.TupleFacts.{bare_fact, given_by_object, gives, no_number, object_fact, one_number, origin, state_of}
 use Rattle.numbered_paths.specs.RowParts.{IsMoveOf, IsNumberOf}
 use Rattle.numbered_paths.specs.Views.{AreNumbers, IsBare, IsNumbered, IsOf, IsState, Views, fact_at}

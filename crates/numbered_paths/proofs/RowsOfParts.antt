@@ -6,7 +6,7 @@ use Rattle.path_theory.specs.FlowGraphs.{FlowGraphs}
 use Rattle.path_theory.specs.Flows.{EventFlow, EventNone, EventObject}
 use Rattle.path_theory.specs.Model.{Model}
 use Rattle.path_theory.specs.Origins.{Origins}
-use Rattle.row_flows.proofs.Lists.{of_flat, to_flat}
+use Rattle.row_flows.proofs.Lists.{of_flat, of_map, to_flat, to_map}
 use Rattle.row_flows.specs.Behind.{behind, chosen, fired, firings, moved}
 use Rattle.row_flows.specs.Choices.{next_global, next_state}
 use Rattle.row_flows.specs.declared.behind.Firing.{Firing}
@@ -14,7 +14,6 @@ use Rattle.row_flows.specs.declared.rows.EventRow.{EventRow}
 use Rattle.row_flows.specs.declared.tuples.NumberedTuple.{NumberedTuple}
 use Rattle.numbered_paths.proofs.BareChoices.{bare_state}
 use Rattle.numbered_paths.proofs.MovedTuples.{Carries, MovesTo, StaysBare, bare_stays, moved_right, moved_whole}
-use Rattle.numbered_paths.proofs.SmallLists.{of_map, to_map}
 use Rattle.numbered_paths.proofs.TupleFacts.{bare_fact, bare_if, bare_is, if_bare, object_fact}
 use Rattle.numbered_paths.specs.RowParts.{IsRowOf}
 use Rattle.numbered_paths.specs.Rows.{IsRow, ShowsAlone, ShowsHere, ShowsOf}

@@ -1,16 +1,9 @@
--- Tests of the items of a list, and lists that are mapped.
-use Rattle.std.proofs.Common.{◌≡◌, ◌∙◌, inl, inr, refl, sym, ap, subst, arith, Bool, true, false, ◌||◌, List, [], ◌∷◌, Contains, true≢false}
-use Rattle.std.specs.Prelude.{map}
+-- Tests of the items of a list.
+use Rattle.std.proofs.Common.{◌≡◌, ◌∙◌, inl, inr, refl, sym, ap, Bool, true, false, ◌||◌, List, [], ◌∷◌, Contains, true≢false}
 use Rattle.std.specs.List.{list_any}
-use Rattle.std.proofs.lemmas.List.Elements.{Contains-append_right, Contains-append_cases}
+use Rattle.std.proofs.lemmas.List.Elements.{Contains-append_cases}
 use Rattle.least_set.proofs.Growing.{nothing}
-use Rattle.row_flows.proofs.Lists.{the_one}
-
-pub the_first : {X : Type 0} (x : X) (xs : List X) → Contains (x ∷ xs) x
-the_first x xs = (0, omega arith, refl)
-
-pub a_later : {X : Type 0} (x : X) (xs : List X) (y : X) → Contains xs y → Contains (x ∷ xs) y
-a_later x xs y h = Contains-append_right (x ∷ []) xs y h
+use Rattle.row_flows.proofs.Lists.{a_later, the_first, the_one}
 
 or_so : (a b : Bool) → b ≡ true → a || b ≡ true
 or_so true b h = refl
@@ -31,19 +24,4 @@ module _ {X : Type 0} (p : X → Bool) where
   some_passes (y ∷ xs) x c h = elim (Contains-append_cases (y ∷ []) xs x c) [
     | inl a ↦ ap (λ b. b || list_any p xs) (ap p (the_one y x a) ∙ h)
     | inr b ↦ or_so (p y) (list_any p xs) (some_passes xs x b h)
-  ]
-
-module _ {X Y : Type 0} (f : X → Y) where
-  pub of_map : (xs : List X) (y : Y) → Contains (map f xs) y → (x : X) × Contains xs x × (f x ≡ y)
-  of_map [] y h = absurd (nothing y h)
-  of_map (x ∷ xs) y h = elim (Contains-append_cases (f x ∷ []) (map f xs) y h) [
-    | inl a ↦ (x, the_first x xs, the_one (f x) y a)
-    | inr b ↦ let s = of_map xs y b in (s.0, a_later x xs s.0 s.1, s.2)
-  ]
-
-  pub to_map : (xs : List X) (x : X) → Contains xs x → Contains (map f xs) (f x)
-  to_map [] x h = absurd (nothing x h)
-  to_map (y ∷ xs) x h = elim (Contains-append_cases (y ∷ []) xs x h) [
-    | inl a ↦ subst (λ z. Contains (map f (y ∷ xs)) (f z)) (the_one y x a) (the_first (f y) (map f xs))
-    | inr b ↦ a_later (f y) (map f xs) (f x) (to_map xs x b)
   ]

@@ -18,7 +18,7 @@ use Rattle.numbered_program.specs.NumberedCalls.Stands.{StandsForSites}
 use Rattle.numbered_engine.specs.declared.program.Call.{Call}
 use Rattle.numbered_engine.specs.declared.program.Ending.{Ending}
 use Rattle.numbered_engine.specs.declared.program.Ending.TheVariants as ending
-use Rattle.numbered_paths.proofs.Lists.{of_map, to_map}
+use Rattle.row_flows.proofs.Lists.{of_map, to_map}
 use Rattle.numbered_paths.specs.Calls.{IsCall}
 use Rattle.numbered_paths.specs.Tables.{IsEnding}
 use Rattle.numbered_paths.specs.Views.{AreNumbers}

@@ -69,7 +69,7 @@ fn all_concerned(alloc: Global, rows: &[EventRow]) -> Result<Vec<u32>, AllocErro
     Ok(list)
 }
 
-// Each of these numbers once.
+// Each of these numbers once. Most blocks have a few, so there is room for no more than them.
 fn distinct(alloc: Global, numbers: &[u32]) -> Result<IndexSet<u32>, AllocError>
     ensures { IfOk result (λ set. (n : ℕ) → Contains numbers.now n → Contains set.keys n) }
 {
@@ -77,6 +77,7 @@ fn distinct(alloc: Global, numbers: &[u32]) -> Result<IndexSet<u32>, AllocError>
     for number in numbers {
         set.insert(*number)?;
     }
+    set.shrink_to_fit();
     Ok(set)
 }
 

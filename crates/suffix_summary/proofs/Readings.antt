@@ -19,7 +19,7 @@ use Rattle.numbered_engine.specs.declared.program.ProgramRows.{ProgramRows}
 use Rattle.numbered_paths.proofs.DerivedEdges.{Stands, derived_stands}
 use Rattle.numbered_paths.proofs.LeastLog.{edges_are_entries}
 use Rattle.numbered_paths.proofs.SameNumbers.{same_tuple}
-use Rattle.numbered_paths.proofs.SmallLists.{a_later, the_first}
+use Rattle.row_flows.proofs.Lists.{a_later, the_first}
 use Rattle.numbered_paths.specs.Tables.{StandsIn}
 use Rattle.numbered_paths.specs.Views.{AreNumbers, IsNumbered, Views, fact_at}
 use Rattle.numbered_program.proofs.SwappedBlocks.{block_twice}

@@ -5,14 +5,14 @@ use Rattle.std.specs.Prelude.{flat_map}
 use Rattle.std.proofs.lemmas.Bool.{eqb-true, eq-eqb}
 use Rattle.std.proofs.lemmas.List.Elements.{Contains-append_left, Contains-append_right, Contains-append_cases}
 use Rattle.numbered_engine.specs.Following.{passed}
-use Rattle.numbered_paths.proofs.Lists.{a_single, of_condition}
-use Rattle.row_flows.proofs.Lists.{of_flat, to_flat}
+use Rattle.numbered_paths.proofs.Lists.{of_condition}
+use Rattle.row_flows.proofs.Lists.{of_flat, the_first, to_flat}
 use Rattle.row_flows.specs.Behind.{given, with_object}
 use Rattle.row_flows.specs.declared.rows.Touched.{Touched}
 use Rattle.row_flows.specs.declared.tuples.NumberedTuple.{NumberedTuple}
 
 to_condition : (b : Bool) (v : NumberedTuple) → b ≡ true → Contains (cond b (v ∷ []) []) v
-to_condition b v e = subst (λ q. Contains (cond q (v ∷ []) []) v) (sym e) (a_single v)
+to_condition b v e = subst (λ q. Contains (cond q (v ∷ []) []) v) (sym e) (the_first v [])
 
 module _ (rows : List Touched) (t : NumberedTuple) where
   pub data PassesTo (v : NumberedTuple) : Type 0 where

@@ -19,4 +19,6 @@ loop-number-preserved c = λ n h.
     ]
 
 pub returns : goal.returns
-returns c = all_of (λ l. (n : ℕ) → Contains l n → Contains c.loop-number.set.keys n) c.args.numbers.now c.loop-number.number-index c.loop-number-test.false c.loop-number.auto.number-index-end c.loop-number.invariant
+returns c =
+    let all = all_of (λ l. (n : ℕ) → Contains l n → Contains c.loop-number.set.keys n) c.args.numbers.now c.loop-number.number-index c.loop-number-test.false c.loop-number.auto.number-index-end c.loop-number.invariant in
+    subst (λ keys. (n : ℕ) → Contains c.args.numbers.now n → Contains keys n) (sym c.shrink_to_fit.ensures.keys) all
