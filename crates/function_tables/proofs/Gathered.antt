@@ -1,6 +1,6 @@
 -- One graph after the other, as a loop over the functions builds them.
-use Rattle.std.proofs.Common.{◌≡◌, ℕ, ◌+◌, ◌<◌, List, [], ◌∷◌, ◌++◌, map, length, Some, slice_get, Bor, refl, ◌∙◌, sym, ap, subst, arith}
-use Rattle.std.proofs.lemmas.List.{length-map, map-append}
+use Rattle.std.proofs.Common.{◌≡◌, ℕ, ◌+◌, ◌<◌, List, [], ◌∷◌, ◌++◌, map, length, Some, slice_get, Bor, ◌∙◌, sym, ap, subst, arith}
+use Rattle.std.proofs.lemmas.List.{length-append, length-map, map-append}
 use Rattle.flow_graph.specs.CPaths.SoundGraphs.{IsSoundGraph}
 use Rattle.type_rules.specs.Functions.{Defined}
 use Rattle.path_model.specs.CheckerGraphs.Graphs.{AreGraphs, AreFirstGraphs}
@@ -15,12 +15,8 @@ use Rattle.call_graph.specs.OfPrograms.Definitions.{definitions, trees_in}
 use Rattle.function_tables.proofs.OneByOne.{there}
 use Rattle.typed_unit.specs.declared.typed_unit.TypedUnit.{TypedUnit}
 
-length-push : (gs : List Graph) (g : Graph) → length (gs ++ (g ∷ [])) ≡ length gs + 1
-length-push [] g = refl
-length-push (x ∷ gs) g = let e = length-push gs g in omega (arith, e)
-
 pub count-next : (old new : List Graph) (g : Graph) (n : ℕ) → length old ≡ n → new ≡ old ++ (g ∷ []) → length new ≡ n + 1
-count-next old new g n c e = ap length e ∙ length-push old g ∙ ap (λ (m : ℕ). m + 1) c
+count-next old new g n c e = ap length e ∙ length-append old (g ∷ []) ∙ ap (λ (m : ℕ). m + 1) c
 
 module _ (units : List (Bor TypedUnit)) where
   abbrev pub AreGathered : List Graph → Type 0

@@ -1,4 +1,4 @@
-mod OneByOne
+pub mod OneByOne
 mod Gathered
 mod OfBlocks
 mod OfFunctions

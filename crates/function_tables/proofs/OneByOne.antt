@@ -1,5 +1,5 @@
 -- Lists that go together one by one, made one element after the other.
-use Rattle.std.proofs.Common.{◌≡◌, ℕ, zero, suc, ◌+◌, ◌≤◌, List, [], ◌∷◌, ◌++◌, map, length, take, get_or, Some, slice_get, refl, sym, ap, ◌∙◌, subst, arith}
+use Rattle.std.proofs.Common.{◌≡◌, ℕ, zero, suc, ◌+◌, ◌≤◌, List, [], ◌∷◌, ◌++◌, map, length, take, get_or, None, Some, slice_get, refl, sym, ap, ◌∙◌, subst, arith}
 use Rattle.std.proofs.lemmas.List.{take_more, take_all}
 use Rattle.std.proofs.lemmas.Option.{get_or_from_slice_get, slice_get_within, slice_get-map, slice_get_read, slice_get-get_or, same_Some}
 use Rattle.std.specs.List.{AllZip}
@@ -15,7 +15,7 @@ module _ {A : Type 0} (xs : List A) (n : ℕ) (x : A) (at : slice_get xs n ≡ S
   taken-next old new e h = e ∙ ap (λ (l : List A). l ++ (x ∷ [])) h ∙ sym take-next
 
 module _ {A B : Type 0} (R : A → B → Type 0) where
-  zip-push : (xs : List A) (ys : List B) (x : A) (y : B) → AllZip R xs ys → R x y → AllZip R (xs ++ (x ∷ [])) (ys ++ (y ∷ []))
+  pub zip-push : (xs : List A) (ys : List B) (x : A) (y : B) → AllZip R xs ys → R x y → AllZip R (xs ++ (x ∷ [])) (ys ++ (y ∷ []))
   zip-push [] [] x y h r = (r, tt)
   zip-push [] (b ∷ ys) x y h r = absurd h
   zip-push (a ∷ xs) [] x y h r = absurd h
@@ -36,6 +36,25 @@ module _ {A B : Type 0} (R : A → B → Type 0) where
   zip-at (a ∷ xs) [] n x y h e k = absurd h
   zip-at (a ∷ xs) (b ∷ ys) zero x y h e k = subst (λ (z : A). R z y) (same_Some a x e) (subst (R a) (same_Some b y k) h.0)
   zip-at (a ∷ xs) (b ∷ ys) (suc n) x y h e k = zip-at xs ys n x y h.1 e k
+
+  -- what goes with an item of the first list, and with one of the second
+  pub goes-with : (xs : List A) (ys : List B) (n : ℕ) (x : A) → AllZip R xs ys → slice_get xs n ≡ Some x → (y : B) × (slice_get ys n ≡ Some y) × R x y
+  goes-with [] ys n x h e = cc
+  goes-with (a ∷ xs) [] n x h e = absurd h
+  goes-with (a ∷ xs) (b ∷ ys) zero x h e = (b, refl, subst (λ z. R z b) (same_Some a x e) h.0)
+  goes-with (a ∷ xs) (b ∷ ys) (suc n) x h e = goes-with xs ys n x h.1 e
+
+  pub partner : (xs : List A) (ys : List B) (n : ℕ) (y : B) → AllZip R xs ys → slice_get ys n ≡ Some y → (x : A) × (slice_get xs n ≡ Some x) × R x y
+  partner xs [] n y h e = cc
+  partner [] (b ∷ ys) n y h e = absurd h
+  partner (a ∷ xs) (b ∷ ys) zero y h e = (a, refl, subst (R a) (same_Some b y e) h.0)
+  partner (a ∷ xs) (b ∷ ys) (suc n) y h e = partner xs ys n y h.1 e
+
+  pub no-partner : (xs : List A) (ys : List B) (n : ℕ) → AllZip R xs ys → slice_get ys n ≡ None → slice_get xs n ≡ None
+  no-partner [] ys n h e = refl
+  no-partner (a ∷ xs) [] n h e = absurd h
+  no-partner (a ∷ xs) (b ∷ ys) zero h e = cc
+  no-partner (a ∷ xs) (b ∷ ys) (suc n) h e = no-partner xs ys n h.1 e
 
 -- what goes together after the second list was mapped
 pub zip-map : {A B C : Type 0} (R : A → B → Type 0) (Q : A → C → Type 0) (v : B → C) → ((x : A) (y : B) → R x y → Q x (v y)) → (xs : List A) (ys : List B) → AllZip R xs ys → AllZip Q xs (map v ys)

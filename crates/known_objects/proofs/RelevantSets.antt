@@ -1,14 +1,13 @@
 -- THE RELEVANT OBJECTS, FOLLOWED BY LISTS of them, which sets have too: what lists of them follow is what is relevant, so it is closed, and it is enough to follow it.
-use Rattle.std.proofs.Common.{◌≡◌, ◌∙◌, ℕ, zero, suc, List, [], ◌∷◌, Contains, Option, None, Some, slice_get, refl, sym, subst}
+use Rattle.std.proofs.Common.{◌≡◌, ◌∙◌, ℕ, List, Some, sym, subst}
 use Rattle.std.proofs.Math.Logic.{∥∥₁_map}
-use Rattle.std.specs.Option.{option_map}
 use Rattle.std.proofs.lemmas.List.Elements.{length_all_zip}
-use Rattle.std.proofs.lemmas.Option.{same_Some}
 use Rattle.std.specs.List.{AllZip}
 use Rattle.block_flows.specs.Masks.{AreEnough, objects_under}
 use Rattle.c_objects.specs.Objects.{Object}
 use Rattle.flow_graph.specs.CPaths.Building.{Graph}
 use Rattle.function_tables.proofs.EngineTables.Places.{there-too}
+use Rattle.function_tables.proofs.OneByOne.{goes-with}
 use Rattle.function_tables.specs.Tables.{AreTables}
 use Rattle.function_tables.specs.declared.table.FunctionTable.{FunctionTable}
 use Rattle.known_objects.proofs.FollowedMask.{followed-by-mask}
@@ -16,35 +15,26 @@ use Rattle.known_objects.proofs.SetSteps.{HasExactly}
 use Rattle.known_objects.specs.RelevantSets.{AreRelevant}
 use Rattle.masked_paths.proofs.ClosedFamilies.{enough_of_closed}
 use Rattle.path_model.proofs.CheckerGraphs.GraphTraces.{closed_in_graphs}
-use Rattle.path_model.proofs.CheckerGraphs.Numbers.{defines-is, found-at, numbered-at}
+use Rattle.path_model.proofs.CheckerGraphs.Numbers.{defined-at, defines-is, found-at, number-is}
 use Rattle.path_model.proofs.CheckerModel.Laws.{local}
-use Rattle.path_model.specs.CheckerGraphs.Graphs.{AreApartPlaces, AreGraphs, flow_graphs, function_at, number_of}
+use Rattle.path_model.specs.CheckerGraphs.Graphs.{AreApartPlaces, AreGraphs, flow_graphs, function_at}
 use Rattle.path_model.specs.CheckerModel.Checkers.{model, origins}
 use Rattle.path_model.specs.CheckerModel.Happenings.{Function}
 use Rattle.path_model.specs.CheckerModel.Reports.{Checker}
 use Rattle.path_model.specs.CheckerPrograms.Relevant.{Relevant}
-use Rattle.path_model.specs.CheckerPrograms.Texts.{function_of, functions_in}
+use Rattle.path_model.specs.CheckerPrograms.Texts.{functions_in}
 use Rattle.path_theory.specs.Facts.{Fact, HasObject, IsFollowed, NoObject, Objects}
 use Rattle.path_theory.specs.FlowGraphs.{supergraph}
 use Rattle.path_theory.specs.Model.{Model}
 use Rattle.path_theory.specs.Origins.{Origins}
 use Rattle.path_theory.specs.Relevant.{IsClosed}
 use Rattle.path_theory.specs.Supergraph.{Supergraph}
-pub use Rattle.relevant.proofs.BoundMembers.Zipped.{partner}
 use Rattle.relevant.proofs.RelevantSteps.Found.{relevant-found}
 use Rattle.relevant.specs.RelevantLists.Lists.{AreLists}
 use Rattle.relevant.specs.RelevantSteps.Families.{any_state}
-use Rattle.type_rules.specs.Functions.{Defined}
 use Rattle.typed_unit.specs.Texts.{Text}
 
 -- ---- lists, and sets of the same objects
-
--- of lists that go together one by one, what goes with an item of the first
-pub goes-with : {A B : Type 0} (R : A → B → Type 0) (xs : List A) (ys : List B) (n : ℕ) (x : A) → AllZip R xs ys → slice_get xs n ≡ Some x → (y : B) × (slice_get ys n ≡ Some y) × R x y
-goes-with R [] ys n x h e = cc
-goes-with R (a ∷ xs) [] n x h e = absurd h
-goes-with R (a ∷ xs) (b ∷ ys) zero x h e = (b, refl, subst (λ z. R z b) (same_Some a x e) h.0)
-goes-with R (a ∷ xs) (b ∷ ys) (suc n) x h e = goes-with R xs ys n x h.1 e
 
 pub sets-lists : (c : Checker) (ts : List Text) (F : Function → Object → Type 0) (lists sets : List (List Object))
     → AllZip HasExactly sets lists → AreLists c ts F lists → AreLists c ts F sets
@@ -66,20 +56,6 @@ pub relevant-sets : (depth : ℕ) (ts : List Text) (functions : List FunctionTab
     → AreGathered depth ts functions lists → given ≡ lists → AllZip HasExactly sets given → AreGathered depth ts functions sets
 relevant-sets depth ts functions lists given sets gathered listed zip =
     λ c d a. ∥∥₁_map (gathered c d a) (sets-lists c ts (Relevant c ts) lists sets (subst (AllZip HasExactly sets) listed zip))
-
--- ---- the function with a number
-
-defined-of : (o : Option Defined) (f : Function) → option_map function_of o ≡ Some f → (d : Defined) × (o ≡ Some d) × (function_of d ≡ f)
-defined-of None f e = cc
-defined-of (Some d) f e = let s : function_of d ≡ f = cc in (d, refl, s)
-
-defined-at : (ts : List Text) (n : ℕ) (f : Function) → function_at ts n ≡ Some f → (d : Defined) × (slice_get (functions_in ts) n ≡ Some d) × (function_of d ≡ f)
-defined-at ts n f e = defined-of (slice_get (functions_in ts) n) f e
-
-number-is : (ts : List Text) (apart : AreApartPlaces (functions_in ts)) (n : ℕ) (f : Function) → function_at ts n ≡ Some f → number_of (functions_in ts) f ≡ Some n
-number-is ts apart n f named =
-    let d = defined-at ts n f named in
-    subst (λ (g : Function). number_of (functions_in ts) g ≡ Some n) d.2 (numbered-at (functions_in ts) n d.0 apart d.1).0
 
 -- ---- what is followed, and what is relevant
 

@@ -5,6 +5,7 @@ use Rattle.std.proofs.lemmas.List.Elements.{Contains-append_left, Contains-push,
 use Rattle.std.specs.List.{AllZip}
 use Rattle.indexmap.specs.IndexSet.{insert_key}
 use Rattle.c_objects.specs.Objects.{Object}
+use Rattle.function_tables.proofs.OneByOne.{zip-push}
 use Rattle.least_set.specs.Logs.{Adds, IsExactly}
 use Rattle.least_set.proofs.Growing.{adds_one, either, kept}
 use Rattle.objects.specs.Equality.{same_object, same_object-true}
@@ -40,13 +41,6 @@ module _ (xs : List Object) where
 
 -- ---- a set after the other
 
-module _ {A B : Type 0} (R : A → B → Type 0) where
-  zip_push : (xs : List A) (ys : List B) (x : A) (y : B) → AllZip R xs ys → R x y → AllZip R (xs ++ x ∷ []) (ys ++ y ∷ [])
-  zip_push [] [] x y h r = (r, tt)
-  zip_push [] (b ∷ ys) x y h r = absurd h
-  zip_push (a ∷ xs) [] x y h r = absurd h
-  zip_push (a ∷ xs) (b ∷ ys) x y h r = (h.0, zip_push xs ys x y h.1 r)
-
 module _ {V W : Type 0} (keys : V → List Object) (items : W → List Object) (lists : List W) where
   pub sets_begun : (sets : List V) → sets ≡ [] → AllZip HasExactly (map keys sets) (map items (take 0 lists))
   sets_begun sets e = subst (λ (l : List V). AllZip HasExactly (map keys l) []) (sym e) tt
@@ -59,7 +53,7 @@ module _ {V W : Type 0} (keys : V → List Object) (items : W → List Object) (
       let right : map items (take (i + 1) lists) ≡ map items (take i lists) ++ (items list ∷ []) =
       map_more items lists i list within ∙ ap (λ (z : W). map items (take i lists) ++ (items z ∷ [])) (sym is) in
       subst (λ (l : List (List Object)). AllZip HasExactly l (map items (take (i + 1) lists))) (sym left)
-      (subst (AllZip HasExactly (map keys old ++ (keys set ∷ []))) (sym right) (zip_push HasExactly (map keys old) (map items (take i lists)) (keys set) (items list) before has))
+      (subst (AllZip HasExactly (map keys old ++ (keys set ∷ []))) (sym right) (zip-push HasExactly (map keys old) (map items (take i lists)) (keys set) (items list) before has))
 
   pub sets_whole : (i : ℕ) (sets : List V) → length lists ≤ i → AllZip HasExactly (map keys sets) (map items (take i lists)) → AllZip HasExactly (map keys sets) (map items lists)
   sets_whole i sets past h = subst (λ (l : List W). AllZip HasExactly (map keys sets) (map items l)) (take_all i lists past) h

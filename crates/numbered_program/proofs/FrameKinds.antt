@@ -10,7 +10,8 @@ use Rattle.numbered_engine.specs.declared.program.ProgramRows.{ProgramRows}
 use Rattle.numbered_program.proofs.NumberedEvents.ItemNumbers.{is_number}
 use Rattle.numbered_paths.proofs.SameNumbers.{bare_fact, fact_with}
 use Rattle.numbered_paths.specs.Views.{IsBare, IsKnown, IsNumbered, IsOf, IsState, IsUnknown, fact_at}
-use Rattle.numbered_program.proofs.FunctionNumbers.{found_number, number_is}
+use Rattle.numbered_program.proofs.FunctionNumbers.{found_number}
+use Rattle.path_model.proofs.CheckerGraphs.Numbers.{number-is}
 use Rattle.numbered_program.proofs.ProgramParts.{AreGiven, has_parts}
 use Rattle.numbered_program.proofs.ViewNumbers.{numbers}
 use Rattle.numbered_program.specs.Rows.{IsFunctionOf}
@@ -61,7 +62,7 @@ kind_of ts p f g t = root_flag p (number_of (functions_in ts) f) && (nat_eq g 0 
 
 module _ (c : Checker) (ts : List Text) (gs : List Graph) (lists : List (List Object)) (states : List State) (p : ProgramRows) (H : AreGiven c ts gs lists states p) where
   flag_is : (n : ℕ) (f : Function) (r : FunctionRows) → function_at ts n ≡ Some f → engine.function_at p n ≡ Some r → root_flag p (number_of (functions_in ts) f) ≡ r.is_root
-  flag_is n f r named there = ap (root_flag p) (number_is ts H.apart n f named) ∙ ap flag_of there
+  flag_is n f r named there = ap (root_flag p) (number-is ts H.apart n f named) ∙ ap flag_of there
 
   root_flagged : (f : Function) → IsRootFunction c.machine ts f → root_flag p (number_of (functions_in ts) f) ≡ true
   root_flagged f w =

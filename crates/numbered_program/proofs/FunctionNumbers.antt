@@ -7,22 +7,14 @@ use Rattle.block_flows.specs.TupleFlows.Facts.{is_in}
 use Rattle.c_objects.specs.Objects.{Object}
 use Rattle.flow_graph.specs.CPaths.Building.{Graph}
 use Rattle.numbered_program.specs.Views.{listed_at}
-use Rattle.path_model.proofs.CheckerGraphs.Numbers.{defines-is, found-at, graph-at, numbered-at}
+use Rattle.path_model.proofs.CheckerGraphs.Numbers.{defined-at, defines-is, found-at, graph-at, number-is}
 use Rattle.path_model.specs.CheckerGraphs.Graphs.{AreApartPlaces, function_at, graph_at, number_of}
 use Rattle.path_model.specs.CheckerModel.Happenings.{Function}
 use Rattle.path_model.specs.CheckerPrograms.Texts.{function_of, functions_in}
-use Rattle.type_rules.specs.Functions.{Defined}
 use Rattle.type_rules.specs.Options.{if_there, ◌>?◌}
 use Rattle.typed_unit.specs.Texts.{Text}
 
-of_option : (o : Option Defined) (f : Function) → option_map function_of o ≡ Some f → (d : Defined) × (o ≡ Some d) × (function_of d ≡ f)
-of_option None f e = cc
-of_option (Some d) f e = let s : function_of d ≡ f = cc in (d, refl, s)
-
 module _ (ts : List Text) where
-  pub defined_at : (n : ℕ) (f : Function) → function_at ts n ≡ Some f → (d : Defined) × (slice_get (functions_in ts) n ≡ Some d) × (function_of d ≡ f)
-  defined_at n f e = of_option (slice_get (functions_in ts) n) f e
-
   -- one number is that of one function
   pub one_function : (n : ℕ) (f g : Function) → function_at ts n ≡ Some f → function_at ts n ≡ Some g → f ≡ g
   one_function n f g a b = same_Some f g (sym a ∙ b)
@@ -34,19 +26,13 @@ module _ (ts : List Text) where
       ap (option_map function_of) x.numbered ∙ ap (λ (g : Function). Some g) (defines-is x.found f x.same)
 
 module _ (ts : List Text) (apart : AreApartPlaces (functions_in ts)) (n : ℕ) (f : Function) (named : function_at ts n ≡ Some f) where
-  -- and it is found
-  pub number_is : number_of (functions_in ts) f ≡ Some n
-  number_is =
-      let d = defined_at ts n f named in
-      subst (λ (g : Function). number_of (functions_in ts) g ≡ Some n) d.2 (numbered-at (functions_in ts) n d.0 apart d.1).0
-
   pub graph_is : (gs : List Graph) (g : Graph) → slice_get gs n ≡ Some g → graph_at ts gs f ≡ g
   graph_is gs g h =
-      let d = defined_at ts n f named in
+      let d = defined-at ts n f named in
       subst (λ (k : Function). graph_at ts gs k ≡ g) d.2 (graph-at ts apart gs n d.0 g d.1 h)
 
   pub follows_listed : (lists : List (List Object)) (o : Object) → is_followed ts lists f o ≡ is_in (listed_at lists n) o
-  follows_listed lists o = ap (λ m. if_there (m >? slice_get lists) false (λ objects. is_in objects o)) number_is ∙ by (slice_get lists n)
+  follows_listed lists o = ap (λ m. if_there (m >? slice_get lists) false (λ objects. is_in objects o)) (number-is ts apart n f named) ∙ by (slice_get lists n)
     where
       by : (q : Option (List Object)) → if_there q false (λ objects. is_in objects o) ≡ is_in (if_there q [] (λ os. os)) o
       by None = refl

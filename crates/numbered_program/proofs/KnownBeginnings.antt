@@ -13,7 +13,7 @@ use Rattle.least_set.specs.Logs.{IsExactly, IsOnce, SomeGives}
 use Rattle.numbered_engine.specs.declared.edges.NumberedEdge.{NumberedEdge}
 use Rattle.numbered_engine.specs.declared.program.ProgramRows.{ProgramRows}
 use Rattle.numbered_program.proofs.KnownSources.{listed}
-use Rattle.numbered_program.proofs.ListSteps.{zip_left, zip_right}
+use Rattle.function_tables.proofs.OneByOne.{goes-with, partner}
 use Rattle.numbered_program.specs.Begun.{BeginsIn, BeginsWith, begun_at, begun_with}
 use Rattle.numbered_program.specs.Made.{AreFunctionsOf}
 use Rattle.numbered_program.specs.Numbered.{AreNumbered, AreNumbersOf}
@@ -92,7 +92,7 @@ module _ (t : Tables) (states : List State) (numbers : List Numbers) (k : AreKno
   -- what begins in a root
   from_root : (n : ℕ) (e : NumberedEdge) → Contains roots n → BeginsIn numbers n e → Begun e
   from_root n e root h =
-      let own = zip_left (AreNumbersOf states) lists numbers n h.0 are h.1 in
+      let own = partner (AreNumbersOf states) lists numbers n h.0 are h.1 in
       let there = there-too lists (functions_in (texts_in t)) n own.0 k.count own.1 in
       let begun = h.2 in
       let count : h.0.numbering.objects.now.keys ≡ listed_at lists n = own.2.follows ∙ sym (listed lists n own.0 own.1) in
@@ -126,7 +126,7 @@ module _ (t : Tables) (states : List State) (numbers : List Numbers) (k : AreKno
       let n = e.context.function in
       let d = defined n b.fn b.named in
       let list = there-too (functions_in (texts_in t)) lists n d.0 (sym k.count) d.1 in
-      let own = zip_right (AreNumbersOf states) lists numbers n list.0 are list.1 in
+      let own = goes-with (AreNumbersOf states) lists numbers n list.0 are list.1 in
       let count : listed_at lists n ≡ own.0.numbering.objects.now.keys = listed lists n list.0 list.1 ∙ sym own.2.follows in (
         (k.roots n).1 (b.root, slice_get_within (functions_in (texts_in t)) n d.0 d.1),
         (own.0, own.1, (e.tuple.object, subst (λ (os : List Object). e.tuple.object ≤ length os) count b.object, parts e b)),
@@ -155,4 +155,4 @@ module _ (t : Tables) (states : List State) (numbers : List Numbers) (k : AreKno
 
 -- each followed object is in its list once
 pub all_once : (t : Tables) (states : List State) (numbers : List Numbers) → AreNumbered states (objects_in t) numbers → (n : ℕ) (os : List Object) → slice_get (objects_in t) n ≡ Some os → IsOnce os
-all_once t states numbers are n os e = (zip_right (AreNumbersOf states) (objects_in t) numbers n os are e).2.once
+all_once t states numbers are n os e = (goes-with (AreNumbersOf states) (objects_in t) numbers n os are e).2.once

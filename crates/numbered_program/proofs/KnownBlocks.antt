@@ -18,7 +18,8 @@ use Rattle.function_tables.specs.declared.table.BlockTable.{BlockTable}
 use Rattle.metal_tree.specs.MetalMachines.Machine.{Machine}
 use Rattle.numbered_engine.specs.declared.program.Block.{Block}
 use Rattle.numbered_program.proofs.KnownSources.{first_within, here, own_function, own_list, own_listed}
-use Rattle.numbered_program.proofs.ListSteps.{item_of_more, not_missing, past_end, zip_left, zip_missing}
+use Rattle.function_tables.proofs.OneByOne.{no-partner, partner}
+use Rattle.numbered_program.proofs.ListSteps.{item_of_more, not_missing, past_end}
 use Rattle.numbered_program.proofs.SwappedNumbers.{swapped_past, swapped_within}
 use Rattle.numbered_program.specs.Made.{AreBlocksOf, IsBlockAt, IsEndingIn}
 use Rattle.numbered_program.specs.Numbered.{EndsIn, IsSourceOf}
@@ -51,11 +52,11 @@ module _ (states : List State) (s : FunctionSource) (f : Function) (i : IsSource
 
   -- the block that has a table
   tabled : (b : ℕ) (table : BlockTable) → slice_get s.table.now.blocks.items b ≡ Some table → (d : graphs.Block) × (slice_get graph.blocks b ≡ Some d) × IsBlockTable m t.depth (texts_in t) (here states s f i).defined d table
-  tabled b table there = zip_left (IsBlockTable m t.depth (texts_in t) (here states s f i).defined) graph.blocks s.table.now.blocks.items b table (here states s f i).blocks there
+  tabled b table there = partner (IsBlockTable m t.depth (texts_in t) (here states s f i).defined) graph.blocks s.table.now.blocks.items b table (here states s f i).blocks there
 
   -- each block has one
   pub no_table : (b : ℕ) → b < length graph.blocks → slice_get s.table.now.blocks.items b ≡ None → ⊥
-  no_table b within none = not_missing graph.blocks b within (zip_missing (IsBlockTable m t.depth (texts_in t) (here states s f i).defined) graph.blocks s.table.now.blocks.items b (here states s f i).blocks none)
+  no_table b within none = not_missing graph.blocks b within (no-partner (IsBlockTable m t.depth (texts_in t) (here states s f i).defined) graph.blocks s.table.now.blocks.items b (here states s f i).blocks none)
 
   -- and what has one ends somehow
   pub no_end : (b : ℕ) (table : BlockTable) → slice_get s.table.now.blocks.items b ≡ Some table → option_map (λ (d : graphs.Block). d.ending) (slice_get graph.blocks b) ≡ None → ⊥

@@ -21,7 +21,7 @@ use Rattle.numbered_engine.specs.declared.program.Call.{Call}
 use Rattle.numbered_engine.specs.declared.program.Ending.{Ending}
 use Rattle.numbered_engine.specs.declared.program.Ending.TheVariants as ending
 use Rattle.numbered_program.proofs.KnownSources.{here, listed, own_function, own_listed}
-use Rattle.numbered_program.proofs.ListSteps.{zip_left}
+use Rattle.function_tables.proofs.OneByOne.{partner}
 use Rattle.numbered_program.specs.Made.{IsEndingIn}
 use Rattle.numbered_program.specs.Numbered.{AreNumbersOf, EndsIn, IsSourceOf, followed_from}
 use Rattle.numbered_program.specs.Rows.{FollowsCall}
@@ -72,7 +72,7 @@ module _ (states : List State) (s : FunctionSource) (f : Function) (i : IsSource
       → StandsForSites t.depth passed own callee.numbering.objects.now.keys by → IsEndingIn states s f (graphs.Calls call next) (ending.Calls by)
   call_stands call next k behind callee passed by numbers into passes to made stands =
       let lists = objects_in t in
-      let them = zip_left (AreNumbersOf states) lists s.numbers.now k callee i.numbered numbers in
+      let them = partner (AreNumbersOf states) lists s.numbers.now k callee i.numbered numbers in
       let there = there-too lists (functions_in (texts_in t)) k them.0 i.known.count them.1 in
       let named : function_at (texts_in t) k ≡ Some (function_of there.0) = ap (option_map function_of) there.1 in
       let list : listed_at lists by.callee ≡ them.0 = ap (listed_at lists) made.callee ∙ listed lists k them.0 them.1 in

@@ -10,7 +10,7 @@ use Rattle.function_tables.specs.EngineTables.Known.{AreKnown, graphs_in, object
 use Rattle.function_tables.specs.declared.engine_tables.frames.Frame.{Frame}
 use Rattle.function_tables.specs.declared.engine_tables.tables.Tables.{Tables}
 use Rattle.function_tables.specs.declared.table.FunctionTable.{FunctionTable}
-use Rattle.numbered_program.proofs.ListSteps.{zip_left, zip_missing}
+use Rattle.function_tables.proofs.OneByOne.{no-partner, partner}
 use Rattle.numbered_program.specs.Numbered.{AreNumbered, AreNumbersOf, IsSourceOf}
 use Rattle.numbered_program.specs.Views.{listed_at}
 use Rattle.numbered_program.specs.declared.numbers.FunctionSource.{FunctionSource}
@@ -31,7 +31,7 @@ listed lists n os e = ap (λ (q : Option (List Object)). if_there q [] (λ l. l)
 -- where there are no numbers there is no function
 pub nobody : (t : Tables) (states : List State) (numbers : List Numbers) → AreKnown t → AreNumbered states (objects_in t) numbers → (n : ℕ) → slice_get numbers n ≡ None
     → function_at (texts_in t) n ≡ None
-nobody t states numbers k h n e = no-objects t n k (zip_missing (AreNumbersOf states) (objects_in t) numbers n h e)
+nobody t states numbers k h n e = no-objects t n k (no-partner (AreNumbersOf states) (objects_in t) numbers n h e)
 
 module _ (states : List State) (s : FunctionSource) (f : Function) (i : IsSourceOf states s f) where
   abbrev t : Tables
@@ -45,7 +45,7 @@ module _ (states : List State) (s : FunctionSource) (f : Function) (i : IsSource
 
   -- the objects that are followed in it
   pub own_list : (os : List Object) × (slice_get (objects_in t) s.function ≡ Some os) × AreNumbersOf states os s.own.now
-  own_list = zip_left (AreNumbersOf states) (objects_in t) s.numbers.now s.function s.own.now i.numbered i.own
+  own_list = partner (AreNumbersOf states) (objects_in t) s.numbers.now s.function s.own.now i.numbered i.own
 
   pub own_listed : keys ≡ listed_at (objects_in t) s.function
   own_listed = own_list.2.follows ∙ sym (listed (objects_in t) s.function own_list.0 own_list.1)

@@ -8,7 +8,7 @@ use Rattle.least_set.specs.Logs.{IsOnce}
 use Rattle.numbered_engine.specs.Program as engine
 use Rattle.numbered_engine.specs.declared.program.FunctionRows.{FunctionRows}
 use Rattle.numbered_engine.specs.declared.program.ProgramRows.{ProgramRows}
-use Rattle.numbered_program.proofs.FunctionNumbers.{defined_at}
+use Rattle.path_model.proofs.CheckerGraphs.Numbers.{defined-at}
 use Rattle.numbered_program.specs.Rows.{AreRowsOf, IsFunctionOf}
 use Rattle.numbered_program.specs.Theorems.{AreStatesOf}
 use Rattle.path_model.specs.CheckerGraphs.Graphs.{AreApartPlaces, function_at}
@@ -35,7 +35,7 @@ module _ (c : Checker) (ts : List Text) (gs : List Graph) (lists : List (List Ob
 
   pub has_parts : AreGiven → (n : ℕ) (f : Function) → function_at ts n ≡ Some f → HasParts n f
   has_parts H n f named =
-      let d = defined_at ts n f named in
+      let d = defined-at ts n f named in
       let g = there-too (functions_in ts) gs n d.0 (sym H.count) d.1 in
       let r = there-too (functions_in ts) p.functions.items n d.0 (sym H.rows_of.count) d.1 in
       record { graph = g.0; here = g.1; rows = r.0; there = r.1; is = H.rows_of.functions n f g.0 r.0 named g.1 r.1 }

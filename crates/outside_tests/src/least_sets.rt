@@ -202,7 +202,7 @@ impl<'a> CachingRules for Counted<'a> {
 
     ghost asked = { λ c. c.asked };
 
-    ghost counting = { λ n. min (n + 1) (2 ^ 64 - 1) };
+    ghost counting = { λ s m n. min (n + 1) (2 ^ 64 - 1) };
 
     ghost base = { ⟦<Program<'a> as Rules>⟧.base };
 

@@ -9,7 +9,8 @@ use Rattle.flow_graph.specs.CPaths.Building.{Graph}
 use Rattle.function_tables.proofs.EngineTables.Places.{apart-in}
 use Rattle.function_tables.specs.EngineTables.Known.{AreKnown, checker_in, graphs_in, objects_in, texts_in}
 use Rattle.function_tables.specs.declared.engine_tables.tables.Tables.{Tables}
-use Rattle.known_objects.proofs.RelevantSets.{also-followed, followed-all, goes-with, partner, relevant-closed, relevant-followed}
+use Rattle.function_tables.proofs.OneByOne.{goes-with, partner}
+use Rattle.known_objects.proofs.RelevantSets.{also-followed, followed-all, relevant-closed, relevant-followed}
 use Rattle.known_objects.specs.RelevantSets.{AreRelevant}
 use Rattle.least_set.proofs.Growing.{at_place, place_of}
 use Rattle.least_set.specs.Logs.{IsOnce}

@@ -91,7 +91,17 @@ of-option (Some d) f e = let s : function_of d ≡ f = cc in (d, refl, s)
 one-option : (m n : ℕ) → Some m ≡ Some n → m ≡ n
 one-option m n e = cc
 
+-- the definition of the function with a number
+pub defined-at : (ts : List Text) (n : ℕ) (f : Function) → function_at ts n ≡ Some f → (d : Defined) × (slice_get (functions_in ts) n ≡ Some d) × (function_of d ≡ f)
+defined-at ts n f e = of-option (slice_get (functions_in ts) n) f e
+
 module _ (ts : List Text) (apart : AreApartPlaces (functions_in ts)) where
+  -- and its number is found
+  pub number-is : (n : ℕ) (f : Function) → function_at ts n ≡ Some f → number_of (functions_in ts) f ≡ Some n
+  number-is n f named =
+      let d = defined-at ts n f named in
+      subst (λ (g : Function). number_of (functions_in ts) g ≡ Some n) d.2 (numbered-at (functions_in ts) n d.0 apart d.1).0
+
   -- the graph of the function with a number is the graph with this number
   pub graph-at : (gs : List Graph) (n : ℕ) (d : Defined) (g : Graph) → slice_get (functions_in ts) n ≡ Some d → slice_get gs n ≡ Some g → graph_at ts gs (function_of d) ≡ g
   graph-at gs n d g e k =
@@ -104,7 +114,7 @@ module _ (ts : List Text) (apart : AreApartPlaces (functions_in ts)) where
   -- functions with different numbers differ
   pub one-number : (m n : ℕ) (f : Function) → function_at ts m ≡ Some f → function_at ts n ≡ Some f → m ≡ n
   one-number m n f a b =
-      let x = of-option (slice_get (functions_in ts) m) f a in
-      let y = of-option (slice_get (functions_in ts) n) f b in
+      let x = defined-at ts m f a in
+      let y = defined-at ts n f b in
       let same : function_of x.0 ≡ function_of y.0 = x.2 ∙ sym y.2 in
       one-option m n (sym (numbered-at (functions_in ts) m x.0 apart x.1).0 ∙ ap (number_of (functions_in ts)) same ∙ (numbered-at (functions_in ts) n y.0 apart y.1).0)

@@ -8,7 +8,7 @@ use Rattle.std.proofs.lemmas.Slice.Zip.{AllZip-long}
 use Rattle.state_tuples.specs.declared.applied_rules.rules.EventRules.{EventRules}
 use Rattle.state_tuples.specs.AppliedRules.Events.{AreOfEvent}
 use Rattle.relevant.specs.BoundMembers.Bound.{BoundAt, BoundIn, BoundOf, BoundWith, BoundBefore}
-use Rattle.relevant.proofs.BoundMembers.Zipped.{partner, no-partner, there}
+use Rattle.function_tables.proofs.OneByOne.{no-partner, partner, there}
 use Rattle.c_objects.specs.Objects.{Object}
 use Rattle.flow_graph.specs.CPaths.BlockGraphs.{events_at}
 use Rattle.flow_graph.specs.CPaths.Building.{Graph}

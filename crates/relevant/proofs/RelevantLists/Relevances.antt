@@ -3,7 +3,7 @@ use Rattle.std.proofs.Common.{◌≡◌, ◌↔◌, ℕ, ◌<◌, List, Contains
 use Rattle.std.specs.Prelude.{slice_get}
 use Rattle.std.specs.Option.{option_map}
 use Rattle.std.proofs.lemmas.Option.{slice_get_within}
-use Rattle.relevant.proofs.BoundMembers.Zipped.{there}
+use Rattle.function_tables.proofs.OneByOne.{there}
 use Rattle.c_objects.specs.Objects.{Object, IsObject}
 use Rattle.type_rules.specs.Functions.{Defined}
 use Rattle.path_model.specs.CheckerGraphs.Graphs.{function_at}

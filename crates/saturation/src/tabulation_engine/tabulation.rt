@@ -25,7 +25,7 @@ impl<'t, 'u, 'a> CachingRules for CachingEngine<'_, 't, 'u, 'a> {
 
     ghost asked = { λ c. 0 };
 
-    ghost counting = { λ n. n };
+    ghost counting = { λ s m n. n };
 
     ghost base = { λ e d. ∥ Begins (checker_in e.tables) (texts_in e.tables) (graphs_in e.tables) (objects_in e.tables) d ∥₁ };
 
