@@ -13,7 +13,7 @@ mod trees;
 #[cfg(test)]
 mod system;
 
-// least sets, logs, summaries of blocks, and searches
+// least sets, logs, summaries of blocks, runs over numbers, and searches
 #[cfg(test)]
 mod block_summaries;
 #[cfg(test)]
@@ -22,3 +22,5 @@ mod entry_logs;
 mod known_links;
 #[cfg(test)]
 mod least_sets;
+#[cfg(test)]
+mod resumed_runs;
