@@ -1,20 +1,28 @@
 -- What stands at the end of an edge's block by its tables, and where it leads.
-use Rattle.std.proofs.Common.{◌≡◌, ◌∙◌, ap, Some, Contains}
+use Rattle.std.proofs.Common.{◌≡◌, ◌∙◌, refl, ap, Some, Contains}
 use Rattle.std.specs.Prelude.{option_and_then}
+use Rattle.std.proofs.lemmas.Option.{none-some, same_Some}
 use Rattle.numbered_engine.specs.Following.{led_by, led_from, led_in}
 use Rattle.numbered_engine.specs.Program.{block_at, block_of, call_at, call_in, ends_in, function_at}
 use Rattle.numbered_engine.specs.Rules.{LeadsTo, WaitsAt}
-use Rattle.numbered_engine.specs.Waiting.{on, waiting_at, waiting_by, waiting_in}
+use Rattle.numbered_engine.specs.Waiting.{ended_in, on, waiting_at, waiting_by, waiting_in}
 use Rattle.numbered_engine.specs.declared.edges.NumberedContext.{NumberedContext}
 use Rattle.numbered_engine.specs.declared.edges.NumberedEdge.{NumberedEdge}
 use Rattle.numbered_engine.specs.declared.edges.NumberedWaiter.{NumberedWaiter}
 use Rattle.numbered_engine.specs.declared.program.Block.{Block}
 use Rattle.numbered_engine.specs.declared.program.Call.{Call}
+use Rattle.numbered_engine.specs.declared.program.Ending.{Ending}
 use Rattle.numbered_engine.specs.declared.program.Ending.TheVariants as ending
 use Rattle.numbered_engine.specs.declared.program.FunctionRows.{FunctionRows}
 use Rattle.numbered_engine.specs.declared.program.ProgramRows.{ProgramRows}
 use Rattle.row_flows.proofs.Lists.{of_flat, of_present, to_flat, to_present}
 use Rattle.row_flows.specs.declared.tuples.NumberedTuple.{NumberedTuple}
+
+-- an edge is an end of its own context, at a block that ends the function
+pub exits : (b : NumberedEdge) (e : Ending) (k : NumberedContext) → ended_in b e ≡ Some k → (e ≡ ending.Exit) × (b.context ≡ k)
+exits b (ending.Next bs) k h = absurd (none-some k h)
+exits b (ending.Calls c) k h = absurd (none-some k h)
+exits b ending.Exit k h = (refl, same_Some b.context k h)
 
 module _ (p : ProgramRows) (a : NumberedEdge) where
   -- the block of an edge, by its tables

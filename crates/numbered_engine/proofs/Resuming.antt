@@ -3,18 +3,18 @@ use Rattle.std.proofs.Common.{◌≡◌, ◌∙◌, ◌↔◌, refl, sym, ap, su
 use Rattle.std.specs.Prelude.{is_some, cond, option_and_then}
 use Rattle.std.specs.Option.{option_map_or}
 use Rattle.std.proofs.lemmas.List.Elements.{Contains-append_left, Contains-append_right, Contains-append_cases}
-use Rattle.std.proofs.lemmas.Option.{same_Some}
+use Rattle.std.proofs.lemmas.Option.{none-some}
 use Rattle.least_set.specs.Logs.{IsExactly}
-use Rattle.least_set.specs.TwoPremises.{Follows, FollowsBase, FollowsOne, FollowsTwo, LeastBase, LeastOne, LeastTwo}
+use Rattle.least_set.specs.TwoPremises.{Follows, FollowsBase, FollowsOne, FollowsTwo, Least, LeastBase, LeastOne, LeastTwo}
 use Rattle.least_set.proofs.Growing.{nothing}
 use Rattle.row_flows.proofs.Lists.{of_map, of_present, the_one}
 use Rattle.row_flows.specs.Choices.{bare}
 use Rattle.row_flows.specs.Numbers.{is_own}
 use Rattle.row_flows.specs.declared.tuples.NumberedTuple.{NumberedTuple}
-use Rattle.numbered_engine.proofs.AtEnds.{call_there, of_led, of_waiting}
+use Rattle.numbered_engine.proofs.AtEnds.{call_there, exits, of_led, of_waiting}
 use Rattle.numbered_engine.proofs.Stable.{edge_itself}
 use Rattle.numbered_engine.specs.Following.{at, context, first, led, led_from, passed}
-use Rattle.numbered_engine.specs.Held.{AreRight, GoesOn, Held, IsFound, WaitsOn, first_of, held_at, is_first, is_held, passed_by}
+use Rattle.numbered_engine.specs.Held.{AreRight, GoesOn, Held, WaitsOn, first_of, held_at, is_first, is_held, passed_by}
 use Rattle.numbered_engine.specs.Program.{block_at, call_at}
 use Rattle.numbered_engine.specs.Rules.{Begins, FollowsFrom, IsDerived, IsEndOf, IsWoken, LeadsTo, WaitsAt}
 use Rattle.numbered_engine.specs.Waiting.{Waits, ended_in, on, tuples_behind, waiter, waiting_at, waits_for, waits_with, woken_at}
@@ -29,21 +29,13 @@ use Rattle.numbered_engine.specs.declared.program.Ending.{Ending}
 use Rattle.numbered_engine.specs.declared.program.Ending.TheVariants as ending
 use Rattle.numbered_engine.specs.declared.program.ProgramRows.{ProgramRows}
 
-missing : {A : Type 0} {x : A} → None ≡ Some x → ⊥
-missing h = cc
-
 -- an edge is an end of its own context
 end_own : (p : ProgramRows) (b : NumberedEdge) (k : NumberedContext) → IsEndOf p b k → b.context ≡ k
 end_own p b k h = by (block_at p b.context.function b.block) h
   where
-    at_ending : (e : Ending) → ended_in b e ≡ Some k → b.context ≡ k
-    at_ending (ending.Next bs) g = absurd (missing g)
-    at_ending (ending.Calls c) g = absurd (missing g)
-    at_ending ending.Exit g = same_Some b.context k g
-
     by : (o : Option Block) → option_and_then (λ (s : Block). ended_in b s.ending) o ≡ Some k → b.context ≡ k
-    by None g = absurd (missing g)
-    by (Some s) g = at_ending s.ending g
+    by None g = absurd (none-some k g)
+    by (Some s) g = (exits b s.ending k g).1
 
 -- a frame waits at its own edges
 waiter_own : (p : ProgramRows) (a : NumberedEdge) (k : NumberedContext) (w : NumberedWaiter) → WaitsAt p a k w → w.context ≡ a.context
@@ -83,11 +75,9 @@ leads_own p a e h = let s = of_led p a e h in by s.block.ending s.end (call_ther
 first_is : (e : NumberedEdge) → is_first e ≡ true → e ≡ first_of e.context
 first_is e h = same_edge e (first_of e.context) h
 
-some_held : {A : Type 0} (o : Option A) (c : A) → o ≡ Some c → is_some o ≡ true
-some_held o c is = ap is_some is
-
-none_held : {A : Type 0} (o : Option A) → o ≡ None → is_some o ≡ false
-none_held o is = ap is_some is
+-- what such a run finds
+abbrev pub IsFound : ProgramRows → Held → NumberedEdge → Type 0
+IsFound p h = Least (Begins p) (GoesOn p h) (WaitsOn p h) (IsEndOf p) (IsWoken p)
 
 module _ (p : ProgramRows) (h : Held) (right : AreRight p h) where
   goes_derived : (a e : NumberedEdge) → IsDerived p a → GoesOn p h a e → IsDerived p e
@@ -143,13 +133,13 @@ module _ (p : ProgramRows) (h : Held) (right : AreRight p h) where
     where
       by : (o : Option HeldContext) → held_at h a.context ≡ o → (e.context ≡ a.context) ⊎ BeginsAnother p a e → Comes e
       by None is way =
-          let f : IsFound p h e = LeastOne (comes.found (none_held (held_at h a.context) is)) (subst (λ o. Contains (option_map_or (passed_by a) o (led p a)) e) (sym is) leads) in
+          let f : IsFound p h e = LeastOne (comes.found (ap is_some is)) (subst (λ o. Contains (option_map_or (passed_by a) o (led p a)) e) (sym is) leads) in
           elim way [
-            | inl same ↦ beside a e same (none_held (held_at h a.context) is) f
+            | inl same ↦ beside a e same (ap is_some is) f
             | inr new ↦ first_comes e new.2 f
           ]
       by (Some c) is way =
-          let held = some_held (held_at h a.context) c is in
+          let held = ap is_some is in
           let begun = comes.begins held in
           let r = right.contexts a.context c is (found_derived (first_of a.context) begun) in
           elim way [
@@ -161,9 +151,9 @@ module _ (p : ProgramRows) (h : Held) (right : AreRight p h) where
   end_found b k d comes end = by (held_at h b.context) refl
     where
       by : (o : Option HeldContext) → held_at h b.context ≡ o → IsFound p h b
-      by None is = comes.found (none_held (held_at h b.context) is)
+      by None is = comes.found (ap is_some is)
       by (Some c) is =
-          let begun = comes.begins (some_held (held_at h b.context) c is) in
+          let begun = comes.begins (ap is_some is) in
           let r = right.contexts b.context c is (found_derived (first_of b.context) begun) in
           let own = subst (IsEndOf p b) (sym (end_own p b k end)) end in
           from_first b.context c is begun b (Contains-append_left c.ends.items c.calls.items b (r.ends.1 b (d, own)))
@@ -175,8 +165,8 @@ module _ (p : ProgramRows) (h : Held) (right : AreRight p h) where
       same = woken_own p w b e wake ∙ waiter_own p a k w waits
 
       by : (o : Option HeldContext) → held_at h a.context ≡ o → Comes e
-      by None is = let fresh = none_held (held_at h a.context) is in beside a e same fresh (LeastTwo (comes.found fresh) (is, waits) f end wake)
-      by (Some c) is = let held = some_held (held_at h a.context) c is in within a e same held (comes.begins held)
+      by None is = let fresh = ap is_some is in beside a e same fresh (LeastTwo (comes.found fresh) (is, waits) f end wake)
+      by (Some c) is = let held = ap is_some is in within a e same held (comes.begins held)
 
   derived_comes : (e : NumberedEdge) → IsDerived p e → Comes e
   derived_comes e (LeastBase b) = record { found = λ _. LeastBase b; begins = λ held. subst (IsFound p h) (first_is e (right.begun e b held)) (LeastBase b) }
@@ -190,11 +180,15 @@ module _ (p : ProgramRows) (h : Held) (right : AreRight p h) where
     found_listed e (LeastOne {a = a} f g) = closed e (FollowsOne a (found_listed a f) g)
     found_listed e (LeastTwo {a = a} {b = b} {k = k} {w = w} f waits g end wake) = closed e (FollowsTwo a b k w (found_listed a f) waits (found_listed b g) end wake)
 
+    -- of held contexts too the log has nothing else
+    pub derived_alone : (e : NumberedEdge) → Contains log e → IsDerived p e
+    derived_alone e m = found_derived e (only e m)
+
     pub fresh_listed : (e : NumberedEdge) → is_held h e.context ≡ false → Contains log e ↔ IsDerived p e
-    fresh_listed e fresh = (λ m. found_derived e (only e m), λ d. found_listed e ((derived_comes e d).found fresh))
+    fresh_listed e fresh = (derived_alone e, λ d. found_listed e ((derived_comes e d).found fresh))
 
     pub begun_listed : (k : NumberedContext) → Contains log (first_of k) ↔ IsDerived p (first_of k)
-    begun_listed k = (λ m. found_derived (first_of k) (only (first_of k) m), λ d. by (is_held h k) refl (derived_comes (first_of k) d))
+    begun_listed k = (derived_alone (first_of k), λ d. by (is_held h k) refl (derived_comes (first_of k) d))
       where
         by : (b : Bool) → is_held h k ≡ b → Comes (first_of k) → Contains log (first_of k)
         by true held comes = found_listed (first_of k) (comes.begins held)
@@ -202,7 +196,7 @@ module _ (p : ProgramRows) (h : Held) (right : AreRight p h) where
 
 -- where nothing is held, all is right
 pub none_right : (p : ProgramRows) → AreRight p []
-none_right p = record { contexts = λ k c is _. absurd (missing is); begun = λ e b held. absurd (true≢false (sym held)) }
+none_right p = record { contexts = λ k c is _. absurd (none-some c is); begun = λ e b held. absurd (true≢false (sym held)) }
 
 -- and a run finds just what is derived
 module _ (p : ProgramRows) (h : Held) (none : h ≡ []) (log : List NumberedEdge) (fresh : (e : NumberedEdge) → is_held h e.context ≡ false → Contains log e ↔ IsDerived p e) where

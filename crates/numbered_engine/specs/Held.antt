@@ -4,11 +4,10 @@ use Rattle.std.specs.List.{filter}
 use Rattle.std.specs.Map.{lookup}
 use Rattle.std.specs.Option.{option_map_or}
 use Rattle.least_set.specs.Logs.{IsExactly}
-use Rattle.least_set.specs.TwoPremises.{Least}
 use Rattle.numbered_engine.specs.Counted.{counted}
 use Rattle.numbered_engine.specs.Following.{first, led}
 use Rattle.numbered_engine.specs.Program.{call_at}
-use Rattle.numbered_engine.specs.Rules.{Begins, IsDerived, IsEndOf, IsWoken, LeadsTo}
+use Rattle.numbered_engine.specs.Rules.{Begins, IsDerived, IsEndOf, LeadsTo}
 use Rattle.numbered_engine.specs.Waiting.{on, waiting}
 use Rattle.numbered_engine.specs.Ways.Equality.{contexts_agree, edges_agree}
 use Rattle.numbered_engine.specs.declared.edges.NumberedContext.{NumberedContext}
@@ -65,9 +64,6 @@ GoesOn p h a e = Contains (led_on p h a) e
 -- nobody waits in a held context
 abbrev pub WaitsOn : ProgramRows → Held → NumberedEdge → NumberedContext → NumberedWaiter → Type 0
 WaitsOn p h a k w = (held_at h a.context ≡ None) × Contains (waiting p a) (on k w)
-
-abbrev pub IsFound : ProgramRows → Held → NumberedEdge → Type 0
-IsFound p h = Least (Begins p) (GoesOn p h) (WaitsOn p h) (IsEndOf p) (IsWoken p)
 
 -- steps count the edges of contexts that aren't held
 abbrev pub counted_on : Held → NumberedEdge → ℕ → ℕ

@@ -304,6 +304,7 @@ pub fn resume<L>(
     ensures same { engine.new.program.now ≡ engine.old.program.now }
     ensures fresh { IfOk result (λ log. AreRight engine.old.program.now held.entries → (e : Edge) → is_held held.entries e.context ≡ false → Contains log.keys e ↔ IsDerived engine.old.program.now e) }
     ensures begun { IfOk result (λ log. AreRight engine.old.program.now held.entries → (k : Context) → Contains log.keys (first_of k) ↔ IsDerived engine.old.program.now (first_of k)) }
+    ensures only { IfOk result (λ log. AreRight engine.old.program.now held.entries → (e : Edge) → Contains log.keys e → IsDerived engine.old.program.now e) }
     ensures once { IfOk result (λ log. IsOnce log.keys) }
     ensures steps { IfOk result (λ log. engine.new.steps.count ≡ min (engine.old.steps.count + length (fresh held.entries log.keys)) (2 ^ 64 - 1)) }
 {

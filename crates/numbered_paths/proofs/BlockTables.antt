@@ -1,9 +1,8 @@
--- The tables of an edge's block: what stands at its end, and where it leads.
+-- Where tables stand for a program: what stands at the end of an edge's block by them does so by the theory, and the other way round.
 use Rattle.std.proofs.Common.{◌≡◌, sym, subst, ℕ, Some, Contains}
 use Rattle.numbered_engine.specs.Program.{block_of, ends_in, function_at, is_own_frame}
 use Rattle.numbered_engine.specs.declared.edges.NumberedEdge.{NumberedEdge}
 use Rattle.numbered_engine.specs.declared.program.Block.{Block}
-use Rattle.numbered_engine.specs.declared.program.Ending.TheVariants as ending
 use Rattle.numbered_engine.specs.declared.program.FunctionRows.{FunctionRows}
 use Rattle.numbered_engine.specs.declared.program.ProgramRows.{ProgramRows}
 use Rattle.numbered_paths.specs.Tables.{AreTables, IsFunction, entry_of}

@@ -18,14 +18,14 @@ use Rattle.numbered_engine.specs.declared.program.Ending.{Ending}
 use Rattle.numbered_engine.specs.declared.program.Ending.TheVariants as ending
 use Rattle.numbered_engine.specs.declared.program.FunctionRows.{FunctionRows}
 use Rattle.numbered_engine.specs.declared.program.ProgramRows.{ProgramRows}
-use Rattle.numbered_engine.proofs.AtEnds.{call_there, of_led, of_waiting}
+use Rattle.numbered_engine.proofs.AtEnds.{call_there, exits, of_led, of_waiting}
 use Rattle.numbered_paths.proofs.BlockTables.{ends_so, stand_for, tables_of}
 use Rattle.numbered_paths.proofs.Lists.{of_condition, owned}
 use Rattle.numbered_paths.proofs.SameNumbers.{bare_fact, fact_with, has_object, restored_numbered}
 use Rattle.numbered_paths.specs.Calls.{IsCall}
 use Rattle.numbered_paths.specs.Tables.{AreTables, IsFunction, entry_of}
 use Rattle.numbered_paths.specs.Views.{AreNumbers, IsNumbered, Views, fact_at}
-use Rattle.path_theory.proofs.SmallFacts.{none_known, some_is, some_some, then_known}
+use Rattle.path_theory.proofs.SmallFacts.{some_some, then_known}
 use Rattle.path_theory.specs.Entries.{BaseRoot, EndsIn, Entry, Least, OfBase, OfStep, StepCall, StepNext, StepReturn, StepSaved, entry_at}
 use Rattle.path_theory.specs.Facts.{Fact, Objects}
 use Rattle.path_theory.specs.FlowGraphs.{FlowGraphs}
@@ -37,12 +37,6 @@ use Rattle.row_flows.specs.Numbers.{is_own}
 use Rattle.row_flows.specs.declared.behind.Firing.{Firing}
 use Rattle.row_flows.specs.declared.tuples.NumberedTuple.{NumberedTuple}
 use Rattle.row_flows.proofs.Lists.{of_map}
-
--- an edge is an end of its own context, at a block that ends the function
-exits : (b : NumberedEdge) (e : Ending) (k : NumberedContext) → ended_in b e ≡ Some k → (e ≡ ending.Exit) × (b.context ≡ k)
-exits b (ending.Next bs) k h = none_known k h
-exits b (ending.Calls c) k h = none_known k h
-exits b ending.Exit k h = (refl, some_is b.context k h)
 
 module _ (M : Model) (L : Origins M) (A : Objects M) (G : FlowGraphs M) (C : Kinds M G) (V : Views M G) (N : AreNumbers M A G V) (report : ℕ → ℕ → Firing → M.Report → Type 0) (p : ProgramRows)
     (T : AreTables M L A G C V report p) where

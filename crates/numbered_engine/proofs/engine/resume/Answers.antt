@@ -1,5 +1,5 @@
 use Rattle.std.proofs.Common.{◌≤◌, ◌-◌, ◌^◌, ◌∙◌, arith}
-use Rattle.numbered_engine.proofs.Resuming.{begun_listed, fresh_listed}
+use Rattle.numbered_engine.proofs.Resuming.{begun_listed, derived_alone, fresh_listed}
 use Rattle.numbered_engine.proofs.Steps.{counted_fresh}
 use Rattle.numbered_engine.proofs.engine.resume.Goals as goal
 
@@ -8,6 +8,9 @@ returns-clause-fresh g c = λ right. fresh_listed c.args.engine.now.program.now 
 
 pub returns-clause-begun : goal.returns-clause-begun
 returns-clause-begun g c = λ right. begun_listed c.args.engine.now.program.now c.args.held.entries right c.in_ok-log.log.keys c.in_ok-log.ensures.closed c.in_ok-log.ensures.only
+
+pub returns-clause-only : goal.returns-clause-only
+returns-clause-only g c = λ right. derived_alone c.args.engine.now.program.now c.args.held.entries right c.in_ok-log.log.keys c.in_ok-log.ensures.closed c.in_ok-log.ensures.only
 
 pub returns-clause-steps : goal.returns-clause-steps
 returns-clause-steps g c =
