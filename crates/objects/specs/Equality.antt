@@ -3,7 +3,7 @@ use Rattle.std.proofs.Common.{◌≡◌, ℕ, List, ◌++◌, Bool, true, false,
 use Rattle.std.specs.Prelude.{flat_map}
 use Rattle.std.specs.Cmp.{IsEquivalence}
 use Rattle.std.specs.Cmp.Lexicographic.{pointwise, lists_equiv}
-use Rattle.std.specs.Hash.{u8, u16, u32, u64, bool}
+use Rattle.std.specs.Hash.{u8, u32, u64}
 use Rattle.c_objects.proofs.Vars.{same_var-true, same_var-refl, same_selector-true, same_selector-refl}
 use Rattle.c_objects.specs.Objects.{Selector, Deref, Field, At, AtVar, Object, same_var, same_selector}
 use Rattle.type_rules.specs.Vars.{CVar, Extern, FileStatic, LocalStatic, Param, Local, Result, Called}
@@ -67,25 +67,25 @@ same_object-refl a =
 pub objects_equiv : IsEquivalence same_object
 objects_equiv = decided same_object same_object-true same_object-refl
 
--- ---- what a hasher is fed of: a number for the kind, and the numbers in it
+-- ---- what a hasher is fed of: of a variable one number, which few others have, since each number costs as much as all that is hashed beside it
 
 abbrev pub var_input : CVar → List (List ℕ)
-var_input (Extern n) = u8 0 ++ u32 n
-var_input (FileStatic f n) = u8 1 ++ (u16 f ++ u32 n)
-var_input (LocalStatic f t n) = u8 2 ++ (u16 f ++ (u32 t ++ u32 n))
-var_input (Param f t n) = u8 3 ++ (u16 f ++ (u32 t ++ u32 n))
-var_input (Local f t n) = u8 4 ++ (u16 f ++ (u32 t ++ u32 n))
-var_input Result = u8 5
-var_input (Called f t n) = u8 6 ++ (u16 f ++ (u32 t ++ u32 n))
+var_input (Extern n) = u32 n
+var_input (FileStatic f n) = u32 n
+var_input (LocalStatic f t n) = u32 t
+var_input (Param f t n) = u32 t
+var_input (Local f t n) = u32 t
+var_input Result = u32 0
+var_input (Called f t n) = u32 t
 
 abbrev pub selector_input : Selector → List (List ℕ)
 selector_input Deref = u8 0
-selector_input (Field n) = u8 1 ++ u32 n
-selector_input (At n) = u8 2 ++ u64 n
-selector_input (AtVar v) = u8 3 ++ var_input v
+selector_input (Field n) = u32 n
+selector_input (At n) = u64 n
+selector_input (AtVar v) = var_input v
 
 abbrev pub object_input : Object → List (List ℕ)
-object_input o = bool o.address ++ (var_input o.base ++ flat_map selector_input o.selectors)
+object_input o = var_input o.base ++ flat_map selector_input o.selectors
 
 -- what is found the same is fed the same
 pub selector-fed : (a b : code.Selector) → same_selector (selector_of a) (selector_of b) ≡ true → selector_input (selector_of a) ≡ selector_input (selector_of b)

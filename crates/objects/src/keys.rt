@@ -28,45 +28,18 @@ impl Eq for Selector {
     ghost laws = { on_equiv selector_of selectors_equiv };
 }
 
-// Feeds a number for the kind of a variable, and the numbers in it.
+// Feeds one number of a variable: that of its declarator's token, or else its name. Few variables have it in common.
 fn hash_var<H: Hasher>(v: Var, state: &mut H)
     ensures { state.new ≡ fold H.write state.old (var_input (cvar_of v)) }
 {
     match v {
-        Var::Extern { name } => {
-            state.write_u8(0);
-            state.write_u32(name);
-        }
-        Var::FileStatic { file, name } => {
-            state.write_u8(1);
-            state.write_u16(file);
-            state.write_u32(name);
-        }
-        Var::LocalStatic { file, token, name } => {
-            state.write_u8(2);
-            state.write_u16(file);
-            state.write_u32(token);
-            state.write_u32(name);
-        }
-        Var::Param { file, token, name } => {
-            state.write_u8(3);
-            state.write_u16(file);
-            state.write_u32(token);
-            state.write_u32(name);
-        }
-        Var::Local { file, token, name } => {
-            state.write_u8(4);
-            state.write_u16(file);
-            state.write_u32(token);
-            state.write_u32(name);
-        }
-        Var::Result => state.write_u8(5),
-        Var::Called { file, token, name } => {
-            state.write_u8(6);
-            state.write_u16(file);
-            state.write_u32(token);
-            state.write_u32(name);
-        }
+        Var::Extern { name } => state.write_u32(name),
+        Var::FileStatic { name, .. } => state.write_u32(name),
+        Var::LocalStatic { token, .. } => state.write_u32(token),
+        Var::Param { token, .. } => state.write_u32(token),
+        Var::Local { token, .. } => state.write_u32(token),
+        Var::Result => state.write_u32(0),
+        Var::Called { token, .. } => state.write_u32(token),
     }
 }
 
@@ -78,18 +51,9 @@ impl Hash for Selector {
     fn hash<H: Hasher>(&self, state: &mut H) {
         match *self {
             Selector::Deref => state.write_u8(0),
-            Selector::Field(name) => {
-                state.write_u8(1);
-                state.write_u32(name);
-            }
-            Selector::At(index) => {
-                state.write_u8(2);
-                state.write_u64(index);
-            }
-            Selector::AtVar(index) => {
-                state.write_u8(3);
-                hash_var(index, state);
-            }
+            Selector::Field(name) => state.write_u32(name),
+            Selector::At(index) => state.write_u64(index),
+            Selector::AtVar(index) => hash_var(index, state),
         }
     }
 }
@@ -118,7 +82,6 @@ impl Hash for Object {
 
     #[tactic(auto, using(crate::proofs::Lists::lists))]
     fn hash<H: Hasher>(&self, state: &mut H) {
-        self.address.hash(state);
         hash_var(self.base, state);
         Selector::hash_slice(self.selectors.as_slice(), state);
     }
