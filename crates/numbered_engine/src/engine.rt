@@ -1,6 +1,6 @@
 //! The engine: one edge after the other, each block entered through its summary.
 
-ghost use Rattle.std.specs.Prelude.{◌≡◌, ◌↔◌, ◌+◌, ◌-◌, ◌^◌, min, length, ℕ, List, Bool, false, IfOk, Contains, None, Some, []};
+ghost use Rattle.std.specs.Prelude.{◌≡◌, ◌↔◌, ◌+◌, ◌-◌, ◌^◌, min, length, ℕ, List, Bool, false, true, IfOk, Contains, None, Some, []};
 ghost use Rattle.block_summary.specs.Kept.{IsRight};
 ghost use Rattle.least_set.specs.Logs.{IsExactly, IsOnce};
 ghost use Rattle.numbered_engine.specs.Counted.{counted};
@@ -11,6 +11,7 @@ ghost use Rattle.numbered_engine.specs.Waiting.{ended, woken};
 ghost use Rattle.numbered_engine.specs.Tables.{own_in, rows_in};
 ghost use Rattle.numbered_engine.specs.declared.edges.NumberedContext.{NumberedContext as Context};
 ghost use Rattle.numbered_engine.specs.declared.edges.NumberedEdge.{NumberedEdge as Edge};
+ghost use Rattle.row_flows.specs.Concerns.{all_calm};
 ghost use Rattle.row_flows.specs.declared.rows.EventRow.{EventRow};
 
 use crate::edge_log::EdgeLog;
@@ -109,6 +110,24 @@ fn given_by(
     Ok(Given { next, waits, end })
 }
 
+// What an edge gives whose block leaves its object calm: its tuple stands at the end, and no other does.
+fn given_calmly(
+    alloc: Global,
+    program: &ProgramRows,
+    function: &FunctionRows,
+    block: &Block,
+    edge: &NumberedEdge,
+) -> Result<Given<NumberedEdge, NumberedContext, NumberedWaiter>, AllocError>
+    requires function { function_at program.now edge.now.context.function ≡ Some function.now }
+    requires block { block_of function.now edge.now.block ≡ Some block.now }
+    requires calm { all_calm edge.now.tuple.object block.now.rows.rows.items ≡ true }
+    ensures goes { IfOk result (λ v. IsExactly v.next.items (LeadsTo program.now edge.now)) }
+    ensures waits { IfOk result (λ v. IsExactly v.waits.items (λ w. WaitsAt program.now edge.now w.on w.waiter)) }
+    ensures ends { IfOk result (λ v. v.end ≡ ended program.now edge.now) }
+{
+    given_by(alloc, program, function, block, edge, &[edge.tuple])
+}
+
 // What an edge gives that is none of the program.
 fn nothing(alloc: Global) -> Given<NumberedEdge, NumberedContext, NumberedWaiter>
     ensures next { result.next.items ≡ [] }
@@ -145,6 +164,10 @@ fn given<L>(
         steps.tick();
         return Ok(nothing(alloc));
     };
+    if block.rows.leaves_calm(edge.tuple.object) {
+        steps.tick();
+        return given_calmly(alloc, program, function, block, edge);
+    }
     let tuples = tuples_in(summary, steps, alloc, program, function, block, edge)?;
     given_by(alloc, program, function, block, edge, tuples.as_slice())
 }

@@ -5,7 +5,7 @@ ghost use Rattle.numbered_engine.specs.Following.{at, first, led_from, passed};
 
 use crate::edges::{NumberedContext, NumberedEdge};
 use crate::program::{Call, Ending};
-use row_flows::{NumberedTuple, Touched, given};
+use row_flows::{NumberedTuple, Touched, add_given};
 use std::alloc::{AllocError, Global};
 
 // The tuple, if it has no object.
@@ -28,8 +28,7 @@ pub(crate) fn passed(
     ensures { IfOk result (λ list. list.items ≡ passed rows.now tuple) }
 {
     let mut list = if_bare(alloc, tuple)?;
-    let mut more = given(alloc, rows, tuple)?;
-    list.append(&mut more)?;
+    add_given(&mut list, tuple, rows)?;
     Ok(list)
 }
 

@@ -69,6 +69,9 @@ pub fn firings_at<L>(
     let Some(block) = block_of(function, edge.block) else {
         return Ok(Vec::new(alloc));
     };
+    if block.rows.leaves_calm(edge.tuple.object) {
+        return Ok(Vec::new(alloc));
+    }
     firings_in(
         &engine.summary,
         alloc,

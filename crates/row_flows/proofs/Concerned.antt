@@ -1,6 +1,6 @@
 -- Objects that no event concerns are left calm.
-use Rattle.std.proofs.Common.{◌≡◌, ◌∙◌, inl, inr, refl, sym, ap, ℕ, nat_eq, Bool, true, false, not, ◌&&◌, ◌||◌, List, [], ◌∷◌, Contains, true≢false}
-use Rattle.std.specs.Prelude.{flat_map, map}
+use Rattle.std.proofs.Common.{◌≡◌, ◌∙◌, ◌⊎◌, inl, inr, refl, sym, ap, ℕ, nat_eq, Bool, true, false, not, ◌&&◌, ◌||◌, List, [], ◌∷◌, Contains, true≢false}
+use Rattle.std.specs.Prelude.{cond, flat_map}
 use Rattle.std.specs.List.{list_all, list_any}
 use Rattle.std.proofs.lemmas.Bool.{eqb-true, eq-eqb}
 use Rattle.std.proofs.lemmas.List.Folds.{list_any-append}
@@ -10,7 +10,7 @@ use Rattle.least_set.proofs.Growing.{nothing}
 use Rattle.row_flows.proofs.Lists.{the_one}
 use Rattle.row_flows.specs.Calm.{begins_in_object, is_calm, leaves, spares}
 use Rattle.row_flows.specs.Choices.{leads_globally}
-use Rattle.row_flows.specs.Concerns.{all_calm, bound_number, concerned_by, moved_numbers, row_stirs, stirs}
+use Rattle.row_flows.specs.Concerns.{all_calm, bound_numbers, concerned_by, moved_numbers, row_stirs, stirs}
 use Rattle.row_flows.specs.declared.rows.Applied.{Applied}
 use Rattle.row_flows.specs.declared.rows.EventRow.{EventRow}
 use Rattle.row_flows.specs.declared.rows.Touched.{Touched}
@@ -41,15 +41,33 @@ spare n (x ∷ xs) h =
     (both_so (not (nat_eq x.object n)) (not (nat_eq x.source n)) (negated (nat_eq x.object n) (other_way n x.object a.0)) (negated (nat_eq x.source n) (other_way n x.source b.0)))
     (spare n xs b.1)
 
-leave : (n : ℕ) (is_exit : Bool) (xs : List Applied) → list_any (nat_eq n) (map bound_number xs) ≡ false → list_any (stirs is_exit) xs ≡ false → list_all (leaves n is_exit) xs ≡ true
+-- a followed object that an alternative hasn't bound, or none at all
+unbound : (n : ℕ) (x : Applied) → list_any (nat_eq n) (bound_numbers x) ≡ false → (nat_eq n 0 ≡ true) ⊎ (nat_eq x.object n ≡ false)
+unbound n x h = by (nat_eq x.object 0) refl
+  where
+    none_bound : nat_eq x.object 0 ≡ true → (b : Bool) → nat_eq n 0 ≡ b → (nat_eq n 0 ≡ true) ⊎ (nat_eq x.object n ≡ false)
+    none_bound e true k = inl k
+    none_bound e false k = inr (ap (λ o. nat_eq o n) (eqb-true x.object 0 e) ∙ other_way n 0 k)
+
+    by : (b : Bool) → nat_eq x.object 0 ≡ b → (nat_eq n 0 ≡ true) ⊎ (nat_eq x.object n ≡ false)
+    by true e = none_bound e (nat_eq n 0) refl
+    by false e =
+        let listed = ap (λ b. list_any (nat_eq n) (cond b [] (x.object ∷ []))) (sym e) ∙ h in
+        inr (other_way n x.object (neither (nat_eq n x.object) false listed).0)
+
+leave : (n : ℕ) (is_exit : Bool) (xs : List Applied) → list_any (nat_eq n) (flat_map bound_numbers xs) ≡ false → list_any (stirs is_exit) xs ≡ false → list_all (leaves n is_exit) xs ≡ true
 leave n is_exit [] h s = refl
 leave n is_exit (x ∷ xs) h s =
-    let a = neither (nat_eq n x.object) (list_any (nat_eq n) (map bound_number xs)) h in
+    let a = neither (list_any (nat_eq n) (bound_numbers x)) (list_any (nat_eq n) (flat_map bound_numbers xs)) (sym (list_any-append (nat_eq n) (bound_numbers x) (flat_map bound_numbers xs)) ∙ h) in
     let b = neither (stirs is_exit x) (list_any (stirs is_exit) xs) s in
     let c = neither (leads_globally x.target) (is_exit && begins_in_object x.source) b.0 in
-    let d = both_so (not (nat_eq x.object n)) (not (is_exit && begins_in_object x.source)) (negated (nat_eq x.object n) (other_way n x.object a.0)) (negated (is_exit && begins_in_object x.source) c.1) in
+    let alone : (nat_eq x.object n ≡ false) → not (nat_eq x.object n) && not (is_exit && begins_in_object x.source) ≡ true = λ e. both_so (not (nat_eq x.object n)) (not (is_exit && begins_in_object x.source)) (negated (nat_eq x.object n) e) (negated (is_exit && begins_in_object x.source) c.1) in
+    let left : nat_eq n 0 || (not (nat_eq x.object n) && not (is_exit && begins_in_object x.source)) ≡ true = elim (unbound n x a.0) [
+      | inl e ↦ ap (λ b. b || (not (nat_eq x.object n) && not (is_exit && begins_in_object x.source))) e
+      | inr e ↦ at_last (nat_eq n 0) _ (alone e)
+    ] in
     both_so (leaves n is_exit x) (list_all (leaves n is_exit) xs)
-    (both_so (not (leads_globally x.target)) (nat_eq n 0 || (not (nat_eq x.object n) && not (is_exit && begins_in_object x.source))) (negated (leads_globally x.target) c.0) (at_last (nat_eq n 0) _ d))
+    (both_so (not (leads_globally x.target)) (nat_eq n 0 || (not (nat_eq x.object n) && not (is_exit && begins_in_object x.source))) (negated (leads_globally x.target) c.0) left)
     (leave n is_exit xs a.1 b.1)
   where
     at_last : (b c : Bool) → c ≡ true → b || c ≡ true
@@ -58,8 +76,8 @@ leave n is_exit (x ∷ xs) h s =
 
 row_calm : (n : ℕ) (row : EventRow) → list_any (nat_eq n) (concerned_by row) ≡ false → row_stirs row ≡ false → is_calm row n ≡ true
 row_calm n row h s =
-    let a = neither (list_any (nat_eq n) (flat_map moved_numbers row.touched.items)) (list_any (nat_eq n) (map bound_number row.applied.items))
-    (sym (list_any-append (nat_eq n) (flat_map moved_numbers row.touched.items) (map bound_number row.applied.items)) ∙ h) in
+    let a = neither (list_any (nat_eq n) (flat_map moved_numbers row.touched.items)) (list_any (nat_eq n) (flat_map bound_numbers row.applied.items))
+    (sym (list_any-append (nat_eq n) (flat_map moved_numbers row.touched.items) (flat_map bound_numbers row.applied.items)) ∙ h) in
     both_so (list_all (spares n) row.touched.items) (list_all (leaves n row.is_exit) row.applied.items) (spare n row.touched.items a.0) (leave n row.is_exit row.applied.items a.1 s)
 
 unconcerned : (n : ℕ) (rows : List EventRow) → list_any (nat_eq n) (flat_map concerned_by rows) ≡ false → list_any row_stirs rows ≡ false → all_calm n rows ≡ true

@@ -1,9 +1,9 @@
 -- Lists that are made of what each value of one gives, and what there is only where something is present.
-use Rattle.std.proofs.Common.{◌≡◌, inl, inr, List, [], ◌∷◌, map, Option, None, Some, Contains, arith, refl, sym, subst}
+use Rattle.std.proofs.Common.{◌≡◌, ◌≤◌, inl, inr, zero, suc, List, [], ◌∷◌, map, length, Option, None, Some, Contains, arith, refl, sym, subst}
 use Rattle.std.specs.Prelude.{flat_map}
 use Rattle.std.specs.Option.{option_map_or}
 use Rattle.std.proofs.lemmas.List.Elements.{Contains-append_left, Contains-append_right, Contains-append_cases, Contains-push_cases}
-use Rattle.least_set.specs.Logs.{SomeGives}
+use Rattle.least_set.specs.Logs.{IsOnce, SomeGives}
 use Rattle.least_set.proofs.Growing.{nothing}
 
 -- a list of one has no other
@@ -52,3 +52,11 @@ module _ {A B : Type 0} (f : A → List B) where
 
   pub to_present : (o : Option A) (x : A) (y : B) → o ≡ Some x → Contains (f x) y → Contains (option_map_or f o []) y
   to_present o x y e h = subst (λ z. Contains (option_map_or f z []) y) (sym e) h
+
+-- no two places of a list of one at most have the same
+pub few_once : {A : Type 0} (xs : List A) → length xs ≤ 1 → IsOnce xs
+few_once [] few i j c h k = cc
+few_once (x ∷ []) few zero zero c h k = refl
+few_once (x ∷ []) few zero (suc j) c h k = cc
+few_once (x ∷ []) few (suc i) j c h k = cc
+few_once (x ∷ (y ∷ xs)) few i j c h k = absurd (omega (arith, few))

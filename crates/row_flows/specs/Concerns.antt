@@ -1,5 +1,5 @@
 -- WHICH OBJECTS THE EVENTS OF A BLOCK CONCERN: all others they leave calm, unless they stir.
-use Rattle.std.specs.Prelude.{ℕ, Bool, ◌&&◌, ◌||◌, List, [], ◌∷◌, ◌++◌, flat_map, map}
+use Rattle.std.specs.Prelude.{ℕ, nat_eq, Bool, ◌&&◌, ◌||◌, cond, List, [], ◌∷◌, ◌++◌, flat_map}
 use Rattle.std.specs.List.{list_all, list_any}
 use Rattle.row_flows.specs.Calm.{begins_in_object, is_calm}
 use Rattle.row_flows.specs.Choices.{leads_globally}
@@ -11,12 +11,13 @@ use Rattle.row_flows.specs.declared.rows.Touched.{Touched}
 abbrev pub moved_numbers : Touched → List ℕ
 moved_numbers x = x.object ∷ x.source ∷ []
 
-abbrev pub bound_number : Applied → ℕ
-bound_number a = a.object
+-- what an alternative has bound, if that is followed
+abbrev pub bound_numbers : Applied → List ℕ
+bound_numbers a = cond (nat_eq a.object 0) [] (a.object ∷ [])
 
 -- AN EVENT CONCERNS those that its move touches, those from which these have their states, and those that alternatives have bound
 abbrev pub concerned_by : EventRow → List ℕ
-concerned_by row = flat_map moved_numbers row.touched.items ++ map bound_number row.applied.items
+concerned_by row = flat_map moved_numbers row.touched.items ++ flat_map bound_numbers row.applied.items
 
 -- AN ALTERNATIVE STIRS where others than the object that it has bound may take it: the global state, and at the end of a function any object
 -- that is known

@@ -28,7 +28,7 @@ fn is_touched(touched: &[Touched], object: u32) -> bool
 }
 
 // Adds the tuple of a touched object, if it has its state from this tuple's object.
-fn add_given(
+fn add_one(
     list: &mut Vec<NumberedTuple>,
     tuple: NumberedTuple,
     touched: &Touched,
@@ -45,19 +45,18 @@ fn add_given(
     Ok(())
 }
 
-/// The tuples of touched objects that have their state from this tuple's object.
-pub fn given(
-    alloc: Global,
-    touched: &[Touched],
+/// Adds the tuples of touched objects that have their state from this tuple's object.
+pub fn add_given(
+    list: &mut Vec<NumberedTuple>,
     tuple: NumberedTuple,
-) -> Result<Vec<NumberedTuple>, AllocError>
-    ensures { IfOk result (λ list. list.items ≡ flat_map (given tuple) touched.now) }
+    touched: &[Touched],
+) -> Result<(), AllocError>
+    ensures { IfOk result (λ _. list.new.items ≡ list.old.items ++ flat_map (given tuple) touched.now) }
 {
-    let mut list = Vec::new(alloc);
     for one in touched {
-        add_given(&mut list, tuple, one)?;
+        add_one(list, tuple, one)?;
     }
-    Ok(list)
+    Ok(())
 }
 
 // The tuple itself, if its object isn't touched.
@@ -85,8 +84,7 @@ fn moved(
 {
     let is_touched = is_touched(row.touched.as_slice(), tuple.object);
     let mut list = if_kept(alloc, tuple, is_touched)?;
-    let mut more = given(alloc, row.touched.as_slice(), tuple)?;
-    list.append(&mut more)?;
+    add_given(&mut list, tuple, row.touched.as_slice())?;
     Ok(list)
 }
 

@@ -1,13 +1,14 @@
 //! The rows of the events of a block, and which objects they concern.
 
-ghost use Rattle.std.specs.Prelude.{◌≡◌, ◌++◌, ℕ, nat_eq, false, true, flat_map, Contains, IfOk, IsTrue};
+ghost use Rattle.std.specs.Prelude.{◌≡◌, ◌++◌, ℕ, nat_eq, false, true, flat_map, IfOk, IsTrue};
 ghost use Rattle.std.specs.List.{list_any};
-ghost use Rattle.row_flows.specs.Concerns.{all_calm, concerned_by, row_stirs, stirs};
+ghost use Rattle.row_flows.specs.Concerns.{all_calm, bound_numbers, concerned_by, row_stirs, stirs};
+ghost use Rattle.row_flows.specs.ConcernedObjects.{numbers_in};
 
 use crate::calm::begins_in_object;
 use crate::choices::leads_globally;
+use crate::concerned_objects::{ConcernedObjects, is_among, kept};
 use crate::rows::{Applied, EventRow, Touched};
-use indexmap::IndexSet;
 use std::alloc::{AllocError, Global};
 
 /// The rows of the events of a block. Which objects they concern is found once.
@@ -15,10 +16,10 @@ use std::alloc::{AllocError, Global};
 pub struct BlockRows {
     pub rows: Vec<EventRow>,
     // the numbers of those that a row concerns
-    concerned: IndexSet<u32>,
+    concerned: ConcernedObjects,
     // whether some alternative may be taken by others than the object that it has bound
     stirs: bool,
-    ghost calm: { (n : ℕ) → list_any (nat_eq n) concerned.keys ≡ false → stirs ≡ false → all_calm n rows.items ≡ true },
+    ghost calm: { (n : ℕ) → list_any (nat_eq n) (numbers_in concerned) ≡ false → stirs ≡ false → all_calm n rows.items ≡ true },
 }
 
 // Whether others than the object that an alternative has bound may take it.
@@ -44,6 +45,17 @@ fn some_stirs(rows: &[EventRow]) -> bool
     rows.iter().any(|row| row_stirs(row))
 }
 
+// Collects the number of the object that an alternative has bound, if it has bound one that is followed.
+fn add_bound(list: &mut Vec<u32>, applied: &Applied) -> Result<(), AllocError>
+    ensures { IfOk result (λ _. list.new.items ≡ list.old.items ++ bound_numbers applied.now) }
+{
+    if applied.object == 0 {
+        return Ok(());
+    }
+    list.push(applied.object)?;
+    Ok(())
+}
+
 // Collects the numbers of the objects that an event concerns.
 fn add_concerned(list: &mut Vec<u32>, row: &EventRow) -> Result<(), AllocError>
     ensures { IfOk result (λ _. list.new.items ≡ list.old.items ++ concerned_by row.now) }
@@ -53,7 +65,7 @@ fn add_concerned(list: &mut Vec<u32>, row: &EventRow) -> Result<(), AllocError>
         list.push(touched.source)?;
     }
     for applied in row.applied.as_slice() {
-        list.push(applied.object)?;
+        add_bound(list, applied)?;
     }
     Ok(())
 }
@@ -69,35 +81,13 @@ fn all_concerned(alloc: Global, rows: &[EventRow]) -> Result<Vec<u32>, AllocErro
     Ok(list)
 }
 
-// Each of these numbers once. Most blocks have a few, so there is room for no more than them.
-fn distinct(alloc: Global, numbers: &[u32]) -> Result<IndexSet<u32>, AllocError>
-    ensures { IfOk result (λ set. (n : ℕ) → Contains numbers.now n → Contains set.keys n) }
-{
-    let mut set = IndexSet::new(alloc);
-    for number in numbers {
-        set.insert(*number)?;
-    }
-    set.shrink_to_fit();
-    Ok(set)
-}
-
-// Whether a number is among these. Where there are few, as of most blocks, they are looked through.
-fn is_among(numbers: &IndexSet<u32>, number: u32) -> bool
-    ensures { result ≡ list_any (nat_eq number) numbers.now.keys }
-{
-    if numbers.len() <= 8 {
-        return numbers.as_slice().iter().any(|other| number == *other);
-    }
-    numbers.contains(&number)
-}
-
 impl BlockRows {
     /// A block with events of these rows.
     pub fn new(alloc: Global, rows: Vec<EventRow>) -> Result<BlockRows, AllocError>
         ensures { IfOk result (λ b. b.rows.items ≡ rows.items) }
     {
         let numbers = all_concerned(alloc, rows.as_slice())?;
-        let concerned = distinct(alloc, numbers.as_slice())?;
+        let concerned = kept(alloc, numbers)?;
         let stirs = some_stirs(rows.as_slice());
         Ok(BlockRows {
             rows,

@@ -1,6 +1,6 @@
 //! Over the events of a block.
 
-ghost use Rattle.std.specs.Prelude.{◌≡◌, ◌∷◌, [], ◌++◌, flat_map, IfOk, Contains};
+ghost use Rattle.std.specs.Prelude.{◌≡◌, ◌++◌, flat_map, IfOk, Contains};
 ghost use Rattle.least_set.specs.Logs.{Adds, IsExactly, IsOnce, SomeGives};
 ghost use Rattle.row_flows.specs.Behind.{behind, firings};
 ghost use Rattle.row_flows.specs.Calm.{are_calm};
@@ -41,13 +41,18 @@ fn items<T: Key>(set: &IndexSet<T>) -> &[T]
     set.as_slice()
 }
 
-// The tuple alone, before the first event.
-fn first(alloc: Global, tuple: NumberedTuple) -> Result<IndexSet<NumberedTuple>, AllocError>
-    ensures { IfOk result (λ set. set.keys ≡ tuple ∷ []) }
+// Each of these tuples once. Mostly there is one.
+fn distinct(alloc: Global, tuples: Vec<NumberedTuple>) -> Result<Vec<NumberedTuple>, AllocError>
+    ensures exactly { IfOk result (λ list. IsExactly list.items (Contains tuples.items)) }
+    ensures once { IfOk result (λ list. IsOnce list.items) }
 {
+    if tuples.len() <= 1 {
+        return Ok(tuples);
+    }
     let mut set = IndexSet::new(alloc);
-    set.insert(tuple)?;
-    Ok(set)
+    add_all(&mut set, tuples)?;
+    let list = items(&set).to_vec(alloc)?;
+    Ok(list)
 }
 
 // Whether an event leaves each of these tuples calm.
@@ -57,22 +62,38 @@ fn are_calm(row: &EventRow, tuples: &[NumberedTuple]) -> bool
     tuples.iter().all(|tuple| is_calm(row, tuple.object))
 }
 
-// The tuples behind an event, each once, of those that stand before it.
+// The tuples behind an event of those that stand before it.
+fn all_behind(
+    alloc: Global,
+    row: &EventRow,
+    is_root: bool,
+    own: &[bool],
+    tuples: &[NumberedTuple],
+) -> Result<Vec<NumberedTuple>, AllocError>
+    ensures { IfOk result (λ list. list.items ≡ flat_map (behind row.now is_root own.now) tuples.now) }
+{
+    let mut list = Vec::new(alloc);
+    for tuple in tuples {
+        let mut found = behind(alloc, row, is_root, own, *tuple)?;
+        list.append(&mut found)?;
+    }
+    Ok(list)
+}
+
+// The same, each once.
 fn next(
     alloc: Global,
     row: &EventRow,
     is_root: bool,
     own: &[bool],
     tuples: &[NumberedTuple],
-) -> Result<IndexSet<NumberedTuple>, AllocError>
-    ensures { IfOk result (λ set. IsExactly set.keys (SomeGives (λ t. Contains (behind row.now is_root own.now t)) tuples.now)) }
+) -> Result<Vec<NumberedTuple>, AllocError>
+    ensures exactly { IfOk result (λ list. IsExactly list.items (SomeGives (λ t. Contains (behind row.now is_root own.now t)) tuples.now)) }
+    ensures once { IfOk result (λ list. IsOnce list.items) }
 {
-    let mut set = IndexSet::new(alloc);
-    for tuple in tuples {
-        let found = behind(alloc, row, is_root, own, *tuple)?;
-        add_all(&mut set, found)?;
-    }
-    Ok(set)
+    let found = all_behind(alloc, row, is_root, own, tuples)?;
+    let list = distinct(alloc, found)?;
+    Ok(list)
 }
 
 // Notes the firings at the event with this number of the tuples that stand before it.
@@ -107,19 +128,18 @@ pub fn cross(
     ensures once { IfOk result (λ e. IsOnce e.tuples.items) }
     ensures firings { IfOk result (λ e. IsExactly e.firings.items (Contains (shown 0 rows.now is_root own.now tuple))) }
 {
-    let mut now = first(alloc, tuple)?;
+    let mut now = vec![in alloc; tuple]?;
     let mut found = Vec::new(alloc);
     for (event, row) in rows.iter().enumerate() {
-        if are_calm(row, items(&now)) {
+        if are_calm(row, now.as_slice()) {
             continue;
         }
-        note_firings(&mut found, alloc, event, row, is_root, own, items(&now))?;
-        let behind = next(alloc, row, is_root, own, items(&now))?;
+        note_firings(&mut found, alloc, event, row, is_root, own, now.as_slice())?;
+        let behind = next(alloc, row, is_root, own, now.as_slice())?;
         now = behind;
     }
-    let tuples = items(&now).to_vec(alloc)?;
     Ok(Crossed {
-        tuples,
+        tuples: now,
         firings: found,
     })
 }

@@ -13,11 +13,12 @@ mod choices;
 // events that leave a tuple alone
 mod blocks;
 mod calm;
+mod concerned_objects;
 
 // over the events of a block
 mod crossing;
 
-pub use behind::{Firing, given};
+pub use behind::{Firing, add_given};
 pub use blocks::BlockRows;
 pub use calm::is_calm;
 pub use choices::{bare, is_own};

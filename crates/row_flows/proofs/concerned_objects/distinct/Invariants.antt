@@ -1,5 +1,5 @@
 use Rattle.std.proofs.Common.{ℕ, take, Contains}
-use Rattle.row_flows.proofs.blocks.distinct.Given as goal
+use Rattle.row_flows.proofs.concerned_objects.distinct.Given as goal
 
 -- the numbers that were gone through are there
 abbrev pub invariant-loop-number : goal.invariant-loop-number

@@ -4,7 +4,7 @@ use Rattle.std.proofs.lemmas.List.{take_more}
 use Rattle.std.proofs.lemmas.List.Elements.{Contains-push_cases}
 use Rattle.least_set.specs.Logs.{Adds}
 use Rattle.least_set.proofs.Growing.{adds_one, all_of, kept}
-use Rattle.row_flows.proofs.blocks.distinct.Goals as goal
+use Rattle.row_flows.proofs.concerned_objects.distinct.Goals as goal
 
 pub loop-number-preserved : goal.loop-number-preserved
 loop-number-preserved c = λ n h.
@@ -20,5 +20,4 @@ loop-number-preserved c = λ n h.
 
 pub returns : goal.returns
 returns c =
-    let all = all_of (λ l. (n : ℕ) → Contains l n → Contains c.loop-number.set.keys n) c.args.numbers.now c.loop-number.number-index c.loop-number-test.false c.loop-number.auto.number-index-end c.loop-number.invariant in
-    subst (λ keys. (n : ℕ) → Contains c.args.numbers.now n → Contains keys n) (sym c.shrink_to_fit.ensures.keys) all
+    all_of (λ l. (n : ℕ) → Contains l n → Contains c.loop-number.set.keys n) c.args.numbers.now c.loop-number.number-index c.loop-number-test.false c.loop-number.auto.number-index-end c.loop-number.invariant
