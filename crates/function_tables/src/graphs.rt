@@ -17,7 +17,7 @@ pub fn build_graphs<'a>(
 ) -> Result<Vec<Graph<'a>>, AllocError>
     ensures { IfOk result (λ graphs. ∥ AreGraphs (texts_of program.now.units.items) (map (λ g. graph_in g) graphs.items) ∥₁) }
 {
-    let mut graphs = Vec::new(alloc);
+    let mut graphs = Vec::with_capacity(alloc, program.count() as usize)?;
     for number in 0..program.count() {
         let graph = build(alloc, program, FnId { number })?;
         graphs.push(graph)?;

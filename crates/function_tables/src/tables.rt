@@ -51,7 +51,7 @@ pub fn build_tables<'u, 'a>(
     ensures tables { IfOk result (λ tables. ∥ AreTables (machine_view machine.now) depth (texts_of program.now.units.items) tables.items ∥₁) }
     ensures graphs { IfOk result (λ tables. map (λ t. graph_in t.graph.now) tables.items ≡ map (λ g. graph_in g) graphs.now) }
 {
-    let mut tables = Vec::new(alloc);
+    let mut tables = Vec::with_capacity(alloc, program.count() as usize)?;
     for number in 0..program.count() {
         let graph = &graphs[number as usize];
         let table = function_table(alloc, program, graph, machine, depth, FnId { number })?;

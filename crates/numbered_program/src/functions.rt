@@ -44,7 +44,7 @@ fn is_own(object: &Object) -> bool
 fn own_flags(alloc: Global, objects: &[Object]) -> Result<Vec<bool>, AllocError>
     ensures { IfOk result (λ flags. flags.items ≡ own_of objects.now) }
 {
-    let mut flags = Vec::new(alloc);
+    let mut flags = Vec::with_capacity(alloc, objects.len())?;
     for object in objects {
         flags.push(is_own(object))?;
     }
@@ -132,7 +132,7 @@ pub(crate) fn all_functions<'t>(
 ) -> Result<Vec<FunctionRows>, AllocError>
     ensures { IfOk result (λ rows. (states : List State) → AreKnown tables.now → AreNumbered states (objects_in tables.now) numbers.now → AreRootsOf tables.now roots.now.keys → AreFunctionsOf tables.now states rows.items) }
 {
-    let mut functions = Vec::new(alloc);
+    let mut functions = Vec::with_capacity(alloc, tables.program.count() as usize)?;
     for function in 0..tables.program.count() {
         let rows = rows_at(alloc, tables, numbers, roots, function)?;
         functions.push(rows)?;

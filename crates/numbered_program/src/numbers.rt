@@ -55,7 +55,7 @@ pub(crate) fn all_numbers<'t>(
 ) -> Result<Vec<Numbers<'t>>, AllocError>
     ensures { IfOk result (λ list. AreNumbered states.now.states.keys (map (λ os. os.keys) objects.now) list.items) }
 {
-    let mut list = Vec::new(alloc);
+    let mut list = Vec::with_capacity(alloc, objects.len())?;
     for set in objects {
         let numbers = numbers_of(alloc, set, states)?;
         list.push(numbers)?;

@@ -1,5 +1,5 @@
 -- Lists that are made of numbered objects.
-use Rattle.std.proofs.Common.{◌≡◌, ◌∙◌, sym, ap, refl, suc, ℕ, ◌+◌, ◌-◌, ◌<◌, nat_eq, Bool, true, false, cond, List, [], ◌∷◌, ◌++◌, length, get_or, take, Contains, Option, None, Some, arith, slice_get, append-nil}
+use Rattle.std.proofs.Common.{◌≡◌, ◌∙◌, sym, ap, refl, suc, ℕ, ◌+◌, ◌-◌, ◌<◌, nat_eq, Bool, true, false, cond, List, [], ◌∷◌, ◌++◌, length, get_or, take, Contains, Option, None, Some, arith, slice_get, append-nil, true≢false}
 use Rattle.std.specs.List.{enumerate_from, filter_map, cons_option}
 use Rattle.std.proofs.lemmas.List.{take_more}
 use Rattle.std.proofs.lemmas.List.Elements.{filter_map-append}
@@ -11,7 +11,9 @@ use Rattle.block_flows.specs.TupleFlows.Moved.{AreObjects}
 use Rattle.c_objects.specs.Objects.{Object}
 use Rattle.numbered_program.proofs.EventTables.Untouched.{unmoved, untouched}
 use Rattle.numbered_program.proofs.EventTables.LeftSides.{nothing_moves, some_moves}
-use Rattle.numbered_program.specs.EventTables.ObjectIndex.{has_variable, numbers_from, numbers_with, one_if}
+use Rattle.numbered_program.specs.EventTables.ObjectIndex.{asked_for, has_variable, numbers_from, one_if}
+use Rattle.numbered_program.specs.declared.event_tables.object_index.ObjectIndex.{ObjectIndex}
+use Rattle.numbered_program.specs.declared.event_tables.object_index.ObjectIndex.TheVariants as kinds
 use Rattle.numbered_program.specs.EventTables.Touched.{touched_at, touched_rows, touched_with}
 use Rattle.numbered_program.specs.EventTables.Written.{written}
 use Rattle.least_set.proofs.Growing.{at_place}
@@ -74,12 +76,17 @@ numbered_in followed n o e = contains-in followed o (by (nat_eq n 0) e)
 
 -- ---- the rows of a move are those of the objects with the variable to which it writes
 
+-- an object for which an index has no number doesn't have the variable
+unasked : (index : ObjectIndex) (v : CVar) (o : Object) → asked_for index v o ≡ false → has_variable v o ≡ false
+unasked (kinds.All l) v o h = absurd (true≢false h)
+unasked (kinds.ByVariable m) v o h = h
+
 module _ (depth : ℕ) (followed : List Object) (are : AreObjects depth followed) where
-  pub rows_written : (m : Option Move) (v : CVar) → Some v ≡ written m → filter_map (touched_with depth m followed) (numbers_with v followed) ≡ touched_rows depth m followed
-  rows_written m v e =
+  pub rows_written : (m : Option Move) (v : CVar) (index : ObjectIndex) → Some v ≡ written m → filter_map (touched_with depth m followed) (numbers_from (asked_for index v) 1 followed) ≡ touched_rows depth m followed
+  rows_written m v index e =
       let s = some_moves m v e in
-      rows_among depth m followed (has_variable v)
-      (λ k o c t. ap (λ z. touched_at depth z followed (k, o)) s.1 ∙ untouched depth followed o (contains-in followed o c) (are o c) s.0 k (ap (λ w. has_variable w o) (sym s.2) ∙ t))
+      rows_among depth m followed (asked_for index v)
+      (λ k o c t. ap (λ z. touched_at depth z followed (k, o)) s.1 ∙ untouched depth followed o (contains-in followed o c) (are o c) s.0 k (ap (λ w. has_variable w o) (sym s.2) ∙ unasked index v o t))
 
   pub rows_unwritten : (m : Option Move) → None ≡ written m → touched_rows depth m followed ≡ []
   rows_unwritten m e = no_rows depth m followed (λ k o c. ap (λ z. touched_at depth z followed (k, o)) (nothing_moves m e) ∙ unmoved depth followed o (contains-in followed o c) (are o c) k)

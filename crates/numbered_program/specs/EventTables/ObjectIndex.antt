@@ -1,6 +1,7 @@
 -- WHICH OBJECTS HAVE A VARIABLE: as the base of their path, or as an index in it.
-use Rattle.std.specs.Prelude.{◌≡◌, ℕ, ◌+◌, List, [], ◌∷◌, ◌++◌, Bool, cond, ◌||◌, Vec}
+use Rattle.std.specs.Prelude.{◌≡◌, ℕ, ◌+◌, List, [], ◌∷◌, ◌++◌, Bool, true, cond, ◌||◌, Vec}
 use Rattle.numbered_program.specs.declared.event_tables.object_index.ObjectIndex.{ObjectIndex}
+use Rattle.numbered_program.specs.declared.event_tables.object_index.ObjectIndex.TheVariants as index
 use Rattle.c_objects.specs.Objects.{Selector, Object, is_indexed_by, path, same_var}
 use Rattle.indexmap.specs.IndexMap.{IndexMap}
 use Rattle.least_set.specs.Indexes.{at}
@@ -29,6 +30,20 @@ numbers_with v objects = numbers_from (has_variable v) 1 objects
 abbrev pub numbers_at : {A S : Type 0} → IndexMap Object (Vec ℕ A) S → CVar → List ℕ
 numbers_at numbers v = at same_object numbers (path v [])
 
--- THE INDEX of these objects: under each variable the numbers of those that have it
+-- each of them, where these are few
+abbrev pub any : Object → Bool
+any o = true
+
+-- what an index has for a variable
+abbrev pub numbers_for : ObjectIndex → CVar → List ℕ
+numbers_for (index.All l) v = l.items
+numbers_for (index.ByVariable m) v = numbers_at m v
+
+-- of which objects it has the numbers there
+abbrev pub asked_for : ObjectIndex → CVar → Object → Bool
+asked_for (index.All l) v = any
+asked_for (index.ByVariable m) v = has_variable v
+
+-- THE INDEX of these objects: for each variable the numbers of those that have it, and perhaps of all
 abbrev pub IsIndexOf : List Object → ObjectIndex → Type 0
-IsIndexOf objects index = (v : CVar) → numbers_at index.numbers v ≡ numbers_with v objects
+IsIndexOf objects i = (v : CVar) → numbers_for i v ≡ numbers_from (asked_for i v) 1 objects

@@ -2,7 +2,7 @@
 
 ghost use Rattle.std.specs.Prelude.{◌≡◌, ◌++◌, ◌≤◌, ◌&&◌, ◌||◌, [], ◌∷◌, not, length, take, IfOk};
 ghost use Rattle.c_objects.specs.Objects.{is_indexed_by, same_var};
-ghost use Rattle.numbered_program.specs.EventTables.ObjectIndex.{has_variable, numbers_at, one_if, stands_in, IsIndexOf};
+ghost use Rattle.numbered_program.specs.EventTables.ObjectIndex.{any, has_variable, numbers_at, numbers_for, numbers_from, numbers_with, one_if, stands_in, IsIndexOf};
 ghost use Rattle.objects.specs.Selectors.{selector_of, selectors_of};
 ghost use Rattle.type_rules.specs.Vars.{CVar};
 ghost use Rattle.type_values.specs.Vars.{cvar_of};
@@ -13,11 +13,14 @@ use objects::{Object, Selector, is_indexed_by, same_var, variable};
 use std::alloc::{AllocError, Global};
 use type_values::Var;
 
-/// The numbers of the objects that are followed in a function, by each variable that they have: as the base of their path, or as an index
-/// in it. A variable stands here as the path that it is by itself.
+/// The numbers of the objects that are followed in a function, as far as a move concerns them that writes to a variable.
 #[derive(Drop)]
-pub struct ObjectIndex {
-    pub numbers: IndexMap<Object, Vec<u32>>,
+pub enum ObjectIndex {
+    /// Of few objects those of all.
+    All(Vec<u32>),
+    /// By each variable that the objects have: as the base of their path, or as an index in it. A variable stands here as the path that it is
+    /// by itself.
+    ByVariable(IndexMap<Object, Vec<u32>>),
 }
 
 // Puts a number last under a variable.
@@ -120,27 +123,64 @@ fn add_object(
     add_steps(alloc, numbers, object.base(), object.selectors(), number)
 }
 
+// The numbers of all objects that have numbers.
+fn all_numbers(alloc: Global, numbering: &Numbering) -> Result<Vec<u32>, AllocError>
+    ensures { IfOk result (λ list. list.items ≡ numbers_from any 1 numbering.now.objects.now.keys) }
+{
+    let objects = numbering.objects.as_slice();
+    let mut list = Vec::with_capacity(alloc, objects.len())?;
+    for (place, _) in objects.iter().enumerate() {
+        list.push(place as u32 + 1)?;
+    }
+    Ok(list)
+}
+
+// Those of the objects by their variables.
+fn by_variable(
+    alloc: Global,
+    numbering: &Numbering,
+) -> Result<IndexMap<Object, Vec<u32>>, AllocError>
+    ensures { IfOk result (λ numbers. (v : CVar) → numbers_at numbers v ≡ numbers_with v numbering.now.objects.now.keys) }
+{
+    let mut numbers = IndexMap::new(alloc);
+    let objects = numbering.objects.as_slice();
+    for (place, object) in objects.iter().enumerate() {
+        add_object(alloc, &mut numbers, object, place as u32 + 1)?;
+    }
+    numbers.shrink_to_fit();
+    Ok(numbers)
+}
+
+// What a map has under a variable.
+fn under(numbers: &IndexMap<Object, Vec<u32>>, v: Var) -> &[u32]
+    ensures { result.now ≡ numbers_at numbers.now (cvar_of v) }
+{
+    match numbers.get(&variable(v)) {
+        Some(list) => list.as_slice(),
+        None => &[],
+    }
+}
+
 impl ObjectIndex {
     /// Those of the objects that have numbers.
     pub fn new(alloc: Global, numbering: &Numbering) -> Result<ObjectIndex, AllocError>
         ensures { IfOk result (IsIndexOf numbering.now.objects.now.keys) }
     {
-        let mut numbers = IndexMap::new(alloc);
-        let objects = numbering.objects.as_slice();
-        for (place, object) in objects.iter().enumerate() {
-            add_object(alloc, &mut numbers, object, place as u32 + 1)?;
+        if numbering.objects.len() <= 8 {
+            let all = all_numbers(alloc, numbering)?;
+            return Ok(ObjectIndex::All(all));
         }
-        numbers.shrink_to_fit();
-        Ok(ObjectIndex { numbers })
+        let numbers = by_variable(alloc, numbering)?;
+        Ok(ObjectIndex::ByVariable(numbers))
     }
 
-    /// The numbers of the objects that have a variable, in their order.
+    /// The numbers of all objects that have a variable, in their order. Of few objects there may be others among them.
     pub fn with(&self, v: Var) -> &[u32]
-        ensures { result.now ≡ numbers_at self.now.numbers (cvar_of v) }
+        ensures { result.now ≡ numbers_for self.now (cvar_of v) }
     {
-        match self.numbers.get(&variable(v)) {
-            Some(list) => list.as_slice(),
-            None => &[],
+        match self {
+            ObjectIndex::All(numbers) => numbers.as_slice(),
+            ObjectIndex::ByVariable(numbers) => under(numbers, v),
         }
     }
 }

@@ -107,8 +107,8 @@ fn touched_among(
     Ok(rows)
 }
 
-/// What an event's move does to the followed objects that it touches, in the order of their numbers. Those alone are asked that have the
-/// variable to which the event writes.
+/// What an event's move does to the followed objects that it touches, in the order of their numbers. Of many objects those alone are asked that
+/// have the variable to which the event writes.
 pub(crate) fn touched_rows(
     alloc: Global,
     numbering: &Numbering,

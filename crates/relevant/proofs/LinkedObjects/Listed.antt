@@ -1,10 +1,11 @@
--- Lists of linked objects: those of the one way, and the one of the other behind them.
-use Rattle.std.proofs.Common.{arith, ◌≡◌, ◌⊎◌, inl, inr, zero, suc, List, [], ◌∷◌, ◌++◌, Contains, Option, None, Some, ◌∙◌, sym, ap, subst, Result, Ok, Err, IfOk}
+-- Lists of linked objects: those of the one way, and the one of the other.
+use Rattle.std.proofs.Common.{arith, ◌≡◌, ◌⊎◌, inl, inr, zero, suc, List, [], ◌∷◌, ◌++◌, Contains, Option, Some, ◌∙◌, sym, ap, subst, Result, Ok, Err, IfOk}
 use Rattle.std.proofs.lemmas.List.{append-nil}
-use Rattle.std.proofs.lemmas.List.Elements.{Contains-append_left, Contains-push, Contains-push_cases}
-use Rattle.std.specs.Option.{option_to_list}
+use Rattle.std.proofs.lemmas.List.Elements.{Contains-push, Contains-push_cases}
+use Rattle.std.proofs.lemmas.Option.{same_Some}
 use Rattle.flow_graph.specs.CPaths.Membership.{Among}
-use Rattle.least_set.specs.Logs.{IsExactly}
+use Rattle.least_set.proofs.Growing.{nothing}
+use Rattle.least_set.specs.Logs.{Adds, IsExactly}
 
 -- ---- among a list, and at a position of it
 
@@ -22,21 +23,27 @@ contains-among (y ∷ xs) x (suc k, l, e) = inr (contains-among xs x (k, omega (
 pub among-exactly : {A : Type 0} (P : A → Type 0) (xs : List A) → ((x : A) → Among x xs → P x) → ((x : A) → P x → Among x xs) → IsExactly xs P
 among-exactly P xs real whole = (λ x h. real x (contains-among xs x h), λ x p. among-contains xs x (whole x p))
 
--- ---- one more behind them, if there is one
+-- ---- one more, if it isn't there
 
-module _ {A : Type 0} (P : A → Type 0) (xs : List A) where
-  one-more : (x : A) → IsExactly xs P → IsExactly (xs ++ (x ∷ [])) (λ y. P y ⊎ (Some x ≡ Some y))
-  one-more x e = (
-    λ y h. elim (Contains-push_cases xs x y h) [ inl k ↦ inl (e.0 y k) | inr k ↦ inr (ap Some k) ],
-    λ y h. elim h [ inl p ↦ Contains-append_left xs (x ∷ []) y (e.1 y p) | inr k ↦ let same : x ≡ y = cc in subst (Contains (xs ++ (x ∷ []))) same (Contains-push xs x) ],
-  )
+module _ {A : Type 0} (old : List A) (q : Option A) (x : A) (is : q ≡ Some x) where
+  this : (y : A) → q ≡ Some y → x ≡ y
+  this y e = same_Some x y (sym is ∙ e)
 
-  none-more : IsExactly xs P → IsExactly xs (λ y. P y ⊎ (None ≡ Some y))
-  none-more e = (λ y h. inl (e.0 y h), λ y h. elim h [ inl p ↦ e.1 y p | inr k ↦ cc ])
+  pub none-added : Contains old x → Adds (λ y. q ≡ Some y) old old
+  none-added there = record {
+    more = [];
+    whole = sym (append-nil old);
+    added = λ y e. subst (Contains old) (this y e) there;
+    only = λ y w. absurd (nothing y w);
+  }
 
-  pub and-more : (q : Option A) (ys : List A) → ys ≡ (xs ++ option_to_list q) → IsExactly xs P → IsExactly ys (λ y. P y ⊎ (q ≡ Some y))
-  and-more None ys e is = subst (λ l. IsExactly l (λ y. P y ⊎ (None ≡ Some y))) (sym (e ∙ append-nil xs)) (none-more is)
-  and-more (Some x) ys e is = subst (λ l. IsExactly l (λ y. P y ⊎ (Some x ≡ Some y))) (sym e) (one-more x is)
+  pub one-added : (new : List A) → new ≡ old ++ (x ∷ []) → Adds (λ y. q ≡ Some y) old new
+  one-added new e = record {
+    more = x ∷ [];
+    whole = e;
+    added = λ y k. subst (Contains new) (this y k) (subst (λ l. Contains l x) (sym e) (Contains-push old x));
+    only = λ y w. elim (Contains-push_cases [] x y w) [ inl o ↦ absurd (nothing y o) | inr d ↦ is ∙ ap Some d ];
+  }
 
 -- the two ways are the other way round
 pub turned : {A : Type 0} (P Q : A → Type 0) (xs : List A) → IsExactly xs (λ y. P y ⊎ Q y) → IsExactly xs (λ y. Q y ⊎ P y)

@@ -10,7 +10,7 @@ use objects::Object;
 use refine_restore::{Site, entered_by, handed_to, into_callee, out_of_callee};
 use std::alloc::{AllocError, Global};
 
-/// The callee's objects that begin with the state of an object of the caller, or that hand it theirs back. One may stand there twice.
+/// The callee's objects that begin with the state of an object of the caller, or that hand it theirs back.
 pub fn callee_objects(
     alloc: Global,
     site: &Site,
@@ -25,7 +25,7 @@ pub fn callee_objects(
     Ok(found)
 }
 
-/// The caller's objects with whose state an object of the callee begins, or to which it hands its own back. One may stand there twice.
+/// The caller's objects with whose state an object of the callee begins, or to which it hands its own back.
 pub fn caller_objects(
     alloc: Global,
     site: &Site,

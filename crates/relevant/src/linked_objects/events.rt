@@ -13,7 +13,7 @@ use std::alloc::{AllocError, Global};
 use synonyms_kills::{source_before, targets_after};
 use typed_unit::TypedUnit;
 
-/// The objects that take their state at an event from this one, or from which it takes its own. One may stand there twice.
+/// The objects that take their state at an event from this one, or from which it takes its own.
 pub fn linked_at(
     alloc: Global,
     event: &Event,

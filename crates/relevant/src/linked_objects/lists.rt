@@ -1,7 +1,7 @@
 //! One object more, where there is one.
 
-ghost use Rattle.std.specs.Prelude.{◌≡◌, ◌++◌, IfOk};
-ghost use Rattle.std.specs.Option.{option_to_list};
+ghost use Rattle.std.specs.Prelude.{◌≡◌, Some, IfOk};
+ghost use Rattle.least_set.specs.Logs.{Adds};
 ghost use Rattle.objects.specs.Origins.{origin_of};
 
 use objects::{Object, Origin, copy};
@@ -18,13 +18,16 @@ pub(crate) fn named(object: &Object, origin: Origin) -> Option<Object>
     }
 }
 
-/// Puts one last, if there is one.
+/// Puts one last, if there is one that isn't there yet.
 pub(crate) fn add(found: &mut Vec<Object>, more: Option<Object>) -> Result<(), AllocError>
-    ensures { IfOk result (λ _. found.new.items ≡ found.old.items ++ option_to_list more) }
+    ensures { IfOk result (λ _. Adds (λ o. more ≡ Some o) found.old.items found.new.items) }
 {
     let Some(object) = more else {
         return Ok(());
     };
+    if found.contains(&object) {
+        return Ok(());
+    }
     found.push(object)?;
     Ok(())
 }

@@ -12,8 +12,8 @@ none_yet r e = cc
 
 pub loop-function-init : goal.loop-function-init
 loop-function-init c = record {
-  made = λ states known are roots n r e. absurd (none_yet r (sym (ap (λ l. slice_get l n) c.new-functions.ensures.items) ∙ e));
-  count = ap length c.new-functions.ensures.items;
+  made = λ states known are roots n r e. absurd (none_yet r (sym (ap (λ l. slice_get l n) c.in_ok-functions.ensures.items) ∙ e));
+  count = ap length c.in_ok-functions.ensures.items;
   within = omega arith;
 }
 

@@ -5,7 +5,7 @@ use Rattle.numbered_program.specs.Numbered.{AreNumbersOf}
 use Rattle.numbered_program.proofs.numbers.all_numbers.Goals as goal
 
 pub loop-set-init : goal.loop-set-init
-loop-set-init c = subst (AllZip (AreNumbersOf c.args.states.now.states.keys) []) (sym c.new-list.ensures.items) tt
+loop-set-init c = subst (AllZip (AreNumbersOf c.args.states.now.states.keys) []) (sym c.in_ok-list.ensures.items) tt
 
 pub loop-set-preserved : goal.loop-set-preserved
 loop-set-preserved c =

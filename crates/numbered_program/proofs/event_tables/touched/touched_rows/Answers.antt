@@ -15,7 +15,7 @@ returns-in-Some c =
     let m = move_of (facts_in c.args.unit.now) c.args.depth (event_of c.args.event.now) in
     let v = cvar_of c.in-Some.v in
     if-ok _ _ c.touched_among.result
-    (λ rows made index are. made ∙ ap (filter_map (touched_with c.args.depth m followed)) (c.with.ensures ∙ index v) ∙ rows_written c.args.depth followed are m v c.in-Some.ensures)
+    (λ rows made index are. made ∙ ap (filter_map (touched_with c.args.depth m followed)) (c.with.ensures ∙ index v) ∙ rows_written c.args.depth followed are m v c.args.index.now c.in-Some.ensures)
     c.touched_among.ensures
 
 pub returns-in-None : goal.returns-in-None
