@@ -1,5 +1,5 @@
 -- The log of rows that stand for a program: what its edges show, and the global states that they meet.
-use Rattle.std.proofs.Common.{◌≡◌, ◌↔◌, ◌∙◌, ℕ, Bool, true, false, List, [], Contains, Option, None, Some, slice_get, refl, sym, ap, subst}
+use Rattle.std.proofs.Common.{◌≡◌, ◌↔◌, ◌∙◌, ℕ, Bool, false, List, [], Contains, Option, None, Some, slice_get, refl, ap}
 use Rattle.std.proofs.Math.Logic.{∥∥₁_map, ∥∥₁_elim}
 use Rattle.std.specs.Option.{option_map_or}
 use Rattle.block_flows.specs.FollowedLists.{is_followed, mask_in}
@@ -26,7 +26,7 @@ use Rattle.numbered_program.specs.Views.{SaysIn, views}
 use Rattle.block_flows.specs.Masks.{graphs_under, model_under, objects_under, origins_under}
 use Rattle.block_flows.specs.Masks.{AreEnough}
 use Rattle.path_model.proofs.CheckerGraphs.GraphTraces.{graphs_report}
-use Rattle.path_model.specs.CheckerGraphs.Graphs.{flow_graphs, function_at, number_of}
+use Rattle.path_model.specs.CheckerGraphs.Graphs.{flow_graphs, number_of}
 use Rattle.path_model.specs.CheckerModel.Checkers.{model, origins}
 use Rattle.path_model.specs.CheckerModel.Choices.{State}
 use Rattle.path_model.specs.CheckerModel.Happenings.{Function}
@@ -47,7 +47,7 @@ use Rattle.suffix_summary.proofs.LogsOfCheckers.{checker_log_reports}
 use Rattle.suffix_summary.proofs.MetStates.EmptyEdges.{Met, met}
 use Rattle.suffix_summary.specs.EdgeReports.Shown.{ShowsIn}
 use Rattle.known_objects.specs.FollowedSets.{HaveNone}
-use Rattle.suffix_summary.specs.MetStates.{StandsAt, is_own_in, stands_in}
+use Rattle.suffix_summary.specs.MetStates.{StandsAt, stands_in}
 use Rattle.suffix_summary.specs.StandingRows.{AreStanding}
 use Rattle.type_rules.specs.Options.{if_there, ◌>?◌}
 use Rattle.typed_unit.specs.Texts.{Text}

@@ -1,6 +1,6 @@
 -- What an analysis knows of its tables where they follow all relevant objects: they are known, and so are its reports and its log.
 use Rattle.std.proofs.Common.{◌≡◌, [], ◌∷◌, List, map, Result, Ok, Contains, refl, sym, ap, subst, ◌∙◌, ℕ}
-use Rattle.std.proofs.Math.Logic.{∥∥₁_elim, ∥∥₁_map, ∥∥₁_map₂}
+use Rattle.std.proofs.Math.Logic.{∥∥₁_elim, ∥∥₁_map₂}
 use Rattle.std.specs.Prelude.{AllPairs}
 use Rattle.std.specs.declared.cmp.Ordering.TheVariants.{Less}
 use Rattle.block_flows.specs.Masks.{AreEnough}
@@ -16,7 +16,6 @@ use Rattle.function_tables.specs.declared.table.FunctionTable.{FunctionTable}
 use Rattle.known_objects.proofs.RelevantSets.{relevant-enough}
 use Rattle.known_objects.specs.RelevantSets.{AreRelevant}
 use Rattle.least_set.specs.Logs.{IsExactly, IsOnce, SomeGives}
-use Rattle.metal_tree.specs.Whole.{machine_view}
 use Rattle.numbered_engine.specs.Rules.{FollowsFrom, IsDerived}
 use Rattle.numbered_engine.specs.declared.edges.NumberedEdge.{NumberedEdge}
 use Rattle.numbered_engine.specs.declared.program.ProgramRows.{ProgramRows}

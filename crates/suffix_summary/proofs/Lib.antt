@@ -12,6 +12,7 @@ pub mod LogsOfCheckers
 pub mod AllKnown
 pub mod KnownEdges
 pub mod KnownSets
+pub mod StartAlone
 pub mod StandingTables
 pub mod EdgeReports
 pub mod MetStates

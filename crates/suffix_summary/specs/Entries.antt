@@ -1,6 +1,5 @@
 -- THE ENTRIES OF A CHECKER over graphs of a program, and its log.
-use Rattle.std.specs.Prelude.{List, ℕ, Bool}
-use Rattle.c_objects.specs.Objects.{Object}
+use Rattle.std.specs.Prelude.{List, Bool}
 use Rattle.flow_graph.specs.CPaths.Building.{Graph}
 use Rattle.least_set.specs.Logs.{IsExactly, IsOnce}
 use Rattle.path_model.specs.CheckerGraphs.Graphs.{flow_graphs}

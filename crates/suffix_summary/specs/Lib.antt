@@ -1,5 +1,6 @@
 pub mod StandingRows
 pub mod EdgeReports
 pub mod MetStates
+pub mod InStart
 pub mod Entries
 pub mod Reading

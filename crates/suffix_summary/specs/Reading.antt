@@ -6,7 +6,6 @@ use Rattle.c_objects.specs.Objects.{Object}
 use Rattle.flow_graph.specs.CPaths.Building.{Graph}
 use Rattle.numbered_engine.specs.declared.edges.NumberedEdge.{NumberedEdge}
 use Rattle.numbered_paths.specs.Views.{fact_at}
-use Rattle.numbered_program.specs.Theorems.{AreStatesOf}
 use Rattle.numbered_program.specs.Views.{block_at, views}
 use Rattle.path_model.specs.CheckerGraphs.Graphs.{AreGraphs, function_at}
 use Rattle.path_model.specs.CheckerModel.Choices.{State}

@@ -1,7 +1,7 @@
 -- An engine that follows no object meets the global states of all paths: its log has an entry at the first place of each block to which a path
 -- comes, with the path's global state, and in the context of a root's own frame where the path is in one.
 -- Under a mask that follows nothing no call hands anything back, so the laws of exits hold whichever origins they are asked of.
-use Rattle.std.proofs.Common.{◌≡◌, ◌∙◌, Bool, true, false, cond, not, Option, None, Some, List, [], ◌∷◌, inl, inr, refl, sym, ap}
+use Rattle.std.proofs.Common.{◌≡◌, ◌∙◌, Bool, true, false, cond, Option, None, Some, List, [], ◌∷◌, inl, inr, refl, sym, ap}
 use Rattle.masked_paths.specs.Masked.{EventIn, Mask, SiteIn, alike, CallAt, CallIn, kept, masked, masked_events, masked_graphs, masked_origins, masked_supergraph, out_in, within}
 use Rattle.masked_paths.proofs.MaskedEnds.{masked_exits}
 use Rattle.masked_paths.proofs.MaskedGraphs.{graph_realised}
@@ -13,7 +13,7 @@ use Rattle.path_theory.proofs.Entries.{path_edge}
 use Rattle.path_theory.proofs.MergedComplete.{merged_least, of_kind}
 use Rattle.path_theory.proofs.Splitting.{split}
 use Rattle.path_theory.specs.Entries.{Entry, IsLeastLog, among}
-use Rattle.path_theory.specs.Facts.{Fact, NoObject}
+use Rattle.path_theory.specs.Facts.{NoObject}
 use Rattle.path_theory.specs.FlowGraphs.{FlowGraphs, Head, supergraph}
 use Rattle.path_theory.specs.FrameEnds.{EachStays, Exits, ExitsApart}
 use Rattle.path_theory.specs.Merged.{Kinds}

@@ -1,5 +1,5 @@
 -- What the events of a block give, from one object at one event up to all of them: each loop adds what it goes through.
-use Rattle.std.proofs.Common.{◌≡◌, ◌↔◌, inl, inr, ℕ, ◌+◌, ◌<◌, ◌≤◌, Bool, true, false, List, [], ◌∷◌, ◌++◌, Contains, length, take, get_or, slice_get, Option, None, Some, refl, sym, ap, subst, ◌∙◌}
+use Rattle.std.proofs.Common.{◌≡◌, ◌↔◌, inl, inr, ℕ, ◌+◌, ◌<◌, ◌≤◌, Bool, true, false, List, [], ◌∷◌, ◌++◌, Contains, length, take, get_or, Option, None, Some, refl, sym, ap, subst, ◌∙◌}
 use Rattle.std.specs.Option.{option_map}
 use Rattle.std.specs.Prelude.{is_some}
 use Rattle.std.proofs.lemmas.List.{take_all, take_more}
@@ -13,11 +13,11 @@ use Rattle.masked_paths.specs.Met.{global_behind}
 use Rattle.path_model.proofs.CheckerPrograms.Bound.{taken-gives}
 use Rattle.path_model.specs.CheckerGraphs.Members.{Member, member}
 use Rattle.path_model.specs.CheckerModel.Checkers.{model}
-use Rattle.path_model.specs.CheckerModel.Choices.{Gives, Taken, next_global, taken}
+use Rattle.path_model.specs.CheckerModel.Choices.{Gives, next_global, taken}
 use Rattle.path_model.specs.CheckerModel.Happenings.{Function, Happening}
 use Rattle.path_model.specs.CheckerModel.Reports.{Checker}
 use Rattle.suffix_summary.proofs.MetStates.AmongEvents.{behind-more, among-more, among-left, among-at, rules-at, as-many, none-among}
-use Rattle.suffix_summary.specs.MetStates.{TakesUnknown, TakesAmong, GivesOne, GivesAt, GivesAmong}
+use Rattle.suffix_summary.specs.MetStates.{TakesUnknown, GivesOne, GivesAt, GivesAmong}
 use Rattle.state_tuples.specs.AppliedRules.Events.{AreOfEvent}
 use Rattle.state_tuples.specs.declared.applied_rules.rules.EventRules.{EventRules}
 

@@ -43,7 +43,7 @@ fn said_in(
     said_by_all(alloc, &checker, unit, frame.objects, rules, firings)
 }
 
-// What firings say at the block of an edge. In a function that isn't there they say nothing.
+// What firings say at the block of an edge. In a function that isn't there they say nothing, and at most edges there are none.
 fn said_at_edge(
     alloc: Global,
     tables: &Tables,
@@ -52,6 +52,9 @@ fn said_at_edge(
 ) -> Result<Vec<Report>, AllocError>
     ensures { IfOk result (λ list. (states : List State) → AreKnown tables.now → IsExactly list.items (SomeGives (SaysAtEdge tables.now states edge.now) firings.now)) }
 {
+    if firings.is_empty() {
+        return Ok(Vec::new(alloc));
+    }
     match tables.frame(edge.context.function) {
         Some(frame) => said_in(alloc, tables, &frame, edge, firings),
         None => Ok(Vec::new(alloc)),

@@ -7,7 +7,6 @@ use Rattle.flow_graph.specs.Seen.{graph_in}
 use Rattle.function_tables.specs.declared.table.FunctionTable.{FunctionTable}
 use Rattle.block_flows.specs.Masks.{AreEnough}
 use Rattle.path_model.proofs.CheckerGraphs.Units.{functions-are}
-use Rattle.path_model.specs.CheckerPrograms.Texts.{functions_in}
 use Rattle.typed_unit.specs.Texts.{texts_of}
 use Rattle.suffix_summary.proofs.AllKnown.{all-known}
 use Rattle.known_objects.proofs.EmptySets.{count-none, have-none, plain-none}

@@ -1,4 +1,4 @@
-use Rattle.std.proofs.Common.{◌∙◌, sym, subst}
+use Rattle.std.proofs.Common.{sym, subst}
 use Rattle.block_flows.proofs.TupleFlows.Lists.{if-ok}
 use Rattle.function_tables.specs.EngineTables.Known.{AreKnown}
 use Rattle.least_set.specs.Logs.{IsExactly, SomeGives}

@@ -1,4 +1,4 @@
-use Rattle.std.proofs.Common.{◌∙◌, List, map, slice_get, sym, ap, subst}
+use Rattle.std.proofs.Common.{◌∙◌, List, slice_get, sym, ap, subst}
 use Rattle.std.specs.Option.{option_copied}
 use Rattle.std.proofs.lemmas.Option.{none-some}
 use Rattle.block_flows.specs.Events.{AreOfEvents}
